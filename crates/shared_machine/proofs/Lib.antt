@@ -1,0 +1,4 @@
+pub mod Histories
+pub mod RuleSteps
+pub mod CallLaws
+pub mod Sent
