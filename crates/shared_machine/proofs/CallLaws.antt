@@ -1,4 +1,4 @@
--- What two seats know that meet: a is received of what b has seen, and learns_history up; b is received of that, and adopts_history it.
+-- From what the steps tell to what the public calls promise.
 use Rattle.std.proofs.Common.{◌≡◌, ℕ, ◌≤◌, List, length, refl, sym, ap, ◌∙◌, subst}
 use Rattle.atomic_table.specs.Table.{Me}
 use Rattle.shared_machine.specs.declared.entry.Entry.{Entry}
@@ -15,6 +15,7 @@ use Rattle.shared_machine.specs.History.{Reaches}
 use Rattle.shared_machine.proofs.Histories.{starts_length, reaches_first}
 
 module _ {M E A : Type 0} where
+  -- a received what b has seen, and learned the history so far; b received that, so it is no shorter than what b had seen
   pub received_longer : (a0 b0 a1 b1 a2 b3 : Me (SlotValue M E A) (SeatView M E A)) (x : List (Entry E A)) → b1 ≡ b0 → a1 ≡ (with_received a0.0 b0.0, a0.1) → a2.0 ≡ with_seen a1.0 x → StartsWith x a1.0.received
       → b3 ≡ (with_received b1.0 a2.0, b1.1) → length b3.0.seen ≤ length b3.0.received
   received_longer a0 b0 a1 b1 a2 b3 x b1_is a1_is a2_is begins b3_is =
@@ -25,10 +26,12 @@ module _ {M E A : Type 0} where
       subst (λ (z : List (Entry E A) × List (Entry E A)). length z.0 ≤ length z.1) (λ i. ((front ∙ sym seen) i, sym received i)) long
 
 module _ {M E A : Type 0} (steps : M → E → A → M → Type 0) (refusal : M → M → Type 0) (decks_left : M → ℕ) where
+  -- where a history that was told of is the one that is seen
   pub legal_as : (o : Option M) (start : M) (seen later : List (Entry E A)) → o ≡ Some start → seen ≡ later → IsLegal steps refusal decks_left o later → IsLegalFrom steps refusal decks_left start seen
   legal_as o start seen later is same h =
       subst (λ (l : List (Entry E A)). IsLegalFrom steps refusal decks_left start l) (sym same) (subst (λ (z : Option M). IsLegal steps refusal decks_left z later) is h)
 
+  -- what the raised count tells, once the turn is passed on
   pub call_added : (old m f : SeatView M E A) (st st' : TurnState M) (later : List (Entry E A)) (p : E × A) (event : E) (answer : A) (n : ℕ) → m ≡ with_turn old st
       → f ≡ record { caller = m.caller; start = m.start; seen = later; received = m.received; turn = st' } → p ≡ (event, answer) → AddsCall steps refusal decks_left m.start m.caller m.seen p.0 p.1 n later
       → (with_turn f Idle ≡ idle_with_seen old later) × AddsCall steps refusal decks_left old.start old.caller old.seen event answer n later
@@ -37,6 +40,7 @@ module _ {M E A : Type 0} (steps : M → E → A → M → Type 0) (refusal : M 
     subst (λ (z : SeatView M E A × (E × A)). AddsCall steps refusal decks_left z.0.start z.0.caller z.0.seen z.1.0 z.1.1 n later) (λ i. (m_is i, p_is i)) h,
   )
 
+  -- what a turn tells, as the public call says it
   pub call_follows : (v x y : SeatView M E A) (st : TurnState M) (start : M) (later : List (Entry E A)) (event : E) (answer : A) (n : ℕ) → x ≡ with_turn v st → y ≡ idle_with_seen x later → v.start ≡ Some start
       → AddsCall steps refusal decks_left x.start x.caller x.seen event answer n later → Follows steps refusal decks_left start v.caller v.seen event answer y.seen
   call_follows v x y st start later event answer n x_is y_is start_is h =
@@ -44,6 +48,7 @@ module _ {M E A : Type 0} (steps : M → E → A → M → Type 0) (refusal : M 
       subst (λ (l : List (Entry E A)). Follows steps refusal decks_left start v.caller v.seen event answer l) (sym (ap (λ (z : SeatView M E A). z.seen) y_is))
       (g.0.0, n, g.0.1, subst (λ (z : Option M). IsLegal steps refusal decks_left z later) start_is g.1, g.2)
 
+  -- one hub was made with one machine
   pub reaches_same : (o : Option M) (start was : M) (history seen : List (Entry E A)) (end : M) → o ≡ Some start → o ≡ Some was → Reaches steps refusal decks_left was history end → Reaches steps refusal decks_left start history end
   reaches_same o start was history seen end is same h = subst (λ (z : M). Reaches steps refusal decks_left z history end) (ap (some_or start) (sym same ∙ is)) h
     where

@@ -2,3 +2,4 @@ pub mod Histories
 pub mod RuleSteps
 pub mod CallLaws
 pub mod Sent
+pub mod HistoryExamples

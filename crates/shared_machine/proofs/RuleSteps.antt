@@ -25,7 +25,7 @@ module _ {M E A : Type 0} where
   pub numbered_at : (start : M) (history : List (Entry E A)) (seat : ℕ) (v : SeatView M E A) (st : TurnState M) → IsNumbered start history seat v → IsNumbered start history seat (with_turn v st)
   numbered_at start history seat v st s = record { begins = s.begins; number = s.number; seen = s.seen; received = s.received; own = s.own }
 
-  -- a seat without the turn fits on, where the history goes on with calls of others
+  -- a seat without the turn fits still, where the history goes on with calls of others
   numbered_on : (start : M) (history history' : List (Entry E A)) (seat : ℕ) (v : SeatView M E A) → StartsWith history' history → calls_by seat history' ≡ calls_by seat history → IsNumbered start history seat v → IsNumbered start history' seat v
   numbered_on start history history' seat v more same s = record { begins = s.begins; number = s.number; seen = starts_trans history' history v.seen more s.seen; received = starts_trans history' history v.received more s.received; own = same ∙ s.own }
 
@@ -129,13 +129,13 @@ module _ {M E A : Type 0} (steps : M → E → A → M → Type 0) (refusal : M 
       here_now : (t : ℕ) → HasTicket w.turn t → (j : ℕ) × (u : V) × (get_elem? (set s.views id w) j ≡ some u) × HasTicket u.turn t
       here_now t h = (id, w, set_here s.views id w (inside s.views id v at), h)
 
-  -- where the slot is out with a seat that is not this one, it refusal_reflexive so
+  -- where the slot is out with a seat that is not this one, it stays with that
   still_away : (s : St) (k : K s) (id : ℕ) (v : V) → get_elem? s.views id ≡ some v → (IsHoldingMachine v.turn → ⊥) → k.home ≡ none
       → (j : ℕ) × (u : V) × (j ≢ id) × (get_elem? s.views j ≡ some u) × HasTicket u.turn k.serving × IsHoldingMachine u.turn
   still_away s k id v at not e = let h = k.away e in
       (h.0, h.1, (λ same. not (subst (λ (z : V). IsHoldingMachine z.turn) (some-injective h.1 v (sym h.2 ∙ (ap (get_elem? s.views) same ∙ at))) h.4)), h.2, h.3, h.4)
 
-  -- split_seat_off seat has split_seat_off ticket
+  -- another seat has another ticket
   apart_from : (s : St) (k : K s) (id : ℕ) (v : V) → get_elem? s.views id ≡ some v → (t j : ℕ) (u : V) → j ≢ id → get_elem? s.views j ≡ some u → HasTicket v.turn t → HasTicket u.turn t → ⊥
   apart_from s k id v at t j u other there mine theirs = other (sym (k.alone id j v u t at there mine theirs))
 

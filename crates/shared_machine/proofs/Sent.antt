@@ -1,4 +1,4 @@
--- A hub may be shared, and a pass may go to split_seat_off thread, where the machine and its rest may.
+-- A hub may be shared, and a pass may go to another thread, where the machine and its rest may.
 use denote.RattleType.{RattleType}
 use denote.Param.Send.{IsSend, IsSync, sendable}
 use Rattle.std.proofs.Crossing.{crosses}

@@ -1,4 +1,5 @@
--- The rule of the table, and what each step tells. Words: the count, the next ticket, and the ticket that is served.
+-- The rule of the hub's table, and what each kind of atomic step tells. The table has three words, which are the count of entries, the next ticket and
+-- the ticket that is served, and one slot, for the machine. A view is what the holder of a seat knows.
 use Rattle.std.specs.Prelude.{◌≡◌, ◌≢◌, ℕ, ◌+◌, ◌<◌, ◌≤◌, ◌^◌, List, [], ◌∷◌, ◌++◌, length, Bool, true, false, Option, Some, None}
 use mathlib.Core.Option.{some, none}
 use mathlib.Core.Option as maybe
@@ -12,6 +13,7 @@ use Rattle.shared_machine.specs.declared.seat_view.SeatView.{SeatView}
 use Rattle.shared_machine.specs.declared.slot_value.SlotValue.{SlotValue}
 use Rattle.shared_machine.specs.History.{StartsWith, entry, calls_by, Reaches, IsLegal}
 
+-- the ticket t is out with this seat
 abbrev pub HasTicket : {M : Type 0} → TurnState M → ℕ → Type 0
 HasTicket Idle t = ⊥
 HasTicket Unnumbered t = ⊥
@@ -20,6 +22,7 @@ HasTicket (HasTurn u) t = u ≡ t
 HasTicket (HoldsMachine u m r) t = u ≡ t
 HasTicket Spent t = ⊥
 
+-- the seat has the slot in hand
 abbrev pub IsHoldingMachine : {M : Type 0} → TurnState M → Type 0
 IsHoldingMachine Idle = ⊥
 IsHoldingMachine Unnumbered = ⊥
@@ -29,7 +32,7 @@ IsHoldingMachine (HoldsMachine u m r) = Unit {0}
 IsHoldingMachine Spent = ⊥
 
 module _ {M E A : Type 0} where
-  -- what a seat has seen is a beginning of the history, in which its calls are those that it made
+  -- What the seat has seen, and what it received, are prefixes of the history. The calls of its number in the whole history are those that it has seen.
   pub record IsNumbered (start : M) (history : List (Entry E A)) (seat : ℕ) (v : SeatView M E A) : Type 0 where
     pub begins : v.start ≡ Some start
     pub number : v.caller ≡ seat
@@ -37,7 +40,7 @@ module _ {M E A : Type 0} where
     pub received : StartsWith history v.received
     pub own : calls_by seat history ≡ calls_by seat v.seen
 
-  -- a seat that was split off has no calls yet
+  -- A seat that was split off still has its parent's number, and there is no call under its own.
   pub record IsUnnumbered (start : M) (history : List (Entry E A)) (seat : ℕ) (v : SeatView M E A) : Type 0 where
     pub begins : v.start ≡ Some start
     pub other : v.caller ≢ seat
@@ -46,40 +49,56 @@ module _ {M E A : Type 0} where
     pub none_own : calls_by seat history ≡ []
 
   module _ (start : M) (history : List (Entry E A)) (machine : M) (ticket serving : ℕ) (home : maybe.Option (SlotValue M E A)) (seat : ℕ) (v : SeatView M E A) where
+    -- The view fits the table. A ticket that waits isn't served yet or is just served; the holder of the turn finds the slot at home, until it takes it.
+    -- While it holds the slot, the machine of the history is the one that it took, and the count is at most serving before it is raised.
     abbrev pub FitsTurn : TurnState M → Type 0
     FitsTurn Idle = IsNumbered start history seat v
     FitsTurn Unnumbered = IsUnnumbered start history seat v
     FitsTurn (Waiting t) = IsNumbered start history seat v × (serving ≤ t) × (t < ticket)
     FitsTurn (HasTurn t) = IsNumbered start history seat v × (t ≡ serving) × (t < ticket) × ((b : SlotValue M E A) × (home ≡ some b))
-    FitsTurn (HoldsMachine t m count_raised) = IsNumbered start history seat v × (t ≡ serving) × (t < ticket) × (m ≡ machine) × (home ≡ none) × (count_raised ≡ false → length history ≤ serving)
+    FitsTurn (HoldsMachine t m is_raised) = IsNumbered start history seat v × (t ≡ serving) × (t < ticket) × (m ≡ machine) × (home ≡ none) × (is_raised ≡ false → length history ≤ serving)
     FitsTurn Spent = Unit {0}
 
 module _ {M E A : Type 0} (steps : M → E → A → M → Type 0) (refusal : M → M → Type 0) (decks_left : M → ℕ) where
+  -- What holds between any two steps, for some history, machine, ticket, serving and slot.
   pub record RuleHolds (start : M) (s : State (SlotValue M E A) (SeatView M E A)) : Type 0 where
     pub history : List (Entry E A)
     pub machine : M
     pub ticket : ℕ
     pub serving : ℕ
     pub home : maybe.Option (SlotValue M E A)
+    -- the count is the length of the one history
     pub words : s.words ≡ length history ∷ ticket ∷ serving ∷ []
     pub slot : s.homes ≡ home ∷ []
+    -- serving is at most ticket, and no word wraps
     pub order : serving ≤ ticket
     pub small : ticket < 2 ^ 64
+    -- the count is at most serving, or one more while the holder of the turn has raised it in this turn
     pub counted : length history ≤ serving + 1
+    -- the history is legal and leads to the machine
     pub reached : Reaches steps refusal decks_left start history machine
+    -- a slot at home holds the machine after the history
     pub at_home : (b : SlotValue M E A) → home ≡ some b → (b.machine ≡ machine) × (length history ≤ serving)
+    -- a slot that is out is with the holder of the turn
     pub away : home ≡ none → (j : ℕ) × (v : SeatView M E A) × (get_elem? s.views j ≡ some v) × HasTicket v.turn serving × IsHoldingMachine v.turn
+    -- each view fits: what it has seen is a prefix of the history, and its ticket, if it has one, is from serving up to ticket
     pub each_seat : (j : ℕ) (v : SeatView M E A) → get_elem? s.views j ≡ some v → FitsTurn start history machine ticket serving home j v v.turn
+    -- no ticket is in two views
     pub alone : (i j : ℕ) (u v : SeatView M E A) (t : ℕ) → get_elem? s.views i ≡ some u → get_elem? s.views j ≡ some v → HasTicket u.turn t → HasTicket v.turn t → i ≡ j
+    -- each number from serving up to ticket is in a view
     pub each_ticket : (t : ℕ) → serving ≤ t → t < ticket → (j : ℕ) × (v : SeatView M E A) × (get_elem? s.views j ≡ some v) × HasTicket v.turn t
+    -- no entry has a caller's number that wasn't given
     pub given : (by : ℕ) → length s.views ≤ by → calls_by by history ≡ []
 
+-- a seat's view, and the slots that it has in hand
 abbrev Mine : Type 0 → Type 0 → Type 0 → Type 0
 Mine M E A = Me (SlotValue M E A) (SeatView M E A)
 
+-- a step on a word
 abbrev At : Type 0 → Type 0 → Type 0 → Type 0
 At M E A = Step (SlotValue M E A)
 
+-- the ticket that the seat has, if it has one
 abbrev pub ticket_of : {M : Type 0} → TurnState M → ℕ
 ticket_of Idle = 0
 ticket_of Unnumbered = 0
@@ -89,25 +108,31 @@ ticket_of (HoldsMachine t m r) = t
 ticket_of Spent = 0
 
 module _ {M E A : Type 0} where
+  -- the first seat, of caller 0
   abbrev pub opening_view : M → SeatView M E A
   opening_view start = record { caller = 0; start = Some start; seen = []; received = []; turn = Idle }
 
+  -- a seat that was joined into another
   abbrev pub spent_view : SeatView M E A
   spent_view = record { caller = 0; start = None; seen = []; received = []; turn = Spent }
 
+  -- the same knowledge, elsewhere in a turn
   abbrev pub with_turn : SeatView M E A → TurnState M → SeatView M E A
   with_turn v turn = record { caller = v.caller; start = v.start; seen = v.seen; received = v.received; turn = turn }
 
+  -- a seat split off this one
   abbrev pub unnumbered_view : SeatView M E A → SeatView M E A
   unnumbered_view v = record { caller = v.caller; start = v.start; seen = v.seen; received = []; turn = Unnumbered }
 
-  -- a seat that was split off, with the number c
+  -- a seat that was split off, once it has the number c
   abbrev pub numbered_view : SeatView M E A → ℕ → SeatView M E A
   numbered_view v c = record { caller = c; start = v.start; seen = v.seen; received = []; turn = Idle }
 
+  -- the first seat, once the second was joined into it
   abbrev pub with_received : SeatView M E A → SeatView M E A → SeatView M E A
   with_received v w = record { caller = v.caller; start = v.start; seen = v.seen; received = w.seen; turn = v.turn }
 
+  -- the seat, once it has seen the later history; what it received is in there
   abbrev pub with_seen : SeatView M E A → List (Entry E A) → SeatView M E A
   with_seen v later = record { caller = v.caller; start = v.start; seen = later; received = []; turn = v.turn }
 
@@ -115,54 +140,53 @@ module _ {M E A : Type 0} where
   abbrev pub idle_with_seen : SeatView M E A → List (Entry E A) → SeatView M E A
   idle_with_seen v later = record { caller = v.caller; start = v.start; seen = later; received = v.received; turn = Idle }
 
+  -- the compare-exchange on the next ticket: where it found what it expected, the caller has that ticket and waits
   abbrev pub ticket_taken : At M E A → Mine M E A → ℕ → Mine M E A → Type 0
   ticket_taken st m n m' = (m'.1 ≡ m.1) × (n ≡ st.first → m'.0 ≡ with_turn m.0 (Waiting n)) × (n ≢ st.first → m'.0 ≡ m.0)
 
+  -- the load of serving: where that is the caller's ticket, it has the turn
   abbrev pub serving_seen : At M E A → Mine M E A → ℕ → Mine M E A → Type 0
   serving_seen st m n m' = (m'.1 ≡ m.1) × (n ≡ ticket_of m.0.turn → m'.0 ≡ with_turn m.0 (HasTurn n)) × (n ≢ ticket_of m.0.turn → m'.0 ≡ m.0)
 
+  -- the load at which the slot is taken out: the seat has it in hand, with the machine that it holds now
   abbrev pub machine_taken : At M E A → Mine M E A → ℕ → Mine M E A → Type 0
   machine_taken st m n m' = (b : SlotValue M E A) × (m'.1 ≡ (0, b) ∷ m.1) × (m'.0 ≡ with_turn m.0 (HoldsMachine (ticket_of m.0.turn) b.machine false))
 
+  -- the addition to serving: the slot is back, and the caller has no ticket
   abbrev pub turn_passed : At M E A → Mine M E A → ℕ → Mine M E A → Type 0
   turn_passed st m n m' = (m'.1 ≡ rest m.1) × (m'.0 ≡ with_turn m.0 Idle)
 
-  -- a new seat gets a number, under which no call stands in the history
+  -- the load at which a seat that was split off gets its number, under which it has seen no call
   abbrev pub caller_numbered : At M E A → Mine M E A → ℕ → Mine M E A → Type 0
   caller_numbered st m n m' = m.0.turn ≡ Unnumbered
       → (c : ℕ) × (c ≢ m.0.caller) × (calls_by c m.0.seen ≡ []) × (m'.1 ≡ m.1) × (m'.0 ≡ record { caller = c; start = m.0.start; seen = m.0.seen; received = []; turn = Idle })
 
-  -- the seat takes over what it was received of, if that is no less than it had seen
+  -- the load at which a seat has seen just what it received, where that is no shorter than what it had seen
   abbrev pub history_adopted : At M E A → Mine M E A → ℕ → Mine M E A → Type 0
   history_adopted st m n m' = m.0.turn ≡ Idle → length m.0.seen ≤ length m.0.received
       → (m'.1 ≡ m.1) × (m'.0 ≡ with_seen m.0 m.0.received) × StartsWith m.0.received m.0.seen × (calls_by m.0.caller m.0.received ≡ calls_by m.0.caller m.0.seen)
 
-  -- a seat between two calls
+  -- between two calls: no ticket, nothing received, no slot in hand
   abbrev pub IsReady : Mine M E A → Type 0
   IsReady m = (m.0.turn ≡ Idle) × (m.0.received ≡ []) × (m.1 ≡ [])
 
-  abbrev pub IsTurn : Mine M E A → Type 0
-  IsTurn m = ((t : ℕ) × (m.0.turn ≡ HasTurn t)) × (m.1 ≡ [])
-
-  -- the slot has a copy of the last_call event and its answer
+  -- this event and this answer are noted beside the machine
   abbrev pub HasLastCall : SlotValue M E A → E → A → Type 0
   HasLastCall b event answer = (p : Snapshot (E × A)) × (b.last_call ≡ Some p) × (p.value ≡ (event, answer))
 
-  abbrev pub IsHeld : Mine M E A → Type 0
-  IsHeld m = (b : SlotValue M E A) × (m.1 ≡ (0, b) ∷ [])
-
   module _ (steps : M → E → A → M → Type 0) (refusal : M → M → Type 0) (decks_left : M → ℕ) where
-    -- the history after a call is legal, begins with all that was seen, and ends with the call, which is one more of the caller's
+    -- The later history is legal, begins with all that was seen, and ends with this call, which is the one call more of its caller.
     abbrev pub AddsCall : Option M → ℕ → List (Entry E A) → E → A → ℕ → List (Entry E A) → Type 0
     AddsCall start by seen event answer rest later = let e : Entry E A = entry by event answer rest in
         ((between : List (Entry E A)) × (later ≡ (seen ++ between) ++ e ∷ [])) × IsLegal steps refusal decks_left start later × (calls_by by later ≡ calls_by by seen ++ e ∷ [])
 
+    -- the addition to the count: the call that is noted beside the machine ends the history that the caller has then seen
     abbrev pub count_raised : At M E A → Mine M E A → ℕ → Mine M E A → Type 0
     count_raised st m n m' = (b : SlotValue M E A) (p : Snapshot (E × A)) → m.1 ≡ (0, b) ∷ [] → b.last_call ≡ Some p
         → (m'.1 ≡ m.1) × ((later : List (Entry E A)) × (m'.0 ≡ record { caller = m.0.caller; start = m.0.start; seen = later; received = m.0.received; turn = HoldsMachine (ticket_of m.0.turn) b.machine true })
         × AddsCall m.0.start m.0.caller m.0.seen p.value.0 p.value.1 (decks_left b.machine) later)
 
-    -- the seat has seen the history so far
+    -- the load of the count after which the seat has seen the history so far, all that it received among it
     abbrev pub history_learned : At M E A → Mine M E A → ℕ → Mine M E A → Type 0
     history_learned st m n m' = m.0.turn ≡ Idle
         → (later : List (Entry E A)) × (m'.1 ≡ m.1) × (m'.0 ≡ with_seen m.0 later) × StartsWith later m.0.seen × StartsWith later m.0.received
