@@ -11,6 +11,8 @@ mod seat_view;
 mod slot_value;
 mod steps;
 mod table;
+#[cfg(test)]
+mod tests;
 mod ticket;
 mod turn;
 mod turn_state;
