@@ -1,15 +1,14 @@
 -- From what the steps tell to what the public calls promise.
-use Rattle.std.proofs.Common.{◌≡◌, ℕ, ◌≤◌, List, length, refl, sym, ap, ◌∙◌, subst}
+use Rattle.std.proofs.Common.{◌≡◌, ℕ, ◌≤◌, List, length, sym, ap, ◌∙◌, subst}
 use Rattle.atomic_table.specs.Table.{Me}
 use Rattle.shared_machine.specs.declared.entry.Entry.{Entry}
 use Rattle.shared_machine.specs.declared.seat_view.SeatView.{SeatView}
 use Rattle.shared_machine.specs.declared.slot_value.SlotValue.{SlotValue}
 use Rattle.std.specs.Prelude.{Option, Some, None}
 use Rattle.shared_machine.specs.History.{StartsWith, calls_by, IsLegal, IsLegalFrom}
-use Rattle.std.specs.Prelude.{◌∷◌, [], ◌++◌, Result, IfOk}
 use Rattle.shared_machine.specs.declared.turn_state.TurnState.{TurnState}
 use Rattle.shared_machine.specs.declared.turn_state.TurnState.TheVariants.{Idle}
-use Rattle.shared_machine.specs.Turns.{with_received, with_seen, with_turn, idle_with_seen, AddsCall}
+use Rattle.shared_machine.specs.Turns.{with_received, with_seen, with_turn, idle_with_seen, AddsCall, ClosesWith}
 use Rattle.shared_machine.specs.Passes.{Follows}
 use Rattle.shared_machine.specs.History.{Reaches}
 use Rattle.shared_machine.proofs.Histories.{starts_length, reaches_first}
@@ -55,6 +54,19 @@ module _ {M E A : Type 0} (steps : M → E → A → M → Type 0) (refusal : M 
       some_or : M → Option M → M
       some_or d None = d
       some_or d (Some z) = z
+
+  -- callers that have seen the same close with the same machine
+  pub closes_same : (o o' : Option M) (by by' : ℕ) (seen seen' : List (Entry E A)) (end : M) → o' ≡ o → by' ≡ by → seen' ≡ seen → ClosesWith steps refusal decks_left o' by' seen' end → ClosesWith steps refusal decks_left o by seen end
+  closes_same o o' by by' seen seen' end is_o is_by is_seen h = (
+    h.0,
+    sym is_o ∙ h.1,
+    (
+      h.2.0,
+      subst (λ (l : List (Entry E A)). StartsWith h.2.0 l) is_seen h.2.1,
+      subst (λ (z : ℕ × List (Entry E A)). calls_by z.0 h.2.0 ≡ calls_by z.0 z.1) (λ i. (is_by i, is_seen i)) h.2.2,
+      h.2.3,
+    ),
+  )
 
 -- of a machine with a rest, what holds of the machine alone
 module _ {M D E A : Type 0} (steps : M → E → A → M → Type 0) (refusal : M → M → Type 0) (decks_left : M → ℕ) where

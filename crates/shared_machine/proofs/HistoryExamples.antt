@@ -1,5 +1,5 @@
 -- The definitions of histories, tried on a counter: event n adds n, the answer is the sum, and a refused step changes nothing.
-use Rattle.std.proofs.Common.{◌≡◌, ◌≢◌, ℕ, ◌+◌, List, [], ◌∷◌, refl, sym, ◌∙◌, arith}
+use Rattle.std.proofs.Common.{◌≡◌, ℕ, ◌+◌, List, [], ◌∷◌, refl, arith}
 use Rattle.shared_machine.specs.declared.entry.Entry.{Entry}
 use Rattle.shared_machine.specs.History.{entry, calls_by, StartsWith, IsLegalFrom}
 

@@ -10,7 +10,7 @@ use lib.ListN.{get_elem?}
 use lib.Seq.{set-get_or}
 use prog.Atomic.{either}
 use Rattle.std.specs.declared.snapshot.Snapshot.{Snapshot}
-use Rattle.atomic_table.specs.Table.{State, Me, Step, Act, step, keeps, takes, gives, rest, stepped, Allows, Splits, Joins, Valid, carried_after, opening, Final, Seen}
+use Rattle.atomic_table.specs.Table.{State, Me, Act, step, keeps, takes, gives, stepped, Allows, Splits, Joins, Valid, carried_after, opening, Final, Seen}
 use Rattle.atomic_table.proofs.Lists.{at_set, set_else, set_here, set_again, at_longer, exchanged}
 use Rattle.shared_machine.specs.declared.entry.Entry.{Entry}
 use Rattle.shared_machine.specs.declared.turn_state.TurnState.{TurnState}
@@ -18,7 +18,7 @@ use Rattle.shared_machine.specs.declared.turn_state.TurnState.TheVariants.{Idle,
 use Rattle.shared_machine.specs.declared.seat_view.SeatView.{SeatView}
 use Rattle.shared_machine.specs.declared.slot_value.SlotValue.{SlotValue}
 use Rattle.shared_machine.specs.History.{StartsWith, entry, calls_by, Reaches, IsLegal}
-use Rattle.shared_machine.specs.Turns.{HasTicket, IsHoldingMachine, IsNumbered, IsUnnumbered, FitsTurn, RuleHolds, opening_view, spent_view, with_turn, unnumbered_view, with_received, with_seen, ticket_of, ticket_taken, serving_seen, machine_taken, turn_passed, caller_numbered, history_adopted, AddsCall, count_raised, history_learned}
+use Rattle.shared_machine.specs.Turns.{HasTicket, IsHoldingMachine, IsNumbered, FitsTurn, RuleHolds, opening_view, spent_view, with_turn, unnumbered_view, with_received, with_seen, ticket_of, ticket_taken, serving_seen, machine_taken, turn_passed, caller_numbered, history_adopted, AddsCall, count_raised, history_learned, ClosesWith}
 use Rattle.shared_machine.proofs.Histories.{first_or, starts_all, starts_longer, starts_trans, shorter_begins, inside, at_end, calls_by-append, calls_by-mine, calls_by-else, none_before, own_between, reaches_refusal, reaches_step}
 
 module _ {M E A : Type 0} where
@@ -472,7 +472,7 @@ module _ {M E A : Type 0} (steps : M → E → A → M → Type 0) (refusal : M 
 
   -- what is taken out at the end, by a seat that has the turn
   pub closes : (id : ℕ) (v : V) (t : ℕ) (words : List ℕ) (slots : List B) (b : B) → v.turn ≡ HasTurn t → Final (Seen K id v) words slots → get_elem? slots 0 ≡ some b
-      → (o : M) × (v.start ≡ Some o) × ((history : L) × StartsWith history v.seen × (calls_by v.caller history ≡ calls_by v.caller v.seen) × Reaches steps refusal decks_left o history b.machine)
+      → ClosesWith steps refusal decks_left v.start v.caller v.seen b.machine
   closes id v t words slots b turn final at =
       let s = final.0 in let k = final.1.0 in
       let mine = fits_as s k id v (HasTurn t) final.1.1 turn in
@@ -483,7 +483,3 @@ module _ {M E A : Type 0} (steps : M → E → A → M → Type 0) (refusal : M 
 
   pub opens_as : ((x : M) → refusal x x) → (slots : List B) (b : B) → slots ≡ b ∷ [] → b.machine ≡ start → K (opening (0 ∷ 0 ∷ 0 ∷ []) slots (opening_view start))
   opens_as refusal_reflexive slots b one is = subst (λ (xs : List B). K (opening (0 ∷ 0 ∷ 0 ∷ []) xs (opening_view start))) (sym one) (opens refusal_reflexive b is)
-
-  pub closes_as : (id : ℕ) (me : Mi) (v : V) (c : List (ℕ × B)) (t : ℕ) (words : List ℕ) (slots : List B) (b : B) → me ≡ (with_turn v (HasTurn t), c) → Final (Seen K id me.0) words slots → get_elem? slots 0 ≡ some b
-      → (o : M) × (v.start ≡ Some o) × ((history : L) × StartsWith history v.seen × (calls_by v.caller history ≡ calls_by v.caller v.seen) × Reaches steps refusal decks_left o history b.machine)
-  closes_as id me v c t words slots b is final at = closes id (with_turn v (HasTurn t)) t words slots b refl (subst (λ (m : Mi). Final (Seen K id m.0) words slots) is final) at

@@ -1,6 +1,6 @@
 -- The rule of the hub's table, and what each kind of atomic step tells. The table has three words, which are the count of entries, the next ticket and
 -- the ticket that is served, and one slot, for the machine. A view is what the holder of a seat knows.
-use Rattle.std.specs.Prelude.{◌≡◌, ◌≢◌, ℕ, ◌+◌, ◌<◌, ◌≤◌, ◌^◌, List, [], ◌∷◌, ◌++◌, length, Bool, true, false, Option, Some, None}
+use Rattle.std.specs.Prelude.{◌≡◌, ◌≢◌, ℕ, ◌+◌, ◌<◌, ◌≤◌, ◌^◌, List, [], ◌∷◌, ◌++◌, length, true, false, Option, Some, None}
 use mathlib.Core.Option.{some, none}
 use mathlib.Core.Option as maybe
 use lib.ListN.{get_elem?}
@@ -191,3 +191,8 @@ module _ {M E A : Type 0} where
     history_learned st m n m' = m.0.turn ≡ Idle
         → (later : List (Entry E A)) × (m'.1 ≡ m.1) × (m'.0 ≡ with_seen m.0 later) × StartsWith later m.0.seen × StartsWith later m.0.received
         × IsLegal steps refusal decks_left m.0.start later × (calls_by m.0.caller later ≡ calls_by m.0.caller m.0.seen)
+
+    -- the machine at the end of a legal history that begins with all that was seen, and has no further call of the caller
+    abbrev pub ClosesWith : Option M → ℕ → List (Entry E A) → M → Type 0
+    ClosesWith start by seen end = (first : M) × (start ≡ Some first)
+        × ((history : List (Entry E A)) × StartsWith history seen × (calls_by by history ≡ calls_by by seen) × Reaches steps refusal decks_left first history end)

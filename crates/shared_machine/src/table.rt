@@ -1,9 +1,7 @@
 //! How a hub's table is made, and how the machine comes out of it again.
-ghost use Rattle.std.specs.Prelude.{◌≡◌, List, [], Some, IfOk};
-ghost use Rattle.shared_machine.specs.History.{StartsWith, calls_by, Reaches};
-ghost use Rattle.shared_machine.specs.Turns.{opening_view};
-ghost use Rattle.shared_machine.specs.declared.entry.Entry.{Entry};
-ghost use Rattle.shared_machine.specs.declared.turn_state.TurnState.TheVariants.{Idle};
+ghost use Rattle.std.specs.Prelude.{◌≡◌, [], IfOk};
+ghost use Rattle.shared_machine.specs.Turns.{opening_view, ClosesWith};
+ghost use Rattle.shared_machine.specs.declared.turn_state.TurnState.TheVariants.{Idle, HasTurn};
 
 use crate::machine::{Machine, NoMemory};
 use crate::rule::{HubSeat, HubTable};
@@ -35,6 +33,21 @@ pub(crate) fn open_table<M: Machine<D>, D: Drop>(
     Ok(made)
 }
 
+// The machine, out of the table, by the holder of the turn, who finds it in the slot.
+fn take_out<M: Machine<D>, D: Drop>(
+    table: HubTable<M, D>,
+    seat: HubSeat<M, D>,
+    ticket: u64,
+) -> (M, D)
+    requires { (seat.table_id ≡ table.shared.table_id) × (table.shared.table_id.slots ≡ 1) × (seat.me.0.turn ≡ HasTurn ticket) }
+    ensures { ClosesWith (λ x e a y. M.steps x.0 e a y.0) (λ x y. M.refusal x.0 y.0) (λ x. M.decks_left x.0) seat.me.0.start seat.me.0.caller seat.me.0.seen result }
+{
+    let mut closed = table.close_with(seat);
+    let slot = closed.take(0);
+    closed.free();
+    slot.machine
+}
+
 /// The machine, out of a table that no other thread can reach any more. It takes a turn, so that the slot is at home.
 pub(crate) fn close_table<M: Machine<D>, D: Drop, R: Wait>(
     rt: &R,
@@ -42,11 +55,8 @@ pub(crate) fn close_table<M: Machine<D>, D: Drop, R: Wait>(
     mut seat: HubSeat<M, D>,
 ) -> (M, D)
     requires { (seat.table_id ≡ table.shared.table_id) × (table.shared.table_id.words ≡ 3) × (table.shared.table_id.slots ≡ 1) × (seat.me.0.turn ≡ Idle) }
-    ensures { (start : M × D) × (seat.me.0.start ≡ Some start) × ((history : List (Entry M.Event M.Answer)) × StartsWith history seat.me.0.seen × (calls_by seat.me.0.caller history ≡ calls_by seat.me.0.caller seat.me.0.seen) × Reaches (λ x e a y. M.steps x.0 e a y.0) (λ x y. M.refusal x.0 y.0) (λ x. M.decks_left x.0) start history result) }
+    ensures { ClosesWith (λ x e a y. M.steps x.0 e a y.0) (λ x y. M.refusal x.0 y.0) (λ x. M.decks_left x.0) seat.me.0.start seat.me.0.caller seat.me.0.seen result }
 {
-    wait_for_turn(rt, &table.shared, &mut seat);
-    let mut closed = table.close_with(seat);
-    let slot = closed.take(0);
-    closed.free();
-    slot.machine
+    let ticket = wait_for_turn(rt, &table.shared, &mut seat);
+    take_out(table, seat, ticket)
 }

@@ -1,5 +1,6 @@
 //! A register of stories, which the tests share.
-ghost use Rattle.std.specs.Prelude.{◌≡◌, ◌+◌, ℕ, [], ◌∷◌, ◌++◌, cond, refl};
+ghost use Rattle.std.specs.Prelude.{◌≡◌, ◌+◌, ℕ, [], ◌∷◌, ◌++◌, ◌&&◌, ◌||◌, not, cond, nat_eq, refl};
+ghost use Rattle.std.specs.List.{list_any};
 ghost use Rattle.std.proofs.Common.{◌∙◌};
 
 use crate::machine::{Machine, NoMemory, StepRelation};
@@ -39,15 +40,6 @@ impl Register {
             until_refusal,
         }
     }
-
-    fn has(&self, story: u64) -> bool {
-        for kept in &self.stories {
-            if *kept == story {
-                return true;
-            }
-        }
-        false
-    }
 }
 
 impl StepRelation for Register {
@@ -55,7 +47,7 @@ impl StepRelation for Register {
 
     type Answer = Reply;
 
-    ghost steps = { λ s request reply t. (t.stories.items ≡ cond reply.inserted (s.stories.items ++ request.story ∷ []) s.stories.items) × (t.answered ≡ s.answered + 1) };
+    ghost steps = { λ s request reply t. let known = list_any (λ y. nat_eq y request.story) s.stories.items in (reply.inserted ≡ (request.inserts && not known)) × (reply.stands ≡ (known || reply.inserted)) × (t.stories.items ≡ cond reply.inserted (s.stories.items ++ request.story ∷ []) s.stories.items) × (t.answered ≡ s.answered + 1) };
 
     ghost refusal = { λ s t. (t.stories.items ≡ s.stories.items) × (t.answered ≡ s.answered) };
 
@@ -72,7 +64,7 @@ impl Machine<()> for Register {
             return Err(NoMemory);
         }
         self.until_refusal -= 1;
-        let known = self.has(request.story);
+        let known = self.stories.contains(&request.story);
         let inserted = request.inserts && !known;
         if inserted {
             let Ok(()) = self.stories.push(request.story) else {

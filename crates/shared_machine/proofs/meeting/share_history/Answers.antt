@@ -1,7 +1,4 @@
-use Rattle.std.proofs.Common.{rules, ap, refl, ◌∙◌, ◌≡◌, sym, subst}
-use Rattle.atomic_table.specs.Table.{Joins}
-use Rattle.shared_machine.specs.Turns.{with_received, spent_view}
-use Rattle.shared_machine.specs.declared.seat_view.SeatView.{SeatView}
+use Rattle.std.proofs.Common.{rules, ap}
 use Rattle.shared_machine.proofs.RuleSteps.{splits, joins}
 use Rattle.shared_machine.proofs.meeting.share_history.Goals as goal
 

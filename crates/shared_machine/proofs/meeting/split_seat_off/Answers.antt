@@ -1,5 +1,4 @@
-use Rattle.std.proofs.Common.{rules, ap, refl, ◌∙◌, ◌≡◌, sym, subst}
-use Rattle.shared_machine.specs.Turns.{numbered_view}
+use Rattle.std.proofs.Common.{rules, ap}
 use Rattle.shared_machine.proofs.RuleSteps.{splits, numbers_caller}
 use Rattle.shared_machine.proofs.meeting.split_seat_off.Goals as goal
 

@@ -1,4 +1,4 @@
-use Rattle.std.proofs.Common.{rules, arith, sym, ◌≡◌, ◌∷◌, []}
+use Rattle.std.proofs.Common.{rules, arith, sym}
 use Rattle.std.specs.Prelude.{None}
 use Rattle.std.proofs.lemmas.Grind.{common_steps}
 use Rattle.shared_machine.proofs.RuleSteps.{opens_as}

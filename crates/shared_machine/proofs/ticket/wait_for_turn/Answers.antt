@@ -1,4 +1,4 @@
-use Rattle.std.proofs.Common.{rules, refl, ap, ◌∙◌}
+use Rattle.std.proofs.Common.{rules, ap, ◌∙◌}
 use Rattle.shared_machine.proofs.RuleSteps.{looks_at_serving}
 use Rattle.shared_machine.proofs.ticket.wait_for_turn.Goals as goal
 

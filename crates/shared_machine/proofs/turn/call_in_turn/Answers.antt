@@ -1,4 +1,4 @@
-use Rattle.std.proofs.Common.{rules, ◌≡◌, ◌∷◌, [], true, false, refl, sym, ap, ◌∙◌, subst}
+use Rattle.std.proofs.Common.{rules, [], true, false, sym, ap, ◌∙◌, subst}
 use Rattle.shared_machine.specs.Turns.{ticket_of}
 use Rattle.shared_machine.proofs.RuleSteps.{raises_count}
 use Rattle.shared_machine.proofs.CallLaws.{call_added}

@@ -1,4 +1,4 @@
-use Rattle.std.proofs.Common.{rules, ◌≡◌, ◌∷◌, [], sym, ap, ◌∙◌}
+use Rattle.std.proofs.Common.{rules, ap, ◌∙◌}
 use Rattle.atomic_table.specs.Table.{rest}
 use Rattle.shared_machine.proofs.RuleSteps.{passes_turn}
 use Rattle.shared_machine.proofs.turn.pass_turn.Goals as goal

@@ -1,7 +1,6 @@
-use Rattle.std.proofs.Common.{rules, ◌≡◌, ◌∷◌, [], sym, ap, ◌∙◌, subst}
+use Rattle.std.proofs.Common.{◌≡◌, ◌∷◌, [], sym, ap, ◌∙◌, subst}
 use Rattle.atomic_table.specs.Table.{rest}
 use Rattle.shared_machine.specs.declared.slot_value.SlotValue.{SlotValue}
-use Rattle.shared_machine.specs.Turns.{HasLastCall}
 use Rattle.shared_machine.proofs.Histories.{if_ok, if_err, same_in_hand}
 use Rattle.shared_machine.proofs.turn.step_in_slot.Goals as goal
 

@@ -1,4 +1,4 @@
-use Rattle.std.proofs.Common.{rules, ◌≡◌, ◌∷◌, [], false, sym, ap, ◌∙◌}
+use Rattle.std.proofs.Common.{rules, ◌∷◌, false, ap, ◌∙◌}
 use Rattle.shared_machine.specs.Turns.{with_turn, ticket_of}
 use Rattle.shared_machine.specs.declared.turn_state.TurnState.TheVariants.{HoldsMachine}
 use Rattle.shared_machine.proofs.RuleSteps.{takes_machine}

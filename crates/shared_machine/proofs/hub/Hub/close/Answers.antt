@@ -1,4 +1,4 @@
-use Rattle.std.proofs.Common.{◌≡◌, ap, ◌∙◌, sym, subst}
+use Rattle.std.proofs.Common.{◌≡◌, ap, ◌∙◌, subst}
 use Rattle.std.specs.Prelude.{List}
 use Rattle.shared_machine.specs.declared.entry.Entry.{Entry}
 use Rattle.shared_machine.specs.History.{StartsWith, calls_by}
