@@ -9,6 +9,23 @@ use crate::steps::{LookAtServing, TakeTicket};
 use std::sync::Wait;
 use std::thread;
 
+/// How often a caller looks for a free turn before it takes a ticket all the same.
+const LOOKS: u32 = 50;
+
+// Looks a few times whether the ticket that would be drawn next is served already. Nothing is known afterwards, and
+// nothing rests on it. But a caller that takes a ticket while another has the turn is parked, and all behind it wait until
+// its thread runs again; where turns are short, giving way a few times is much cheaper.
+fn look_for_free_turn<M: Machine<D>, D: Drop>(top: &HubSteps<M, D>)
+    requires { top.now.table_id.words ≡ 3 }
+{
+    for _ in 0..LOOKS {
+        if top.peek(TICKET) == top.peek(SERVING) {
+            return;
+        }
+        thread::yield_now();
+    }
+}
+
 // Takes a ticket. After the last one, 2^64 - 2, there is none, and the call waits for good: no word ever wraps.
 fn take_ticket<M: Machine<D>, D: Drop, R: Wait>(
     rt: &R,
@@ -18,14 +35,14 @@ fn take_ticket<M: Machine<D>, D: Drop, R: Wait>(
     requires { (seat.old.table_id ≡ top.now.table_id) × (top.now.table_id.words ≡ 3) × (seat.old.me.0.turn ≡ Idle) }
     ensures { (seat.new.table_id ≡ seat.old.table_id) × (seat.new.id ≡ seat.old.id) × (seat.new.me ≡ (with_turn seat.old.me.0 (Waiting result), seat.old.me.1)) }
 {
-    let mut next = top.peek(TICKET);
     for _ in rt.forever() {
+        look_for_free_turn(top);
+        let next = top.peek(TICKET);
         if next < u64::MAX {
             let found = top.compare_exchange::<TakeTicket>(seat, TICKET, next, next + 1);
             if found == next {
                 return found;
             }
-            next = found;
         } else {
             thread::yield_now();
         }
