@@ -1,9 +1,9 @@
 //! A machine that threads share, one call at a time, with one legal history of all calls.
 #![tactic(auto)]
 
-pub mod entry;
+mod entry;
 mod hub;
-pub mod machine;
+mod machine;
 mod meeting;
 mod pass;
 mod rule;
@@ -17,6 +17,7 @@ mod ticket;
 mod turn;
 mod turn_state;
 
+pub use entry::Entry;
 pub use hub::Hub;
 pub use machine::{Machine, NoMemory, StepRelation};
 pub use pass::Pass;
