@@ -1,0 +1,5 @@
+pub mod Histories
+pub mod RuleSteps
+pub mod CallLaws
+pub mod Sent
+pub mod HistoryExamples

@@ -1,0 +1,23 @@
+//! A machine that threads share, one call at a time, with one legal history of all calls.
+#![tactic(auto)]
+
+mod entry;
+mod hub;
+mod machine;
+mod meeting;
+mod pass;
+mod rule;
+mod seat_view;
+mod slot_value;
+mod steps;
+mod table;
+#[cfg(test)]
+mod tests;
+mod ticket;
+mod turn;
+mod turn_state;
+
+pub use entry::Entry;
+pub use hub::Hub;
+pub use machine::{Machine, NoMemory, StepRelation};
+pub use pass::Pass;
