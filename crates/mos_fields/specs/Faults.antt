@@ -1,12 +1,12 @@
 -- The first fault of a text for a type: a forbidden character, too many characters, no character, no number, no time,
 -- no word of the type.
-use Rattle.std.specs.Prelude.{ℕ, Bool, cond, List, [], ◌∷◌, length, Option, Some, None, not, nat_lt, is_none, ◌+◌}
+use Rattle.std.specs.Prelude.{◌≡◌, Result, Ok, Err, IsOk, IsOkUnless, ℕ, Bool, cond, List, [], ◌∷◌, length, Option, Some, None, not, nat_lt, is_none, ◌+◌, ◌==◌}
 use Rattle.mos_fields.specs.declared.fault.FieldFault.{FieldFault}
-use Rattle.mos_fields.specs.declared.fault.FieldFault.TheVariants.{BadChar as bad_char, TooLong as too_long, Empty as no_character, BadNumber as bad_number, BadTime as bad_time, BadWord as bad_word}
+use Rattle.mos_fields.specs.declared.fault.FieldFault.TheVariants.{BadChar as bad_char, TooLong as too_long, Empty as no_character, BadNumber as bad_number, BadTime as bad_time, BadWord as bad_word, NoMemory as out_of_memory}
 use Rattle.mos_fields.specs.declared.form.Form.{Form}
 use Rattle.mos_fields.specs.declared.form.Form.TheVariants as forms
 use Rattle.mos_fields.specs.Characters.{Text, is_allowed}
-use Rattle.mos_fields.specs.Names.{is_empty, is_name}
+use Rattle.mos_fields.specs.Names.{is_name}
 use Rattle.mos_fields.specs.Forms.{among, reads, trimmed}
 use Rattle.mos_fields.specs.Limits.{id_limit, slug_limit, name_limit}
 
@@ -29,12 +29,19 @@ bad_char_from k (c ∷ cs) = cond (is_allowed c) (bad_char_from (k + 1) cs) (Som
 abbrev pub text_fault : Text → Fault
 text_fault x = bad_char_from 0 x
 
--- more characters than the limit
+-- so many characters are more than the limit
+abbrev pub length_fault_at : ℕ → ℕ → Fault
+length_fault_at limit k = fault_if (nat_lt limit k) (too_long k)
+
 abbrev pub length_fault : ℕ → Text → Fault
-length_fault limit x = fault_if (nat_lt limit (length x)) (too_long (length x))
+length_fault limit x = length_fault_at limit (length x)
+
+-- so many characters are too many for an Id, or none
+abbrev pub id_length_fault_at : ℕ → Fault
+id_length_fault_at k = first_of (length_fault_at id_limit k) (fault_if (k == 0) no_character)
 
 abbrev pub id_length_fault : Text → Fault
-id_length_fault x = first_of (length_fault id_limit x) (fault_if (is_empty x) no_character)
+id_length_fault x = id_length_fault_at (length x)
 
 abbrev pub id_fault : Text → Fault
 id_fault x = first_of (text_fault x) (id_length_fault x)
@@ -70,3 +77,13 @@ obj_type_fault x = form_fault forms.ObjType bad_word x
 -- the text is none of these words; white space round it is dropped
 abbrev pub word_fault : List Text → Text → Fault
 word_fault words x = first_of (text_fault x) (fault_if (not (among (trimmed x) words)) bad_word)
+
+-- A call that makes a value answers the fault where there is one. Else it answers a value, or that there was no memory.
+abbrev pub AnswersFault : {A : Type 0} → Fault → Result A FieldFault → Type 0
+AnswersFault None r = IsOkUnless r out_of_memory
+AnswersFault (Some f) r = r ≡ Err f
+
+-- the same of a call that takes no memory
+abbrev pub AnswersOnlyFault : {A : Type 0} → Fault → Result A FieldFault → Type 0
+AnswersOnlyFault None r = IsOk r
+AnswersOnlyFault (Some f) r = r ≡ Err f

@@ -1,10 +1,13 @@
 //! Names of elements.
 ghost use Rattle.std.specs.Prelude.{◌≡◌, ℕ, List, IfOk, true};
+ghost use Rattle.mos_fields.specs.Faults.{AnswersFault, name_fault};
 ghost use Rattle.mos_fields.specs.Characters.{units_of};
 ghost use Rattle.mos_fields.specs.Names.{is_name};
 
-use crate::fault::NoMemory;
+use crate::checks::{find_name_fault};
+use crate::fault::{FieldFault, NoMemory};
 use crate::text::Text;
+use std::alloc::Global;
 use std::marker::Model;
 
 /// The name of an element: an ASCII letter or `_`, then ASCII letters, digits, `_`, `-`, `.` and `:`, 128 characters at
@@ -23,6 +26,23 @@ impl Model for Name {
 }
 
 impl Name {
+    /// The value of these characters.
+    ///
+    /// `BadChar` comes exactly at the first character that XML 1.0 forbids, else `TooLong` exactly above 128 characters,
+    /// else `BadWord` exactly where the text is no name.
+    #[tactic(auto, using(crate::proofs::FaultLemmas::name_allowed, crate::proofs::FaultLemmas::name_named))]
+    pub fn try_new(alloc: Global, chars: &[char]) -> Result<Self, FieldFault>
+        ensures value { IfOk result (λ t. t ≡ chars.now) }
+        ensures fault { AnswersFault (name_fault chars.now) result }
+    {
+        match find_name_fault(chars) {
+            Some(fault) => Err(fault),
+            None => Ok(Name {
+                text: Text::from_allowed(alloc, chars)?,
+            }),
+        }
+    }
+
     /// The text.
     pub fn text(&self) -> &Text
         ensures value { result.now ≡ self.now }

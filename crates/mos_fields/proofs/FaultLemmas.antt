@@ -1,0 +1,68 @@
+-- Faults of texts.
+use Rattle.std.proofs.Common.{◌≡◌, ℕ, ◌+◌, Bool, true, false, cond, not, ◌≤◌, length, arith, List, [], ◌∷◌, refl, None, Some, Option}
+use Rattle.mos_fields.specs.Characters.{Text, is_allowed, are_allowed}
+use Rattle.std.proofs.lemmas.Bool.Decides.{nat_tests}
+use Rattle.mos_fields.specs.declared.fault.FieldFault.TheVariants.{BadWord as bad_word}
+use Rattle.mos_fields.specs.Limits.{IsId}
+use Rattle.mos_fields.specs.Names.{is_name}
+use Rattle.mos_fields.specs.Faults.{Fault, bad_char_from, text_fault, first_of, fault_if, length_fault, id_length_fault, id_fault, opt_id_fault, slug_fault, name_fault}
+
+step : (c : ℕ) (k : ℕ) (x : Text) (b : Bool) → is_allowed c ≡ b → bad_char_from k (c ∷ x) ≡ None
+    → (bad_char_from (k + 1) x ≡ None → are_allowed x ≡ true) → are_allowed (c ∷ x) ≡ true
+step c k x true h e next = rw h (next (rw h at e))
+step c k x false h e next = absurd (let none = rw h at e in cc)
+
+allowed_from : (k : ℕ) (x : Text) → bad_char_from k x ≡ None → are_allowed x ≡ true
+allowed_from k [] e = refl
+allowed_from k (c ∷ x) e = step c k x (is_allowed c) refl e (allowed_from (k + 1) x)
+
+-- a text with no forbidden character has allowed ones
+pub allowed_without_fault : (x : Text) → text_fault x ≡ None → are_allowed x ≡ true
+allowed_without_fault x e = allowed_from 0 x e
+
+-- no fault of two is neither
+pub neither : (f g : Fault) → first_of f g ≡ None → (f ≡ None) × (g ≡ None)
+neither None g e = (refl, e)
+neither (Some f) g e = absurd (cc)
+
+-- ---- values without fault
+
+pub id_allowed : (x : Text) → id_fault x ≡ None → are_allowed x ≡ true
+id_allowed x e = allowed_without_fault x (neither _ _ e).0
+
+pub opt_id_allowed : (x : Text) → opt_id_fault x ≡ None → are_allowed x ≡ true
+opt_id_allowed x e = allowed_without_fault x (neither _ _ e).0
+
+pub slug_allowed : (x : Text) → slug_fault x ≡ None → are_allowed x ≡ true
+slug_allowed x e = allowed_without_fault x (neither _ _ e).0
+
+pub name_allowed : (x : Text) → name_fault x ≡ None → are_allowed x ≡ true
+name_allowed x e = allowed_without_fault x (neither _ _ e).0
+
+pub short_without_fault : (limit : ℕ) (x : Text) → length_fault limit x ≡ None → length x ≤ limit
+short_without_fault limit x e = grind (arith, nat_tests)
+
+pub id_sized_length : (x : Text) → id_length_fault x ≡ None → IsId x
+id_sized_length x e = record { some = grind (arith, nat_tests); short = grind (arith, nat_tests) }
+
+pub id_sized : (x : Text) → id_fault x ≡ None → IsId x
+id_sized x e = id_sized_length x (neither (text_fault x) _ e).1
+
+pub opt_id_sized_length : (x : Text) → length_fault 128 x ≡ None → length x ≤ 128
+opt_id_sized_length x e = short_without_fault 128 x e
+
+pub opt_id_sized : (x : Text) → opt_id_fault x ≡ None → length x ≤ 128
+opt_id_sized x e = short_without_fault 128 x (neither (text_fault x) _ e).1
+
+pub slug_sized_length : (x : Text) → length_fault 1024 x ≡ None → length x ≤ 1024
+slug_sized_length x e = short_without_fault 1024 x e
+
+pub slug_sized : (x : Text) → slug_fault x ≡ None → length x ≤ 1024
+slug_sized x e = short_without_fault 1024 x (neither (text_fault x) _ e).1
+
+named_if : (b : Bool) → fault_if (not b) bad_word ≡ None → b ≡ true
+named_if true e = refl
+named_if false e = absurd (cc)
+
+pub name_named : (x : Text) → name_fault x ≡ None → is_name x ≡ true
+name_named x e = named_if (is_name x) (neither _ _ (neither (text_fault x) _ e).1).1
