@@ -92,7 +92,7 @@ one_more : (u : ℕ) (us : List ℕ) → is_low u ≡ false → not_low_count (u
 one_more u us e = rw e refl
 
 -- the first character of units that stand in no pair
-head_allowed : (u : ℕ) (x : Text) → are_allowed (u ∷ x) ≡ true → (is_allowed u ≡ true) × (are_allowed x ≡ true)
+pub head_allowed : (u : ℕ) (x : Text) → are_allowed (u ∷ x) ≡ true → (is_allowed u ≡ true) × (are_allowed x ≡ true)
 head_allowed u x e = and_parts (is_allowed u) (are_allowed x) e
 
 count_pair : (u v : ℕ) (us : List ℕ) → is_high u ≡ true → is_low v ≡ true → not_low_count (u ∷ v ∷ us) ≡ 1 + not_low_count us

@@ -1,3 +1,5 @@
 pub mod CharacterLemmas
 pub mod FaultLemmas
 pub mod NameLemmas
+pub mod DecodeLemmas
+pub mod NumberLemmas

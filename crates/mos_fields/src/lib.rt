@@ -5,6 +5,7 @@
 #![tactic(auto)]
 
 pub mod air;
+mod append;
 mod checks;
 pub mod fault;
 pub mod field;

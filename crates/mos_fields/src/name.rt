@@ -1,5 +1,5 @@
 //! Names of elements.
-ghost use Rattle.std.specs.Prelude.{◌≡◌, ℕ, List, IfOk, true};
+ghost use Rattle.std.specs.Prelude.{◌≡◌, ◌++◌, OnOk, OnErr, ℕ, List, IfOk, true};
 ghost use Rattle.mos_fields.specs.Faults.{AnswersFault, name_fault};
 ghost use Rattle.mos_fields.specs.Characters.{units_of};
 ghost use Rattle.mos_fields.specs.Names.{is_name};
@@ -64,6 +64,14 @@ impl Name {
         ensures named { is_name self.now ≡ true }
     {
         self.text.units()
+    }
+
+    /// Appends the characters; without memory nothing is appended.
+    pub fn push_to(&self, out: &mut Vec<char>) -> Result<(), NoMemory>
+        ensures ok { OnOk result (out.new.items ≡ out.old.items ++ self.now) }
+        ensures err { OnErr result (out.new.items ≡ out.old.items) }
+    {
+        self.text.push_to(out)
     }
 
     /// The same value again, in memory of its own.
