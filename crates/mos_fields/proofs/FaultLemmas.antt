@@ -3,9 +3,12 @@ use Rattle.std.proofs.Common.{◌≡◌, ℕ, ◌+◌, Bool, true, false, cond, 
 use Rattle.mos_fields.specs.Characters.{Text, is_allowed, are_allowed}
 use Rattle.std.proofs.lemmas.Bool.Decides.{nat_tests}
 use Rattle.mos_fields.specs.declared.fault.FieldFault.TheVariants.{BadWord as bad_word}
+use Rattle.mos_fields.specs.declared.fault.FieldFault.{FieldFault}
+use Rattle.mos_fields.specs.declared.form.Form.{Form}
+use Rattle.mos_fields.specs.Forms.{reads}
 use Rattle.mos_fields.specs.Limits.{IsId}
 use Rattle.mos_fields.specs.Names.{is_name}
-use Rattle.mos_fields.specs.Faults.{Fault, bad_char_from, text_fault, first_of, fault_if, length_fault, id_length_fault, id_fault, opt_id_fault, slug_fault, name_fault}
+use Rattle.mos_fields.specs.Faults.{Fault, bad_char_from, text_fault, form_fault, first_of, fault_if, length_fault, id_length_fault, id_fault, opt_id_fault, slug_fault, name_fault}
 
 step : (c : ℕ) (k : ℕ) (x : Text) (b : Bool) → is_allowed c ≡ b → bad_char_from k (c ∷ x) ≡ None
     → (bad_char_from (k + 1) x ≡ None → are_allowed x ≡ true) → are_allowed (c ∷ x) ≡ true
@@ -24,6 +27,10 @@ allowed_without_fault x e = allowed_from 0 x e
 pub neither : (f g : Fault) → first_of f g ≡ None → (f ≡ None) × (g ≡ None)
 neither None g e = (refl, e)
 neither (Some f) g e = absurd (cc)
+
+-- a text of the form has no fault
+pub form_fine : (form : Form) (f : FieldFault) (x y : Text) → text_fault x ≡ None → reads form [] x ≡ Some y → form_fault form f x ≡ None
+form_fine form f x y e g = rw (e, g) refl
 
 -- ---- values without fault
 

@@ -5,6 +5,7 @@ pub mod Names
 pub mod References
 pub mod Raw
 pub mod Forms
+pub mod Numbers
 pub mod Escapes
 pub mod Limits
 pub mod Zones
