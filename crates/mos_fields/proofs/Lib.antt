@@ -3,3 +3,4 @@ pub mod FaultLemmas
 pub mod NameLemmas
 pub mod DecodeLemmas
 pub mod NumberLemmas
+pub mod WordLemmas

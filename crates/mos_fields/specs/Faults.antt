@@ -1,6 +1,6 @@
 -- The first fault of a text for a type: a forbidden character, too many characters, no character, no number, no time,
 -- no word of the type.
-use Rattle.std.specs.Prelude.{◌≡◌, Result, Ok, Err, IsOk, IsOkUnless, ℕ, Bool, cond, List, [], ◌∷◌, length, Option, Some, None, not, nat_lt, is_none, ◌+◌, ◌==◌}
+use Rattle.std.specs.Prelude.{◌≡◌, Result, Ok, Err, IsOk, IsOkUnless, ℕ, Bool, cond, List, [], ◌∷◌, length, map, Option, Some, None, not, nat_lt, is_none, ◌+◌, ◌==◌}
 use Rattle.mos_fields.specs.declared.fault.FieldFault.{FieldFault}
 use Rattle.mos_fields.specs.declared.fault.FieldFault.TheVariants.{BadChar as bad_char, TooLong as too_long, Empty as no_character, BadNumber as bad_number, BadTime as bad_time, BadWord as bad_word, NoMemory as out_of_memory}
 use Rattle.mos_fields.specs.declared.form.Form.{Form}
@@ -9,6 +9,8 @@ use Rattle.mos_fields.specs.Characters.{Text, is_allowed}
 use Rattle.mos_fields.specs.Names.{is_name}
 use Rattle.mos_fields.specs.Forms.{among, reads, trimmed}
 use Rattle.mos_fields.specs.Limits.{id_limit, slug_limit, name_limit}
+use Rattle.mos_fields.specs.Fields.{name_of, named_fields}
+use Rattle.mos_fields.specs.Values.{operation_text, operation_values, level_text, level_values}
 
 abbrev pub Fault : Type 0
 Fault = Option FieldFault
@@ -77,6 +79,16 @@ obj_type_fault x = form_fault forms.ObjType bad_word x
 -- the text is none of these words; white space round it is dropped
 abbrev pub word_fault : List Text → Text → Fault
 word_fault words x = first_of (text_fault x) (fault_if (not (among (trimmed x) words)) bad_word)
+
+abbrev pub operation_fault : Text → Fault
+operation_fault x = word_fault (map operation_text operation_values) x
+
+abbrev pub level_fault : Text → Fault
+level_fault x = word_fault (map level_text level_values) x
+
+-- the text is no field's name
+abbrev pub field_fault : Text → Fault
+field_fault x = first_of (text_fault x) (fault_if (not (among x (map name_of named_fields))) bad_word)
 
 -- A call that makes a value answers the fault where there is one. Else it answers a value, or that there was no memory.
 abbrev pub AnswersFault : {A : Type 0} → Fault → Result A FieldFault → Type 0
