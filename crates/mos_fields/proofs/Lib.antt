@@ -4,3 +4,5 @@ pub mod NameLemmas
 pub mod DecodeLemmas
 pub mod NumberLemmas
 pub mod WordLemmas
+pub mod TimeLemmas
+pub mod DateLemmas

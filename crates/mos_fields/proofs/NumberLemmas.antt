@@ -129,7 +129,7 @@ number_found k most x m h e =
     let small : number_in x < 2 ^ 64 = omega arith in
     (q.0, ap (λ b. only_if b (shortest_digits x)) test ∙ ap (λ y. Some y) (shortest_is_decimal x p.0 q.1 small ∙ ap decimal (sym q.0)), q.2)
 
-lost_step : (k most : ℕ) (x : Text) (b : Bool) → (leb 1 (length x) && leb (length x) k) ≡ b → number_value k most x ≡ None
+pub lost_step : (k most : ℕ) (x : Text) (b : Bool) → (leb 1 (length x) && leb (length x) k) ≡ b → number_value k most x ≡ None
     → (leb 1 (length x) && leb (length x) k && is_digits x && leb (number_in x) most) ≡ false
 lost_step k most x false e f = ap (λ b. b && is_digits x && leb (number_in x) most) e
 lost_step k most x true e f = ap (λ b. b && is_digits x && leb (number_in x) most) e ∙ value_not most 0 x (omega arith) (rw e at f)

@@ -9,5 +9,6 @@ pub mod Numbers
 pub mod Escapes
 pub mod Limits
 pub mod Zones
+pub mod Times
 pub mod Values
 pub mod Faults

@@ -24,6 +24,7 @@ mod scan;
 pub mod slug;
 pub mod text;
 pub mod time;
+mod time_reader;
 mod units;
 pub mod unread;
 
