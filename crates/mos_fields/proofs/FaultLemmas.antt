@@ -1,5 +1,5 @@
 -- Faults of texts.
-use Rattle.std.proofs.Common.{◌≡◌, ℕ, ◌+◌, Bool, true, false, cond, not, ◌≤◌, length, arith, List, [], ◌∷◌, refl, None, Some, Option}
+use Rattle.std.proofs.Common.{◌≡◌, ℕ, ◌+◌, Bool, true, false, cond, not, ◌≤◌, length, arith, List, [], ◌∷◌, Result, Ok, Err, subst, sym, refl, None, Some, Option}
 use Rattle.mos_fields.specs.Characters.{Text, is_allowed, are_allowed}
 use Rattle.std.proofs.lemmas.Bool.Decides.{nat_tests}
 use Rattle.mos_fields.specs.declared.fault.FieldFault.TheVariants.{BadWord as bad_word}
@@ -8,7 +8,7 @@ use Rattle.mos_fields.specs.declared.form.Form.{Form}
 use Rattle.mos_fields.specs.Forms.{reads}
 use Rattle.mos_fields.specs.Limits.{IsId}
 use Rattle.mos_fields.specs.Names.{is_name}
-use Rattle.mos_fields.specs.Faults.{Fault, bad_char_from, text_fault, form_fault, first_of, fault_if, length_fault, id_length_fault, id_fault, opt_id_fault, slug_fault, name_fault}
+use Rattle.mos_fields.specs.Faults.{Fault, AnswersOnlyFault, bad_char_from, text_fault, form_fault, first_of, fault_if, length_fault, id_length_fault, id_fault, opt_id_fault, slug_fault, name_fault}
 
 step : (c : ℕ) (k : ℕ) (x : Text) (b : Bool) → is_allowed c ≡ b → bad_char_from k (c ∷ x) ≡ None
     → (bad_char_from (k + 1) x ≡ None → are_allowed x ≡ true) → are_allowed (c ∷ x) ≡ true
@@ -73,3 +73,11 @@ named_if false e = absurd (cc)
 
 pub name_named : (x : Text) → name_fault x ≡ None → is_name x ≡ true
 name_named x e = named_if (is_name x) (neither _ _ (neither (text_fault x) _ e).1).1
+
+-- ---- answers
+
+pub answers_ok : {A : Type 0} (f : Fault) (v : A) → f ≡ None → AnswersOnlyFault f (Ok v)
+answers_ok {A} f v e = let P : Fault → Type 0 = λ g. AnswersOnlyFault {A = A} g (Ok v) in subst P (sym e) refl
+
+pub answers_err : (A : Type 0) (f : Fault) (g : FieldFault) → f ≡ Some g → AnswersOnlyFault {A = A} f (Err g)
+answers_err A f g e = let P : Fault → Type 0 = λ h. AnswersOnlyFault {A = A} h (Err g) in subst P (sym e) refl

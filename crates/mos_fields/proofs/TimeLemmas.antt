@@ -7,13 +7,33 @@ use Rattle.mos_fields.specs.declared.time.Zone.{Zone}
 use Rattle.mos_fields.specs.declared.time.Zone.TheVariants as zones
 use Rattle.std.proofs.lemmas.List.{take-append-drop}
 use Rattle.std.proofs.lemmas.Option.{MatchOption-at_some, MatchOption-at_none}
+use Rattle.std.proofs.lemmas.List.{take-append-drop}
+use Rattle.std.proofs.lemmas.Option.{MatchOption-at_some, MatchOption-at_none}
+use Rattle.std.proofs.lemmas.List.{take-append-drop}
+use Rattle.std.proofs.lemmas.Option.{MatchOption-at_some, MatchOption-at_none}
+use Rattle.std.proofs.lemmas.List.{take-append-drop}
+use Rattle.std.proofs.lemmas.Option.{MatchOption-at_some, MatchOption-at_none}
 use Rattle.mos_fields.specs.Fields.{same}
 use Rattle.mos_fields.specs.Limits.{is_hour_and_minute, is_day, is_time_of_day, are_millis}
+use Rattle.mos_fields.specs.declared.form.Form.TheVariants as forms
+use Rattle.mos_fields.specs.declared.fault.FieldFault.TheVariants.{BadTime as bad_time}
+use Rattle.mos_fields.specs.Faults.{text_fault, time_fault}
+use Rattle.mos_fields.proofs.FaultLemmas.{form_fine}
+use Rattle.mos_fields.specs.declared.form.Form.TheVariants as forms
+use Rattle.mos_fields.specs.declared.fault.FieldFault.TheVariants.{BadTime as bad_time}
+use Rattle.mos_fields.specs.Faults.{text_fault, time_fault}
+use Rattle.mos_fields.proofs.FaultLemmas.{form_fine}
+use Rattle.mos_fields.specs.declared.form.Form.TheVariants as forms
+use Rattle.mos_fields.specs.declared.fault.FieldFault.TheVariants.{BadTime as bad_time}
+use Rattle.mos_fields.specs.Faults.{text_fault, time_fault}
+use Rattle.mos_fields.proofs.FaultLemmas.{form_fine}
+use Rattle.mos_fields.specs.declared.time.MosTime.{MosTime}
+use Rattle.mos_fields.specs.TimesRead.{IsTimeRead}
 use Rattle.mos_fields.specs.Zones.{is_zone_of}
-use Rattle.mos_fields.specs.Times.{millis_of, zone_of}
+use Rattle.mos_fields.specs.Times.{millis_of, zone_of, begins_as_time}
 use Rattle.mos_fields.proofs.WordLemmas.{same_is}
 use Rattle.mos_fields.specs.Characters.{Text}
-use Rattle.mos_fields.specs.Forms.{is_empty, is_digit, is_digits, number_in, number_at, fits, is_zone, is_date, is_time, behind_thousandths}
+use Rattle.mos_fields.specs.Forms.{is_empty, is_digit, is_digits, number_in, number_at, fits, is_zone, is_date, is_time, behind_thousandths, trimmed, reads, only_if}
 use Rattle.mos_fields.specs.Numbers.{number_value, value_up_to}
 use Rattle.mos_fields.proofs.NumberLemmas.{value_is, lost_step, number_found}
 use Rattle.mos_fields.specs.Values.{two_digits, three_digits, four_digits, day_text, clock_text, millis_text, zone_text}
@@ -384,3 +404,79 @@ zone_found x z e = MatchOption-at_some (is_zone x ≡ false) (IsZoneRead x) z e 
 
 pub no_zone : (x : Text) → zone_of x ≡ None → is_zone x ≡ false
 no_zone x e = MatchOption-at_none (is_zone x ≡ false) (IsZoneRead x) e (zone_read x)
+
+-- ---- faults of times
+
+pub time_fine : (x : Text) (t : MosTime) → text_fault x ≡ None → IsTimeRead (trimmed x) t → time_fault x ≡ None
+unfolding reads
+time_fine x t e f = form_fine forms.Time bad_time x (trimmed x) e (ap (λ b. only_if b (trimmed x)) f.accepted)
+
+pub time_bad : (x : Text) → text_fault x ≡ None → is_time (trimmed x) ≡ false → time_fault x ≡ Some bad_time
+unfolding reads
+time_bad x e f = rw (e, f) refl
+
+-- ---- a text that begins as a time
+
+pub no_front : (x : Text) → begins_as_time x ≡ false → is_time x ≡ false
+unfolding begins_as_time
+no_front x e = time_lost x e
+
+pub front_is : (x : Text) → begins_as_time x ≡ true → fits (codes "0000-00-00T00:00:00") (take 19 x) ≡ true
+unfolding begins_as_time
+front_is x e = e
+
+pub front_length : (x : Text) → begins_as_time x ≡ true → 19 ≤ length x
+front_length x e = front_long x (front_is x e)
+
+day_tests : (a b z : Bool) → a ≡ false → (a && (b && z)) ≡ false
+day_tests a b z e = ap (λ t. t && (b && z)) e
+
+clock_tests : (a b z : Bool) → b ≡ false → (a && (b && z)) ≡ false
+clock_tests true b z e = ap (λ t. t && z) e
+clock_tests false b z e = refl
+
+zone_tests : (a b z : Bool) → z ≡ false → (a && (b && z)) ≡ false
+zone_tests true true z e = e
+zone_tests true false z e = refl
+zone_tests false b z e = refl
+
+same_day : {y m d y' m' d' : ℕ} → y ≡ y' → m ≡ m' → d ≡ d' → is_day y m d ≡ is_day y' m' d'
+same_day {y} {m} {d} {y'} {m'} {d'} p q r = ap (λ k. is_day k m d) p ∙ (ap (λ k. is_day y' k d) q ∙ ap (λ k. is_day y' m' k) r)
+
+same_clock : {h m s h' m' s' : ℕ} → h ≡ h' → m ≡ m' → s ≡ s' → is_time_of_day h m s ≡ is_time_of_day h' m' s'
+same_clock {h} {m} {s} {h'} {m'} {s'} p q r = ap (λ k. is_time_of_day k m s) p ∙ (ap (λ k. is_time_of_day h' k s) q ∙ ap (λ k. is_time_of_day h' m' k) r)
+
+-- a day that doesn't exist
+pub day_lost : (x : Text) (y m d : ℕ) → begins_as_time x ≡ true → y ≡ number_at 0 4 x → m ≡ number_at 5 2 x → d ≡ number_at 8 2 x → is_day y m d ≡ false → is_time x ≡ false
+day_lost x y m d e p q r f = time_is x (front_is x e) ∙ day_tests _ (is_time_of_day (number_at 11 2 x) (number_at 14 2 x) (number_at 17 2 x)) (is_zone (behind_thousandths (drop 19 x))) (sym (same_day p q r) ∙ f)
+
+-- a time of day that doesn't exist
+pub clock_lost : (x : Text) (h m s : ℕ) → begins_as_time x ≡ true → h ≡ number_at 11 2 x → m ≡ number_at 14 2 x → s ≡ number_at 17 2 x → is_time_of_day h m s ≡ false → is_time x ≡ false
+clock_lost x h m s e p q r f = time_is x (front_is x e) ∙ clock_tests (is_day (number_at 0 4 x) (number_at 5 2 x) (number_at 8 2 x)) _ (is_zone (behind_thousandths (drop 19 x))) (sym (same_clock p q r) ∙ f)
+
+-- no zone behind them
+pub zone_lost : (x : Text) → begins_as_time x ≡ true → zone_of (behind_thousandths (drop 19 x)) ≡ None → is_time x ≡ false
+zone_lost x e f = time_is x (front_is x e) ∙ zone_tests (is_day (number_at 0 4 x) (number_at 5 2 x) (number_at 8 2 x)) (is_time_of_day (number_at 11 2 x) (number_at 14 2 x) (number_at 17 2 x)) _ (no_zone (behind_thousandths (drop 19 x)) f)
+
+same_text : {y m d h n s y' m' d' h' n' s' : ℕ} {k k' : Option ℕ} (z : Zone) → y ≡ y' → m ≡ m' → d ≡ d' → h ≡ h' → n ≡ n' → s ≡ s' → k ≡ k'
+    → day_text y m d ++ 84 ∷ (clock_text h n s ++ (millis_text k ++ zone_text z)) ≡ day_text y' m' d' ++ 84 ∷ (clock_text h' n' s' ++ (millis_text k' ++ zone_text z))
+same_text {y} {m} {d} {h} {n} {s} {y'} {m'} {d'} {h'} {n'} {s'} {k} {k'} z p q r t u v w =
+    ap (λ i. day_text i m d ++ 84 ∷ (clock_text h n s ++ (millis_text k ++ zone_text z))) p ∙ (ap (λ i. day_text y' i d ++ 84 ∷ (clock_text h n s ++ (millis_text k ++ zone_text z))) q
+    ∙ (ap (λ i. day_text y' m' i ++ 84 ∷ (clock_text h n s ++ (millis_text k ++ zone_text z))) r ∙ (ap (λ i. day_text y' m' d' ++ 84 ∷ (clock_text i n s ++ (millis_text k ++ zone_text z))) t
+    ∙ (ap (λ i. day_text y' m' d' ++ 84 ∷ (clock_text h' i s ++ (millis_text k ++ zone_text z))) u ∙ (ap (λ i. day_text y' m' d' ++ 84 ∷ (clock_text h' n' i ++ (millis_text k ++ zone_text z))) v
+    ∙ ap (λ i. day_text y' m' d' ++ 84 ∷ (clock_text h' n' s' ++ (millis_text i ++ zone_text z))) w)))))
+
+-- day, time of day and zone are there
+pub time_written : (x : Text) (y m d h n s : ℕ) (k : Option ℕ) (z : Zone) → begins_as_time x ≡ true → y ≡ number_at 0 4 x → m ≡ number_at 5 2 x → d ≡ number_at 8 2 x
+    → h ≡ number_at 11 2 x → n ≡ number_at 14 2 x → s ≡ number_at 17 2 x → k ≡ millis_of (drop 19 x) → zone_of (behind_thousandths (drop 19 x)) ≡ Some z
+    → day_text y m d ++ 84 ∷ (clock_text h n s ++ (millis_text k ++ zone_text z)) ≡ x
+time_written x y m d h n s k z e p q r t u v w f = same_text z p q r t u v w ∙ time_back x z (front_is x e) (zone_found (behind_thousandths (drop 19 x)) z f).written
+
+both_tests : (a b z : Bool) → a ≡ true → b ≡ true → z ≡ true → (a && (b && z)) ≡ true
+both_tests a b z p q r = rw (p, q, r) refl
+
+pub time_accepted : (x : Text) (y m d h n s : ℕ) (z : Zone) → begins_as_time x ≡ true → y ≡ number_at 0 4 x → m ≡ number_at 5 2 x → d ≡ number_at 8 2 x
+    → h ≡ number_at 11 2 x → n ≡ number_at 14 2 x → s ≡ number_at 17 2 x → is_day y m d ≡ true → is_time_of_day h n s ≡ true → zone_of (behind_thousandths (drop 19 x)) ≡ Some z
+    → is_time x ≡ true
+time_accepted x y m d h n s z e p q r t u v i j f = time_is x (front_is x e)
+    ∙ both_tests _ _ _ (sym (same_day p q r) ∙ i) (sym (same_clock t u v) ∙ j) (zone_found (behind_thousandths (drop 19 x)) z f).accepted

@@ -1,5 +1,5 @@
 -- The reading of the parts of a time behind its seconds.
-use Rattle.std.specs.Prelude.{ℕ, cond, ◌&&◌, nat_le, take, Option, Some, None, codes}
+use Rattle.std.specs.Prelude.{ℕ, Bool, cond, ◌&&◌, nat_le, take, Option, Some, None, codes}
 use Rattle.mos_fields.specs.Characters.{Text}
 use Rattle.mos_fields.specs.Fields.{same}
 use Rattle.mos_fields.specs.Forms.{is_empty, fits, number_at}
@@ -19,3 +19,7 @@ distance_of zone x = cond (is_hour_and_minute (number_at 1 2 x) (number_at 4 2 x
 abbrev pub zone_of : Text → Option Zone
 zone_of x = cond (is_empty x) (Some zones.None) (cond (same x (codes "Z")) (Some zones.Z)
     (cond (fits (codes "+00:00") x) (distance_of zones.Plus x) (cond (fits (codes "-00:00") x) (distance_of zones.Minus x) None)))
+
+-- the text begins with a date and a time of day, which need not exist
+unfoldable pub begins_as_time : Text → Bool
+begins_as_time x = fits (codes "0000-00-00T00:00:00") (take 19 x)

@@ -3,6 +3,11 @@ ghost use Rattle.std.specs.Prelude.{◌≡◌, true};
 ghost use Rattle.mos_fields.specs.Limits.{are_millis, is_day, is_time_of_day};
 ghost use Rattle.mos_fields.specs.Zones.{is_zone_of};
 
+use crate::checks::find_text_fault;
+use crate::fault::{FieldFault, NoMemory};
+use crate::scan;
+use crate::time_reader::{behind_front, behind_millis, has_front, is_day as has_day, is_time_of_day as has_time, millis_of, part, zone_of};
+
 /// How far a time is from UTC.
 #[derive(Clone, Copy, Debug, PartialEq, Eq)]
 pub enum Zone {
@@ -38,4 +43,87 @@ pub struct MosTime {
     pub ghost time_exists: { is_time_of_day hour minute second ≡ true },
     pub ghost millis_exist: { are_millis millis ≡ true },
     pub ghost zone_exists: { is_zone_of zone ≡ true },
+}
+
+impl MosTime {
+    ghost use Rattle.std.specs.Prelude.{◌≡◌, ◌++◌, pos, true, false, Ok, None, IfOk, OnOk, OnErr, IfSome, IfNone, length, ◌≤◌};
+    ghost use Rattle.jiff.specs.Words.{IsYmd};
+    ghost use Rattle.mos_fields.specs.Faults.{AnswersOnlyFault, time_fault};
+    ghost use Rattle.mos_fields.specs.Forms.{is_time, trimmed};
+    ghost use Rattle.mos_fields.specs.TimesRead.{IsTimeRead};
+    ghost use Rattle.mos_fields.specs.Times.{begins_as_time};
+    ghost use Rattle.mos_fields.specs.Values.{time_text};
+
+    /// The time that these characters write: `YYYY-MM-DDThh:mm:ss`, then perhaps `,` and three digits, then perhaps
+    /// `Z`, `+hh:mm` or `-hh:mm`; white space round it is dropped.
+    ///
+    /// `BadChar` comes exactly at the first character that XML 1.0 forbids, else `BadTime` exactly where the text is no
+    /// time or no such day or time of day exists.
+    pub fn try_new(chars: &[char]) -> Result<Self, FieldFault>
+        ensures value { IfOk result (λ t. time_text t ≡ trimmed chars.now) }
+        ensures fault { AnswersOnlyFault (time_fault chars.now) result }
+    {
+        match find_text_fault(chars) {
+            Some(fault) => Err(fault),
+            None => match MosTime::read(scan::trimmed(chars)) {
+                Some(time) => Ok(time),
+                None => Err(FieldFault::BadTime),
+            },
+        }
+    }
+
+    /// The time that the characters are.
+    #[tactic(auto, using(crate::proofs::TimeLemmas::no_front, crate::proofs::TimeLemmas::front_length))]
+    fn read(chars: &[char]) -> Option<Self>
+        ensures found { IfSome result (IsTimeRead chars.now) }
+        ensures lost { IfNone result (is_time chars.now ≡ false) }
+    {
+        if has_front(chars) {
+            MosTime::read_behind_front(chars)
+        } else {
+            None
+        }
+    }
+
+    /// The time that the characters are, which begin as one.
+    fn read_behind_front(chars: &[char]) -> Option<Self>
+        requires front { begins_as_time chars.now ≡ true }
+        requires long { 19 ≤ length chars.now }
+        ensures found { IfSome result (IsTimeRead chars.now) }
+        ensures lost { IfNone result (is_time chars.now ≡ false) }
+    {
+        let year = part(chars, 0, 4, 9999);
+        let month = part(chars, 5, 2, 99);
+        let day = part(chars, 8, 2, 99);
+        let hour = part(chars, 11, 2, 99);
+        let minute = part(chars, 14, 2, 99);
+        let second = part(chars, 17, 2, 99);
+        if !has_day(year, month, day) {
+            return None;
+        }
+        if !has_time(hour, minute, second) {
+            return None;
+        }
+        let tail = behind_front(chars);
+        match zone_of(behind_millis(tail)) {
+            Some(zone) => Some(MosTime {
+                year,
+                month: month as u8,
+                day: day as u8,
+                hour: hour as u8,
+                minute: minute as u8,
+                second: second as u8,
+                millis: millis_of(tail),
+                zone,
+            }),
+            None => None,
+        }
+    }
+
+    /// The same time again.
+    pub fn try_clone(&self) -> Result<Self, NoMemory>
+        ensures { result ≡ Ok self.now }
+    {
+        Ok(*self)
+    }
 }
