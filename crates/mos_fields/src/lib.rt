@@ -25,6 +25,7 @@ pub mod slug;
 pub mod text;
 pub mod time;
 mod time_reader;
+mod time_writer;
 mod units;
 pub mod unread;
 

@@ -3,9 +3,12 @@ ghost use Rattle.std.specs.Prelude.{◌≡◌, true};
 ghost use Rattle.mos_fields.specs.Limits.{are_millis, is_day, is_time_of_day};
 ghost use Rattle.mos_fields.specs.Zones.{is_zone_of};
 
+use jiff::civil::Date;
+
 use crate::checks::find_text_fault;
 use crate::fault::{FieldFault, NoMemory};
 use crate::scan;
+use crate::time_writer::{push_clock, push_day, push_millis, push_zone};
 use crate::time_reader::{behind_front, behind_millis, has_front, is_day as has_day, is_time_of_day as has_time, millis_of, part, zone_of};
 
 /// How far a time is from UTC.
@@ -46,7 +49,7 @@ pub struct MosTime {
 }
 
 impl MosTime {
-    ghost use Rattle.std.specs.Prelude.{◌≡◌, ◌++◌, pos, true, false, Ok, None, IfOk, OnOk, OnErr, IfSome, IfNone, length, ◌≤◌};
+    ghost use Rattle.std.specs.Prelude.{◌≡◌, ◌++◌, pos, true, false, Ok, None, IfOk, OnOk, OnErr, IfSome, IfNone, length, take, ◌≤◌};
     ghost use Rattle.jiff.specs.Words.{IsYmd};
     ghost use Rattle.mos_fields.specs.Faults.{AnswersOnlyFault, time_fault};
     ghost use Rattle.mos_fields.specs.Forms.{is_time, trimmed};
@@ -118,6 +121,42 @@ impl MosTime {
             }),
             None => None,
         }
+    }
+
+    /// The day as a date of `jiff`.
+    pub fn date(&self) -> Date
+        ensures { IsYmd (pos (self.now).year) (pos (self.now).month) (pos (self.now).day) result }
+    {
+        jiff::civil::date(self.year as i16, self.month as i8, self.day as i8)
+    }
+
+    /// Appends the canonical text; without memory nothing is appended.
+    pub fn push_to(&self, out: &mut Vec<char>) -> Result<(), NoMemory>
+        ensures ok { OnOk result (out.new.items ≡ out.old.items ++ time_text self.now) }
+        ensures err { OnErr result (out.new.items ≡ out.old.items) }
+    {
+        let before = out.len();
+        match self.append_to(out) {
+            Ok(()) => Ok(()),
+            Err(fault) => {
+                out.truncate(before);
+                Err(fault)
+            }
+        }
+    }
+
+    /// Appends the canonical text.
+    #[tactic(auto, using(crate::proofs::AppendLemmas::front_of, crate::proofs::AppendLemmas::front_of_two, crate::proofs::AppendLemmas::front_of_three, crate::proofs::AppendLemmas::front_of_four, crate::proofs::AppendLemmas::front_of_five, crate::proofs::AppendLemmas::five_parts))]
+    fn append_to(&self, out: &mut Vec<char>) -> Result<(), NoMemory>
+        ensures ok { OnOk result (out.new.items ≡ out.old.items ++ time_text self.now) }
+        ensures front { take (length out.old.items) out.new.items ≡ out.old.items }
+    {
+        push_day(self.year, self.month, self.day, out)?;
+        out.push('T')?;
+        push_clock(self.hour, self.minute, self.second, out)?;
+        push_millis(self.millis, out)?;
+        push_zone(self.zone, out)?;
+        Ok(())
     }
 
     /// The same time again.
