@@ -64,8 +64,15 @@ pub fn pair(first: u16, second: u16) -> char
     char::from_u32(code).unwrap()
 }
 
+/// Whether the unit by itself is a character that XML 1.0 allows.
+pub fn is_allowed_unit(unit: u16) -> bool
+    ensures { result ≡ allowed unit }
+{
+    matches!(unit, 0x9 | 0xA | 0xD | 0x20..=0xD7FF | 0xE000..=0xFFFD)
+}
+
 /// The character of a unit that stands alone.
-fn lone(unit: u16) -> char
+pub fn lone(unit: u16) -> char
     requires { allowed unit ≡ true }
     ensures { result ≡ unit }
 {
