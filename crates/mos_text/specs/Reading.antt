@@ -1,5 +1,5 @@
 -- Reading bytes as characters, in any pieces.
-use Rattle.std.specs.Prelude.{◌≡◌, ℕ, Bool, true, cond, List, [], ◌∷◌, ◌++◌, Option, Some, None, Result, Ok, Err, ◌+◌, ◌-◌, ◌*◌}
+use Rattle.std.specs.Prelude.{◌≡◌, ℕ, Bool, true, false, ◌&&◌, cond, List, [], ◌∷◌, ◌++◌, Option, Some, None, Result, Ok, Err, ◌+◌, ◌-◌, ◌*◌}
 use Rattle.mos_fields.specs.Characters.{Text, is_allowed, is_high, is_low, pair_char}
 use Rattle.mos_text.specs.declared.fault.TextFault.{TextFault}
 use Rattle.mos_text.specs.declared.fault.TextFault.TheVariants.{BadUnit as bad_unit, BadChar as bad_char, NoMemory as out_of_memory}
@@ -14,8 +14,15 @@ abbrev pub waits_high : Option ℕ → Bool
 waits_high None = true
 waits_high (Some h) = is_high h
 
+-- what is kept as a fault is one of the bytes
+abbrev pub is_of_bytes : Option TextFault → Bool
+is_of_bytes None = true
+is_of_bytes (Some out_of_memory) = false
+is_of_bytes (Some (bad_unit k)) = true
+is_of_bytes (Some (bad_char k)) = true
+
 abbrev pub is_reading : Reading → Bool
-is_reading r = waits_high r.high
+is_reading r = waits_high r.high && is_of_bytes r.fault
 
 -- A further code unit. It may be a character by itself, the first of a pair, which waits for the second, or that second
 -- one. A second one alone, and a first one behind which none comes, belong to no character. After a fault units are
@@ -58,6 +65,11 @@ byte_char r b = byte_char_at r.odd r b
 abbrev pub before : Option ℕ → Text → Text
 before None x = x
 before (Some c) x = c ∷ x
+
+-- a character behind others, where there is one
+abbrev pub joined : Text → Option ℕ → Text
+joined x None = x
+joined x (Some c) = x ++ c ∷ []
 
 -- where the reading is behind a piece
 unfoldable pub after : Reading → List ℕ → Reading

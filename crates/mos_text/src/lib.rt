@@ -2,12 +2,14 @@
 #![tactic(auto)]
 
 pub mod fault;
+pub mod push;
 pub mod reader;
 pub mod reading;
 mod steps;
 pub mod units;
 
 pub use fault::{NoMemory, TextFault};
+pub use push::push_text;
 pub use reader::UnitReader;
 pub use reading::Reading;
 pub use units::units_of;

@@ -1,6 +1,6 @@
 //! Reading characters as their bytes come.
-ghost use Rattle.std.specs.Prelude.{◌≡◌, ◌<◌, ◌^◌, ◌++◌, true, IfOk, OnOk, take, length};
-ghost use Rattle.mos_text.specs.Reading.{FeedAnswers, after, gained, is_reading, start};
+ghost use Rattle.std.specs.Prelude.{◌≡◌, ◌<◌, ◌^◌, ◌++◌, true, Err, None, IsOk, IfOk, OnOk, OnErr, MatchOption, take, length};
+ghost use Rattle.mos_text.specs.Reading.{FeedAnswers, after, byte_char, byte_step as behind_byte, gained, is_reading, joined, start};
 
 use std::marker::Model;
 
@@ -61,10 +61,7 @@ impl UnitReader {
         match read(self.reading, piece, out) {
             Ok(reading) => {
                 self.reading = reading;
-                match reading.fault {
-                    None => Ok(()),
-                    Some(fault) => Err(fault),
-                }
+                answer(reading.fault)
             }
             Err(_fault) => {
                 out.truncate(before);
@@ -74,20 +71,48 @@ impl UnitReader {
     }
 }
 
+/// Reads on by one byte, and appends the character that it completes.
+#[tactic(auto, using(crate::proofs::ReadingLemmas::waits_of, crate::proofs::ReadingLemmas::no_fault_of))]
+fn take_byte(state: &mut Reading, byte: u8, out: &mut Vec<char>) -> Result<(), NoMemory>
+    requires reading { is_reading state.old ≡ true }
+    requires place { (behind_byte state.old byte).place < 2 ^ 64 }
+    ensures after { state.new ≡ behind_byte state.old byte }
+    ensures chars { OnOk result (out.new.items ≡ joined out.old.items (byte_char state.old byte)) }
+    ensures err { OnErr result (out.new.items ≡ out.old.items) }
+    ensures faultless { OnErr result ((state.old).fault ≡ None) }
+{
+    match byte_step(state, byte) {
+        None => Ok(()),
+        Some(c) => {
+            out.push(c)?;
+            Ok(())
+        }
+    }
+}
+
 /// Reads on by a piece, and appends the characters that it completes.
-#[tactic(auto, using(crate::proofs::ReadingLemmas::after_byte, crate::proofs::ReadingLemmas::gained_byte, crate::proofs::ReadingLemmas::reading_behind, crate::proofs::ReadingLemmas::place_behind))]
 fn read(reading: Reading, piece: &[u8], out: &mut Vec<char>) -> Result<Reading, NoMemory>
     requires reading { is_reading reading ≡ true }
     requires place { (after reading piece.now).place < 2 ^ 64 }
     ensures after { IfOk result (λ t. t ≡ after reading piece.now) }
+    ensures reading { IfOk result (λ t. is_reading t ≡ true) }
     ensures chars { OnOk result (out.new.items ≡ out.old.items ++ gained reading piece.now) }
     ensures front { take (length out.old.items) out.new.items ≡ out.old.items }
+    ensures faultless { OnErr result (reading.fault ≡ None) }
 {
     let mut state = reading;
     for &byte in piece {
-        if let Some(c) = byte_step(&mut state, byte) {
-            out.push(c)?;
-        }
+        take_byte(&mut state, byte, out)?;
     }
     Ok(state)
+}
+
+/// What a call answers where the reading has this fault.
+fn answer(fault: Option<TextFault>) -> Result<(), TextFault>
+    ensures { MatchOption fault (IsOk result) (λ f. result ≡ Err f) }
+{
+    match fault {
+        None => Ok(()),
+        Some(fault) => Err(fault),
+    }
 }

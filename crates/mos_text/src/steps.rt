@@ -1,7 +1,7 @@
 //! The steps of the reading of characters.
 ghost use Rattle.std.specs.Prelude.{◌≡◌, ◌+◌, ◌<◌, ◌^◌, true, Some, None};
 ghost use Rattle.mos_fields.specs.Characters.{is_high as high, is_allowed as allowed};
-ghost use Rattle.mos_text.specs.Reading.{byte_char, byte_step as behind_byte, char_at, fault_at, high_after, is_reading, unit_step as behind_unit};
+ghost use Rattle.mos_text.specs.Reading.{byte_char, byte_step as behind_byte, char_at, fault_at, high_after, waits_high};
 
 use mos_fields::{is_allowed_unit, is_high, is_low, lone, pair};
 
@@ -68,7 +68,7 @@ fn further_unit(waiting: Option<u16>, fault: TextFault, unit: u16) -> Found
 
 /// A further unit.
 fn unit_found(reading: &Reading, unit: u16) -> Found
-    requires { is_reading reading.now ≡ true }
+    requires { waits_high (reading.now).high ≡ true }
     ensures high { result.high ≡ high_after (reading.now).high unit }
     ensures fault { result.fault ≡ fault_at (reading.now).fault (reading.now).high (reading.now).place unit }
     ensures character { result.character ≡ char_at (reading.now).fault (reading.now).high unit }
@@ -84,8 +84,8 @@ fn unit_found(reading: &Reading, unit: u16) -> Found
 
 /// Goes on by one byte, and gives the character that it completes.
 pub fn byte_step(reading: &mut Reading, byte: u8) -> Option<char>
-    requires reading { is_reading reading.old ≡ true }
-    requires place { (reading.old).place + 1 < 2 ^ 64 }
+    requires reading { waits_high (reading.old).high ≡ true }
+    requires place { (behind_byte reading.old byte).place < 2 ^ 64 }
     ensures after { reading.new ≡ behind_byte reading.old byte }
     ensures character { result ≡ byte_char reading.old byte }
 {

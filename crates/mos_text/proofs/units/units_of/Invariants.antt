@@ -1,9 +1,9 @@
-use Rattle.std.proofs.Common.{◌≡◌, ◌++◌, length}
+use Rattle.std.proofs.Common.{◌≡◌, ◌++◌, ◌-◌, ◌≤◌, length, drop}
 use Rattle.mos_fields.specs.Characters.{units_in}
 use Rattle.mos_text.proofs.units.units_of.Given as goal
 
-abbrev pub invariant-loop-rest : goal.invariant-loop-rest
-invariant-loop-rest l = l.units.items ++ units_in l.rest ≡ units_in l.bytes
+abbrev pub invariant-loop-place : goal.invariant-loop-place
+invariant-loop-place l = (l.units.items ++ units_in (drop l.place l.bytes) ≡ units_in l.bytes) × (l.place ≤ length l.bytes)
 
-abbrev pub decreases-loop-rest : goal.decreases-loop-rest
-decreases-loop-rest l = length l.rest
+abbrev pub decreases-loop-place : goal.decreases-loop-place
+decreases-loop-place l = length l.bytes - l.place
