@@ -7,3 +7,4 @@ pub mod WordLemmas
 pub mod TimeLemmas
 pub mod DateLemmas
 pub mod AppendLemmas
+pub mod OrderLemmas

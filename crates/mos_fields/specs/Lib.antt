@@ -1,5 +1,6 @@
 pub mod Characters
 pub mod Units
+pub mod Order
 pub mod Fields
 pub mod Names
 pub mod References

@@ -1,5 +1,8 @@
 //! Identifiers.
-ghost use Rattle.std.specs.Prelude.{◌≡◌, ◌++◌, OnOk, OnErr, ℕ, List, IfOk};
+ghost use Rattle.std.specs.Prelude.{◌≡◌, ◌++◌, OnOk, OnErr, ℕ, List, IfOk, ◌==◌, ◌↔◌, IsTrue};
+ghost use Rattle.std.specs.Cmp.{partial_equiv_from_equiv};
+ghost use Rattle.std.specs.Cmp.Lexicographic.{pointwise};
+ghost use Rattle.std.proofs.lemmas.Cmp.{nat_list_eq_equiv};
 ghost use Rattle.mos_fields.specs.Faults.{AnswersFault, AnswersOnlyFault, id_fault, id_length_fault};
 ghost use Rattle.mos_fields.specs.Characters.{units_of};
 ghost use Rattle.mos_fields.specs.Limits.{IsId};
@@ -94,5 +97,29 @@ impl Id {
         Ok(Id {
             text: self.text.try_clone()?,
         })
+    }
+}
+
+impl PartialEq for Id {
+    ghost eq = { pointwise ◌==◌ };
+
+    ghost laws = { partial_equiv_from_equiv nat_list_eq_equiv };
+
+    fn eq(&self, other: &Self) -> bool {
+        self.text == other.text
+    }
+}
+
+impl Eq for Id {
+    ghost laws = { nat_list_eq_equiv };
+}
+
+impl Id {
+    /// Whether both are the same characters.
+    #[tactic(auto, using(crate::proofs::OrderLemmas::decided))]
+    pub fn is(&self, other: &Self) -> bool
+        ensures { IsTrue result ↔ (self.now ≡ other.now) }
+    {
+        self == other
     }
 }

@@ -7,6 +7,7 @@
 pub mod air;
 mod append;
 mod checks;
+mod compare;
 pub mod fault;
 pub mod field;
 pub mod form;

@@ -1,5 +1,8 @@
 //! Identifiers that may be empty.
-ghost use Rattle.std.specs.Prelude.{◌≡◌, ◌++◌, OnOk, OnErr, ◌≤◌, ℕ, List, IfOk, length};
+ghost use Rattle.std.specs.Prelude.{◌≡◌, ◌++◌, OnOk, OnErr, ◌≤◌, ℕ, List, IfOk, length, ◌==◌, ◌↔◌, IsTrue};
+ghost use Rattle.std.specs.Cmp.{partial_equiv_from_equiv};
+ghost use Rattle.std.specs.Cmp.Lexicographic.{pointwise};
+ghost use Rattle.std.proofs.lemmas.Cmp.{nat_list_eq_equiv};
 ghost use Rattle.mos_fields.specs.Faults.{AnswersFault, AnswersOnlyFault, opt_id_fault, length_fault};
 ghost use Rattle.mos_fields.specs.Characters.{units_of};
 ghost use Rattle.mos_fields.specs.Limits.{id_limit};
@@ -93,5 +96,29 @@ impl OptId {
         Ok(OptId {
             text: self.text.try_clone()?,
         })
+    }
+}
+
+impl PartialEq for OptId {
+    ghost eq = { pointwise ◌==◌ };
+
+    ghost laws = { partial_equiv_from_equiv nat_list_eq_equiv };
+
+    fn eq(&self, other: &Self) -> bool {
+        self.text == other.text
+    }
+}
+
+impl Eq for OptId {
+    ghost laws = { nat_list_eq_equiv };
+}
+
+impl OptId {
+    /// Whether both are the same characters.
+    #[tactic(auto, using(crate::proofs::OrderLemmas::decided))]
+    pub fn is(&self, other: &Self) -> bool
+        ensures { IsTrue result ↔ (self.now ≡ other.now) }
+    {
+        self == other
     }
 }

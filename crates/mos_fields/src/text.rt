@@ -1,9 +1,13 @@
 //! Texts.
-ghost use Rattle.std.specs.Prelude.{◌≡◌, ◌++◌, OnOk, OnErr, ℕ, List, [], true, IfOk, length, ◌==◌};
+ghost use Rattle.std.specs.Prelude.{◌≡◌, ◌++◌, OnOk, OnErr, ℕ, List, [], true, IfOk, length, ◌==◌, ◌↔◌, IsTrue};
+ghost use Rattle.std.specs.Cmp.{partial_equiv_from_equiv};
+ghost use Rattle.std.specs.Cmp.Lexicographic.{pointwise};
+ghost use Rattle.std.proofs.lemmas.Cmp.{nat_list_eq_equiv};
 ghost use Rattle.mos_fields.specs.Faults.{AnswersFault, text_fault};
 ghost use Rattle.mos_fields.specs.Characters.{IsUtf16, are_allowed, chars_of, units_of};
 
 use crate::checks::find_text_fault;
+use crate::compare::are_same;
 use crate::fault::{FieldFault, NoMemory};
 use crate::units::{count_chars, encoded, push_chars};
 use std::alloc::Global;
@@ -108,5 +112,30 @@ impl Text {
         Ok(Text {
             units: self.units.clone()?,
         })
+    }
+}
+
+impl PartialEq for Text {
+    ghost eq = { pointwise ◌==◌ };
+
+    ghost laws = { partial_equiv_from_equiv nat_list_eq_equiv };
+
+    #[tactic(auto, using(crate::proofs::OrderLemmas::same_by_units))]
+    fn eq(&self, other: &Self) -> bool {
+        are_same(self.units(), other.units())
+    }
+}
+
+impl Eq for Text {
+    ghost laws = { nat_list_eq_equiv };
+}
+
+impl Text {
+    /// Whether both are the same characters.
+    #[tactic(auto, using(crate::proofs::OrderLemmas::decided))]
+    pub fn is(&self, other: &Self) -> bool
+        ensures { IsTrue result ↔ (self.now ≡ other.now) }
+    {
+        self == other
     }
 }
