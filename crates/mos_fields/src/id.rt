@@ -1,8 +1,11 @@
 //! Identifiers.
 ghost use Rattle.std.specs.Prelude.{◌≡◌, ◌++◌, OnOk, OnErr, ℕ, List, IfOk, ◌==◌, ◌↔◌, IsTrue};
-ghost use Rattle.std.specs.Cmp.{partial_equiv_from_equiv};
-ghost use Rattle.std.specs.Cmp.Lexicographic.{pointwise};
-ghost use Rattle.std.proofs.lemmas.Cmp.{nat_list_eq_equiv};
+ghost use Rattle.std.specs.Ordering.{as_partial_cmp, nat_cmp};
+ghost use Rattle.std.proofs.Common.{refl, sym};
+ghost use Rattle.std.proofs.lemmas.Map.Text.{is_eq-slice_cmp};
+ghost use Rattle.std.specs.Cmp.{partial_equiv_from_equiv, partial_order_from_agreeing_total};
+ghost use Rattle.std.specs.Cmp.Lexicographic.{pointwise, slice_cmp};
+ghost use Rattle.std.proofs.lemmas.Cmp.{nat_list_cmp_total, nat_list_eq_equiv};
 ghost use Rattle.mos_fields.specs.Faults.{AnswersFault, AnswersOnlyFault, id_fault, id_length_fault};
 ghost use Rattle.mos_fields.specs.Characters.{units_of};
 ghost use Rattle.mos_fields.specs.Limits.{IsId};
@@ -11,6 +14,7 @@ use crate::checks::{find_id_fault, find_id_length_fault};
 use crate::fault::{FieldFault, NoMemory};
 use crate::text::Text;
 use std::alloc::Global;
+use std::cmp::Ordering;
 use std::marker::Model;
 
 /// An identifier, as of a running order, a story, an item or a device: 1 to 128 characters.
@@ -121,5 +125,30 @@ impl Id {
         ensures { IsTrue result ↔ (self.now ≡ other.now) }
     {
         self == other
+    }
+}
+
+/// Texts are in order character by character.
+impl Ord for Id {
+    ghost cmp = { slice_cmp nat_cmp };
+
+    ghost total = { nat_list_cmp_total };
+
+    ghost matches_partial_cmp = { λ x y. refl };
+
+    ghost matches_eq = { λ x y. sym (is_eq-slice_cmp x y) };
+
+    fn cmp(&self, other: &Self) -> Ordering {
+        self.text.cmp(&other.text)
+    }
+}
+
+impl PartialOrd for Id {
+    ghost partial_cmp = { as_partial_cmp (slice_cmp nat_cmp) };
+
+    ghost laws = { partial_order_from_agreeing_total (slice_cmp nat_cmp) nat_list_cmp_total (λ x y. refl) (λ x y. sym (is_eq-slice_cmp x y)) };
+
+    fn partial_cmp(&self, other: &Self) -> Option<Ordering> {
+        Some(self.cmp(other))
     }
 }

@@ -1,16 +1,20 @@
 //! Texts.
 ghost use Rattle.std.specs.Prelude.{◌≡◌, ◌++◌, OnOk, OnErr, ℕ, List, [], true, IfOk, length, ◌==◌, ◌↔◌, IsTrue};
-ghost use Rattle.std.specs.Cmp.{partial_equiv_from_equiv};
-ghost use Rattle.std.specs.Cmp.Lexicographic.{pointwise};
-ghost use Rattle.std.proofs.lemmas.Cmp.{nat_list_eq_equiv};
+ghost use Rattle.std.specs.Ordering.{as_partial_cmp, nat_cmp};
+ghost use Rattle.std.proofs.Common.{refl, sym};
+ghost use Rattle.std.proofs.lemmas.Map.Text.{is_eq-slice_cmp};
+ghost use Rattle.std.specs.Cmp.{partial_equiv_from_equiv, partial_order_from_agreeing_total};
+ghost use Rattle.std.specs.Cmp.Lexicographic.{pointwise, slice_cmp};
+ghost use Rattle.std.proofs.lemmas.Cmp.{nat_list_cmp_total, nat_list_eq_equiv};
 ghost use Rattle.mos_fields.specs.Faults.{AnswersFault, text_fault};
 ghost use Rattle.mos_fields.specs.Characters.{IsUtf16, are_allowed, chars_of, units_of};
 
 use crate::checks::find_text_fault;
-use crate::compare::are_same;
+use crate::compare::{are_same, compare_units};
 use crate::fault::{FieldFault, NoMemory};
 use crate::units::{count_chars, encoded, push_chars};
 use std::alloc::Global;
+use std::cmp::Ordering;
 use std::marker::Model;
 
 /// A list of characters that XML 1.0 allows.
@@ -137,5 +141,31 @@ impl Text {
         ensures { IsTrue result ↔ (self.now ≡ other.now) }
     {
         self == other
+    }
+}
+
+/// Texts are in order character by character.
+impl Ord for Text {
+    ghost cmp = { slice_cmp nat_cmp };
+
+    ghost total = { nat_list_cmp_total };
+
+    ghost matches_partial_cmp = { λ x y. refl };
+
+    ghost matches_eq = { λ x y. sym (is_eq-slice_cmp x y) };
+
+    #[tactic(auto, using(crate::proofs::OrderLemmas::order_by_units))]
+    fn cmp(&self, other: &Self) -> Ordering {
+        compare_units(self.units(), other.units())
+    }
+}
+
+impl PartialOrd for Text {
+    ghost partial_cmp = { as_partial_cmp (slice_cmp nat_cmp) };
+
+    ghost laws = { partial_order_from_agreeing_total (slice_cmp nat_cmp) nat_list_cmp_total (λ x y. refl) (λ x y. sym (is_eq-slice_cmp x y)) };
+
+    fn partial_cmp(&self, other: &Self) -> Option<Ordering> {
+        Some(self.cmp(other))
     }
 }
