@@ -73,7 +73,8 @@ impl Id {
 
     /// The text, out of the value.
     pub fn into_text(self) -> Text
-        ensures { result ≡ self }
+        ensures value { result ≡ self }
+        ensures sized { IsId result }
     {
         self.text
     }

@@ -50,3 +50,6 @@ pub use text::Text;
 pub use time::{MosTime, Zone};
 pub use units::{is_allowed_unit, is_high, is_low, lone, pair};
 pub use unread::Unread;
+
+#[cfg(test)]
+mod tests;

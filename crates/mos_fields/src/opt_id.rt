@@ -10,8 +10,9 @@ ghost use Rattle.mos_fields.specs.Faults.{AnswersFault, AnswersOnlyFault, opt_id
 ghost use Rattle.mos_fields.specs.Characters.{units_of};
 ghost use Rattle.mos_fields.specs.Limits.{id_limit};
 
-use crate::checks::{find_opt_id_fault, ID_LIMIT, find_length_fault};
+use crate::checks::{ID_LIMIT, find_length_fault, find_opt_id_fault};
 use crate::fault::{FieldFault, NoMemory};
+use crate::id::Id;
 use crate::text::Text;
 use std::alloc::Global;
 use std::cmp::Ordering;
@@ -60,6 +61,14 @@ impl OptId {
             Some(fault) => Err(fault),
             None => Ok(OptId { text }),
         }
+    }
+
+    /// The same identifier, as one that may be empty.
+    pub fn from_id(id: Id) -> Self
+        ensures { result ≡ id }
+    {
+        let text = id.into_text();
+        OptId { text }
     }
 
     /// The text.

@@ -7,7 +7,7 @@ ghost use Rattle.mos_fields.specs.Faults.{AnswersFault, AnswersOnlyFault, slug_f
 ghost use Rattle.mos_fields.specs.Characters.{units_of};
 ghost use Rattle.mos_fields.specs.Limits.{slug_limit};
 
-use crate::checks::{find_slug_fault, SLUG_LIMIT, find_length_fault};
+use crate::checks::{SLUG_LIMIT, find_length_fault, find_slug_fault};
 use crate::fault::{FieldFault, NoMemory};
 use crate::text::Text;
 use std::alloc::Global;

@@ -5,10 +5,9 @@ ghost use Rattle.mos_fields.specs.Limits.{are_millis, is_day as day_exists, is_t
 ghost use Rattle.mos_fields.specs.Numbers.{number_value};
 ghost use Rattle.mos_fields.specs.Times.{begins_as_time, millis_of as millis, zone_of as zone};
 
-use jiff::civil::Date;
-
 use crate::scan::{is_digit, is_word, number};
 use crate::time::Zone;
+use jiff::civil::Date;
 
 /// Whether the characters are the pattern with any digits for its zeros.
 pub fn fits(pattern: &[u8], chars: &[char]) -> bool
@@ -107,7 +106,10 @@ pub fn zone_of(chars: &[char]) -> Option<Zone>
         let h = part(chars, 1, 2, 99);
         let m = part(chars, 4, 2, 99);
         if h <= 23 && m <= 59 {
-            Some(Zone::Plus { h: h as u8, m: m as u8 })
+            Some(Zone::Plus {
+                h: h as u8,
+                m: m as u8,
+            })
         } else {
             None
         }
@@ -115,7 +117,10 @@ pub fn zone_of(chars: &[char]) -> Option<Zone>
         let h = part(chars, 1, 2, 99);
         let m = part(chars, 4, 2, 99);
         if h <= 23 && m <= 59 {
-            Some(Zone::Minus { h: h as u8, m: m as u8 })
+            Some(Zone::Minus {
+                h: h as u8,
+                m: m as u8,
+            })
         } else {
             None
         }

@@ -26,6 +26,14 @@ impl Model for Unread {
 }
 
 impl Unread {
+    /// The value of a text that is the raw text of one element.
+    pub fn from_raw(text: Text) -> Self
+        requires { IsRawElement text }
+        ensures { result ≡ text }
+    {
+        Unread { text }
+    }
+
     /// The text.
     pub fn text(&self) -> &Text
         ensures value { result.now ≡ self.now }

@@ -164,7 +164,7 @@ reads_one k c bs e h =
       count = 1;
       counted = sym (ap length (one_unit c h));
       state = ap (after (rest k None None)) bytes ∙ (after_unit k None None c bs ∙ ap (λ r. after r bs) (lone_after k c e));
-      chars = ap (gained (rest k None None)) bytes ∙ (gained_unit k None None c bs ∙ (ap (λ o. before o (gained (rest (k + 1) (high_after None c) (fault_at None None k c)) bs)) (lone_char c e) ∙ ap (λ r. c ∷ gained r bs) (lone_after k c e)))
+      chars = ap (gained (rest k None None)) bytes ∙ (gained_unit k None None c bs ∙ (ap (λ o. before o (gained (rest (k + 1) (high_after None c) (fault_at None None k c)) bs)) (lone_char c e) ∙ ap (λ r. c ∷ gained r bs) (lone_after k c e)));
     }
 
 pair_first : (k u : ℕ) → is_high u ≡ true → rest (k + 1) (high_after None u) (fault_at None None k u) ≡ rest (k + 1) (Some u) None
@@ -191,19 +191,19 @@ reads_two k c bs h i =
       count = 2;
       counted = sym (ap length (two_units c h));
       state = ap (after (rest k None None)) bytes ∙ (after_unit k None None first (unit_bytes second ++ bs) ∙ (ap (λ r. after r (unit_bytes second ++ bs)) (pair_first k first one)
-        ∙ (after_unit (k + 1) (Some first) None second bs ∙ ap (λ r. after r bs) (pair_second k first second two))));
+          ∙ (after_unit (k + 1) (Some first) None second bs ∙ ap (λ r. after r bs) (pair_second k first second two))));
       chars = ap (gained (rest k None None)) bytes ∙ (gained_unit k None None first (unit_bytes second ++ bs) ∙ (ap (λ o. before o (gained (rest (k + 1) (high_after None first) (fault_at None None k first)) (unit_bytes second ++ bs))) (no_char first one)
-        ∙ (ap (λ r. gained r (unit_bytes second ++ bs)) (pair_first k first one) ∙ (gained_unit (k + 1) (Some first) None second bs ∙ (ap (λ o. before o (gained (rest (k + 1 + 1) (high_after (Some first) second) (fault_at None (Some first) (k + 1) second)) bs)) (pair_told first second two)
-        ∙ (ap (λ r. pair_char first second ∷ gained r bs) (pair_second k first second two) ∙ ap (λ d. d ∷ gained (rest (k + 2) None None) bs) (pair_of c h)))))))
+          ∙ (ap (λ r. gained r (unit_bytes second ++ bs)) (pair_first k first one) ∙ (gained_unit (k + 1) (Some first) None second bs ∙ (ap (λ o. before o (gained (rest (k + 1 + 1) (high_after (Some first) second) (fault_at None (Some first) (k + 1) second)) bs)) (pair_told first second two)
+          ∙ (ap (λ r. pair_char first second ∷ gained r bs) (pair_second k first second two) ∙ ap (λ d. d ∷ gained (rest (k + 2) None None) bs) (pair_of c h)))))));
     }
 
 reads_char : (k c : ℕ) (bs : List ℕ) → is_allowed c ≡ true → Reads k c bs
 reads_char k c bs e = go (allowed_cases c e)
   where
-  go : ((9 ≤ c) × (c < 55296)) ⊎ (((57344 ≤ c) × (c < 65534)) ⊎ ((65536 ≤ c) × (c < 1114112))) → Reads k c bs
-  go (inl p) = reads_one k c bs e (omega arith)
-  go (inr (inl p)) = reads_one k c bs e (omega arith)
-  go (inr (inr p)) = reads_two k c bs p.0 p.1
+    go : ((9 ≤ c) × (c < 55296)) ⊎ (((57344 ≤ c) × (c < 65534)) ⊎ ((65536 ≤ c) × (c < 1114112))) → Reads k c bs
+    go (inl p) = reads_one k c bs e (omega arith)
+    go (inr (inl p)) = reads_one k c bs e (omega arith)
+    go (inr (inr p)) = reads_two k c bs p.0 p.1
 
 split_bytes : (c : ℕ) (x : Text) → bytes_of (units_of (c ∷ x)) ≡ bytes_of (encode_utf16 c) ++ bytes_of (units_of x)
 split_bytes c x = flat_map-append unit_bytes (encode_utf16 c) (units_of x)

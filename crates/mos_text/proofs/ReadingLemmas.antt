@@ -126,20 +126,21 @@ loop_step r p i s t b old out new h e f g l =
       such = ap is_reading f ∙ reading_behind s b l.such;
       front = ap (take (length old)) g ∙ joined_front old out (byte_char s b) l.long l.front;
       long = (let m : length new ≡ length (joined out (byte_char s b)) = ap length g in let k : length old ≤ length (joined out (byte_char s b)) = joined_long old out (byte_char s b) l.long in omega arith);
-      faultless = λ n. l.faultless (fault_stays s.odd s b (ap (λ q. q.fault) (sym f) ∙ n))
+      faultless = λ n. l.faultless (fault_stays s.odd s b (ap (λ q. q.fault) (sym f) ∙ n));
     }
 
 pub loop_start : (r : Reading) (p : List ℕ) (out : Text) → is_reading r ≡ true → Loop r p 0 r out out
 loop_start r p out e = record { reading = refl; chars = refl; such = e; front = take_all_of out; long = omega arith; faultless = λ n. n }
   where
-  take_all_of : (x : Text) → take (length x) x ≡ x
-  take_all_of [] = refl
-  take_all_of (c ∷ x) = ap (λ y. c ∷ y) (take_all_of x)
+    take_all_of : (x : Text) → take (length x) x ≡ x
+    take_all_of [] = refl
+    take_all_of (c ∷ x) = ap (λ y. c ∷ y) (take_all_of x)
 
 pub loop_end : (r : Reading) (p : List ℕ) (i : ℕ) (s : Reading) (old out : Text) → length p ≤ i → Loop r p i s old out → (s ≡ after r p) × (out ≡ old ++ gained r p)
-loop_end r p i s old out h l =
-    (sym (at_drop_all (after s) p i h ∙ after_nothing s) ∙ l.reading,
-     sym (ap (λ x. out ++ x) (at_drop_all (gained s) p i h ∙ gained_nothing s) ∙ append-nil out) ∙ l.chars)
+loop_end r p i s old out h l = (
+  sym (at_drop_all (after s) p i h ∙ after_nothing s) ∙ l.reading,
+  sym (ap (λ x. out ++ x) (at_drop_all (gained s) p i h ∙ gained_nothing s) ∙ append-nil out) ∙ l.chars,
+)
 
 -- the unit that a byte completes is counted
 pub place_within : (r : Reading) (p : List ℕ) (i : ℕ) (s : Reading) (b : ℕ) (old out : Text) → i < length p → b ≡ get_or p i 0 → (after r p).place < 18446744073709551616 → Loop r p i s old out
@@ -158,10 +159,10 @@ answers_at r p t old told None (Ok u) b m e g h = record { reading = e; chars = 
 answers_at r p t old told None (Err x) b m e g h = absurd (cc)
 answers_at r p t old told (Some f) a b m e g h = let P : Result Unit TextFault → Type 0 = FeedAnswers r p t old told in subst P (sym m) (told_fault f b h)
   where
-  told_fault : (x : TextFault) → is_of_bytes (Some x) ≡ true → (after r p).fault ≡ Some x → FeedAnswers r p t old told (Err x)
-  told_fault out_of_memory c i = absurd (cc)
-  told_fault (bad_unit k) c i = record { reading = e; chars = g; faulty = i }
-  told_fault (bad_char k) c i = record { reading = e; chars = g; faulty = i }
+    told_fault : (x : TextFault) → is_of_bytes (Some x) ≡ true → (after r p).fault ≡ Some x → FeedAnswers r p t old told (Err x)
+    told_fault out_of_memory c i = absurd (cc)
+    told_fault (bad_unit k) c i = record { reading = e; chars = g; faulty = i }
+    told_fault (bad_char k) c i = record { reading = e; chars = g; faulty = i }
 
 pub feed_answers : (r : Reading) (p : List ℕ) (t : Reading) (old told : Text) (a : Result Unit TextFault) → is_reading t ≡ true → MatchOption t.fault (IsOk a) (λ g. a ≡ Err g)
     → t ≡ after r p → told ≡ old ++ gained r p → FeedAnswers r p t old told a

@@ -2,9 +2,8 @@
 ghost use Rattle.std.specs.Prelude.{◌≡◌};
 ghost use Rattle.mos_text.specs.declared.fault.TextFault.TheVariants.{NoMemory as out_of_memory};
 
-use std::alloc::{AllocError, AllocFailed};
-
 pub use std::alloc::AllocError as NoMemory;
+use std::alloc::{AllocError, AllocFailed};
 
 /// Why bytes are no characters. Places count code units from 0.
 #[derive(Clone, Copy, Debug, PartialEq, Eq)]

@@ -4,9 +4,8 @@ ghost use Rattle.mos_fields.specs.Characters.{bytes_of, units_in, units_of};
 ghost use Rattle.mos_text.specs.Reading.{after, gained, start};
 ghost use Rattle.mos_text.specs.Faults.{chars_before_fault, first_fault};
 
-use mos_fields::Text;
-
 use crate::reading::Reading;
+use mos_fields::Text;
 
 /// Bytes that are fed in two pieces are read as those that are fed at once.
 #[tactic(auto, using(crate::proofs::LawLemmas::after_pieces, crate::proofs::LawLemmas::gained_pieces))]

@@ -14,3 +14,6 @@ pub use push::push_text;
 pub use reader::UnitReader;
 pub use reading::Reading;
 pub use units::units_of;
+
+#[cfg(test)]
+mod tests;

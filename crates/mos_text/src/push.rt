@@ -4,9 +4,8 @@ ghost use Rattle.mos_fields.specs.Characters.{bytes_of, unit_bytes, units_of};
 ghost use Rattle.mos_fields.specs.Escapes.{escaped};
 ghost use Rattle.mos_text.specs.Escaping.{escaped_unit, escaped_units};
 
-use mos_fields::Text;
-
 use crate::fault::NoMemory;
+use mos_fields::Text;
 
 /// Appends a code unit, the high byte first.
 fn push_unit(unit: u16, out: &mut Vec<u8>) -> Result<(), NoMemory>

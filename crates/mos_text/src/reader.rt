@@ -2,11 +2,10 @@
 ghost use Rattle.std.specs.Prelude.{◌≡◌, ◌<◌, ◌^◌, ◌++◌, true, Err, None, IsOk, IfOk, OnOk, OnErr, MatchOption, take, length};
 ghost use Rattle.mos_text.specs.Reading.{FeedAnswers, after, byte_char, byte_step as behind_byte, gained, is_reading, joined, start};
 
-use std::marker::Model;
-
 use crate::fault::{NoMemory, TextFault};
 use crate::reading::Reading;
 use crate::steps::byte_step;
+use std::marker::Model;
 
 /// A reader of characters whose bytes come in pieces. Half a code unit and half a character are kept between pieces.
 #[derive(Drop)]

@@ -3,10 +3,9 @@ ghost use Rattle.std.specs.Prelude.{◌≡◌, ◌+◌, ◌<◌, ◌^◌, true, 
 ghost use Rattle.mos_fields.specs.Characters.{is_high as high, is_allowed as allowed};
 ghost use Rattle.mos_text.specs.Reading.{byte_char, byte_step as behind_byte, char_at, fault_at, high_after, waits_high};
 
-use mos_fields::{is_allowed_unit, is_high, is_low, lone, pair};
-
 use crate::fault::TextFault;
 use crate::reading::Reading;
+use mos_fields::{is_allowed_unit, is_high, is_low, lone, pair};
 
 /// What a unit is behind which no unit waits.
 #[derive(Clone, Copy)]
@@ -23,13 +22,29 @@ fn first_unit(unit: u16, place: u64) -> Found
     ensures character { result.character ≡ char_at None None unit }
 {
     if is_high(unit) {
-        Found { high: Some(unit), fault: None, character: None }
+        Found {
+            high: Some(unit),
+            fault: None,
+            character: None,
+        }
     } else if is_low(unit) {
-        Found { high: None, fault: Some(TextFault::BadUnit { place }), character: None }
+        Found {
+            high: None,
+            fault: Some(TextFault::BadUnit { place }),
+            character: None,
+        }
     } else if is_allowed_unit(unit) {
-        Found { high: None, fault: None, character: Some(lone(unit)) }
+        Found {
+            high: None,
+            fault: None,
+            character: Some(lone(unit)),
+        }
     } else {
-        Found { high: None, fault: Some(TextFault::BadChar { place }), character: None }
+        Found {
+            high: None,
+            fault: Some(TextFault::BadChar { place }),
+            character: None,
+        }
     }
 }
 
@@ -41,9 +56,19 @@ fn second_unit(first: u16, unit: u16, place: u64) -> Found
     ensures character { result.character ≡ char_at None (Some first) unit }
 {
     if is_low(unit) {
-        Found { high: None, fault: None, character: Some(pair(first, unit)) }
+        Found {
+            high: None,
+            fault: None,
+            character: Some(pair(first, unit)),
+        }
     } else {
-        Found { high: None, fault: Some(TextFault::BadUnit { place: place.saturating_sub(1) }), character: None }
+        Found {
+            high: None,
+            fault: Some(TextFault::BadUnit {
+                place: place.saturating_sub(1),
+            }),
+            character: None,
+        }
     }
 }
 
@@ -54,16 +79,14 @@ fn further_unit(waiting: Option<u16>, fault: TextFault, unit: u16) -> Found
     ensures character { result.character ≡ None }
 {
     let high = match waiting {
-        None => {
-            if is_high(unit) {
-                Some(unit)
-            } else {
-                None
-            }
-        }
+        None => { if is_high(unit) { Some(unit) } else { None } }
         Some(_) => None,
     };
-    Found { high, fault: Some(fault), character: None }
+    Found {
+        high,
+        fault: Some(fault),
+        character: None,
+    }
 }
 
 /// A further unit.

@@ -2,9 +2,8 @@
 ghost use Rattle.std.specs.Prelude.{◌≡◌, IfOk};
 ghost use Rattle.mos_fields.specs.Characters.{units_in};
 
-use std::alloc::Global;
-
 use crate::fault::NoMemory;
+use std::alloc::Global;
 
 /// The code units of the whole pairs of bytes, the high byte first. An odd byte at the end is left out.
 #[tactic(auto, using(crate::proofs::UnitLemmas::pair_next, crate::proofs::UnitLemmas::no_pair_left))]
