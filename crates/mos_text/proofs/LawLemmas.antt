@@ -1,8 +1,7 @@
 -- Laws of the reading of bytes.
-use Rattle.std.proofs.Common.{◌≡◌, ℕ, ◌+◌, ◌-◌, ◌*◌, ◌/◌, ◌%◌, ◌<◌, ◌≤◌, ◌⊎◌, inl, inr, Bool, true, false, cond, ◌&&◌, List, [], ◌∷◌, ◌++◌, length, length-append, Option, Some, None, refl, sym, ap, ◌∙◌, arith}
+use Rattle.std.proofs.Common.{◌≡◌, ℕ, ◌+◌, ◌-◌, ◌*◌, ◌/◌, ◌%◌, ◌<◌, ◌≤◌, ◌⊎◌, inl, inr, Bool, true, false, cond, List, [], ◌∷◌, ◌++◌, length, length-append, Option, Some, None, refl, sym, ap, ◌∙◌, arith}
 use Rattle.std.proofs.lemmas.Bool.{and_parts}
 use Rattle.std.proofs.lemmas.Bool.Decides.{nat_tests}
-use Rattle.std.proofs.lemmas.List.{append_assoc}
 use Rattle.std.specs.Char.Escape.{encode_utf16}
 use Rattle.std.proofs.lemmas.List.Concat.{flat_map-append}
 use Rattle.mos_fields.specs.Characters.{Text, is_allowed, are_allowed, is_high, is_low, pair_char, unit_bytes, bytes_of, units_of, units_in}
@@ -11,7 +10,7 @@ use Rattle.mos_text.specs.declared.fault.TextFault.{TextFault}
 use Rattle.mos_text.specs.declared.fault.TextFault.TheVariants.{BadUnit as bad_unit, BadChar as bad_char}
 use Rattle.mos_text.specs.declared.reading.Reading.{Reading}
 use Rattle.mos_text.specs.Faults.{first_fault, chars_before_fault}
-use Rattle.mos_text.specs.Reading.{start, after, gained, before, byte_step, byte_char, unit_step, char_at, fault_at, high_after}
+use Rattle.mos_text.specs.Reading.{start, after, gained, before, byte_step, byte_char, char_at, fault_at, high_after}
 
 -- ---- pieces
 

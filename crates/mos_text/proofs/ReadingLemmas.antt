@@ -1,13 +1,13 @@
 -- The reading of bytes.
-use Rattle.std.proofs.Common.{◌≡◌, ℕ, ◌+◌, ◌*◌, ◌<◌, ◌≤◌, Bool, true, false, cond, ◌&&◌, List, [], ◌∷◌, ◌++◌, length, length-append, get_or, drop, take, Option, Some, None, Result, Ok, Err, subst, refl, sym, ap, ◌∙◌, arith}
+use Rattle.std.proofs.Common.{◌≡◌, ℕ, ◌+◌, ◌*◌, ◌<◌, ◌≤◌, Bool, true, false, ◌&&◌, List, [], ◌∷◌, ◌++◌, length, length-append, get_or, drop, take, Option, Some, None, Result, Ok, Err, subst, refl, sym, ap, ◌∙◌, arith}
 use Rattle.std.specs.Prelude.{MatchOption, IsOk}
 use Rattle.std.proofs.lemmas.Bool.{and_parts}
-use Rattle.std.proofs.lemmas.List.{append_assoc, append-nil, at_drop_more, at_drop_all, take_at, take-append-le, length-take-le}
+use Rattle.std.proofs.lemmas.List.{append_assoc, append-nil, at_drop_more, at_drop_all, take-append-le}
 use Rattle.mos_fields.specs.Characters.{Text, is_high, is_low, is_allowed}
 use Rattle.mos_text.specs.declared.fault.TextFault.{TextFault}
 use Rattle.mos_text.specs.declared.fault.TextFault.TheVariants.{BadUnit as bad_unit, BadChar as bad_char, NoMemory as out_of_memory}
 use Rattle.mos_text.specs.declared.reading.Reading.{Reading}
-use Rattle.mos_text.specs.Reading.{after, gained, before, joined, byte_step, byte_step_at, byte_char, byte_char_at, char_at, high_after, fault_at, waits_high, is_of_bytes, is_reading, FeedAnswers, Went, Stayed}
+use Rattle.mos_text.specs.Reading.{after, gained, before, joined, byte_step, byte_step_at, byte_char, byte_char_at, char_at, high_after, fault_at, waits_high, is_of_bytes, is_reading, FeedAnswers}
 
 pub after_byte : (r : Reading) (b : ℕ) (bs : List ℕ) → after r (b ∷ bs) ≡ after (byte_step r b) bs
 unfolding after
@@ -167,3 +167,19 @@ answers_at r p t old told (Some f) a b m e g h = let P : Result Unit TextFault �
 pub feed_answers : (r : Reading) (p : List ℕ) (t : Reading) (old told : Text) (a : Result Unit TextFault) → is_reading t ≡ true → MatchOption t.fault (IsOk a) (λ g. a ≡ Err g)
     → t ≡ after r p → told ≡ old ++ gained r p → FeedAnswers r p t old told a
 feed_answers r p t old told a b m e g = answers_at r p t old told t.fault a (and_parts (waits_high t.high) (is_of_bytes t.fault) b).1 m e g (ap (λ q. q.fault) (sym e))
+
+place_step_most : (o : Option ℕ) (r : Reading) (b : ℕ) → (byte_step_at o r b).place ≤ r.place + 1
+place_step_most None r b = omega arith
+place_step_most (Some a) r b = omega arith
+
+place_most : (r : Reading) (p : List ℕ) → (after r p).place ≤ r.place + length p
+unfolding after
+place_most r [] = omega arith
+place_most r (b ∷ p) =
+    let first : (byte_step r b).place ≤ r.place + 1 = place_step_most r.odd r b in
+    let more : (after (byte_step r b) p).place ≤ (byte_step r b).place + length p = place_most (byte_step r b) p in
+    omega arith
+
+-- a caller that knows the place and the piece's length knows that the place stays below 2^64
+pub place_below : (r : Reading) (p : List ℕ) → r.place + length p < 18446744073709551616 → (after r p).place < 18446744073709551616
+place_below r p h = let most = place_most r p in omega arith

@@ -6,12 +6,21 @@ use crate::units::units_of;
 use mos_fields::Text;
 use std::test::Fail;
 
+/// Feeds a short piece to a reader that has read little.
+#[tactic(auto, using(crate::proofs::ReadingLemmas::place_below))]
+fn feed(reader: &mut UnitReader, piece: &[u8], out: &mut Vec<char>) -> Result<(), TextFault> {
+    if reader.place() > 1000 || piece.len() > 1000 {
+        return Err(TextFault::NoMemory);
+    }
+    reader.feed(piece, out)
+}
+
 #[test]
 fn a_high_unit_without_its_low_one_is_refused_at_the_high_one(rt: HostRuntime) -> Result<(), Fail> {
     let mut reader = UnitReader::new();
     let mut out = Vec::new(rt.alloc());
     let bytes = [0x00u8, 0x3C, 0xD8, 0x00, 0x00, 0x41];
-    assert!(rt; reader.feed(&bytes, &mut out) == Err(TextFault::BadUnit { place: 1 }));
+    assert!(rt; feed(&mut reader, &bytes, &mut out) == Err(TextFault::BadUnit { place: 1 }));
     assert!(rt; reader.place() == 3);
     assert!(rt; out.as_slice() == ['<'].as_slice());
     Ok(())
@@ -21,13 +30,14 @@ fn a_high_unit_without_its_low_one_is_refused_at_the_high_one(rt: HostRuntime) -
 fn forbidden_characters_are_refused(rt: HostRuntime) -> Result<(), Fail> {
     let mut out = Vec::new(rt.alloc());
     assert!(rt;
-        UnitReader::new().feed(&[0xFFu8, 0xFE], &mut out) == Err(TextFault::BadChar { place: 0 })
+        feed(&mut UnitReader::new(), &[0xFFu8, 0xFE], &mut out)
+            == Err(TextFault::BadChar { place: 0 })
     );
     assert!(rt;
-        UnitReader::new().feed(&[0u8, 0], &mut out) == Err(TextFault::BadChar { place: 0 })
+        feed(&mut UnitReader::new(), &[0u8, 0], &mut out) == Err(TextFault::BadChar { place: 0 })
     );
     assert!(rt;
-        UnitReader::new().feed(&[0xDCu8, 0], &mut out) == Err(TextFault::BadUnit { place: 0 })
+        feed(&mut UnitReader::new(), &[0xDCu8, 0], &mut out) == Err(TextFault::BadUnit { place: 0 })
     );
     Ok(())
 }
@@ -36,10 +46,10 @@ fn forbidden_characters_are_refused(rt: HostRuntime) -> Result<(), Fail> {
 fn a_pair_may_be_cut_at_every_byte(rt: HostRuntime) -> Result<(), Fail> {
     let mut reader = UnitReader::new();
     let mut out = Vec::new(rt.alloc());
-    assert!(rt; reader.feed(&[0xD8u8], &mut out).is_ok());
-    assert!(rt; reader.feed(&[0x34u8], &mut out).is_ok());
-    assert!(rt; reader.feed(&[0xDDu8], &mut out).is_ok());
-    assert!(rt; reader.feed(&[0x1Eu8], &mut out).is_ok());
+    assert!(rt; feed(&mut reader, &[0xD8u8], &mut out).is_ok());
+    assert!(rt; feed(&mut reader, &[0x34u8], &mut out).is_ok());
+    assert!(rt; feed(&mut reader, &[0xDDu8], &mut out).is_ok());
+    assert!(rt; feed(&mut reader, &[0x1Eu8], &mut out).is_ok());
     assert!(rt; out.as_slice() == ['\u{1D11E}'].as_slice());
     Ok(())
 }
