@@ -1,0 +1,155 @@
+//! Identifiers.
+ghost use Rattle.std.specs.Prelude.{◌≡◌, ◌++◌, OnOk, OnErr, ℕ, List, IfOk, ◌==◌, ◌↔◌, IsTrue};
+ghost use Rattle.std.specs.Ordering.{as_partial_cmp, nat_cmp};
+ghost use Rattle.std.proofs.Common.{refl, sym};
+ghost use Rattle.std.proofs.lemmas.Map.Text.{is_eq-slice_cmp};
+ghost use Rattle.std.specs.Cmp.{partial_equiv_from_equiv, partial_order_from_agreeing_total};
+ghost use Rattle.std.specs.Cmp.Lexicographic.{pointwise, slice_cmp};
+ghost use Rattle.std.proofs.lemmas.Cmp.{nat_list_cmp_total, nat_list_eq_equiv};
+ghost use Rattle.mos_fields.specs.Faults.{AnswersFault, AnswersOnlyFault, id_fault, id_length_fault};
+ghost use Rattle.mos_fields.specs.Characters.{units_of};
+ghost use Rattle.mos_fields.specs.Limits.{IsId};
+
+use crate::checks::{find_id_fault, find_id_length_fault};
+use crate::fault::{FieldFault, NoMemory};
+use crate::text::Text;
+use std::alloc::Global;
+use std::cmp::Ordering;
+use std::marker::Model;
+
+/// An identifier, as of a running order, a story, an item or a device: 1 to 128 characters.
+#[derive(Drop)]
+pub struct Id {
+    text: Text,
+}
+
+impl Model for Id {
+    ghost Value = { List ℕ };
+
+    ghost view = { λ t. t.text };
+
+    ghost invariant = { λ t. IsId t.text };
+}
+
+impl Id {
+    /// The value of these characters.
+    ///
+    /// `BadChar` comes exactly at the first character that XML 1.0 forbids, else `TooLong` exactly above 128 characters,
+    /// else `Empty` exactly for no character.
+    #[tactic(auto, using(crate::proofs::FaultLemmas::id_allowed, crate::proofs::FaultLemmas::id_sized))]
+    pub fn try_new(alloc: Global, chars: &[char]) -> Result<Self, FieldFault>
+        ensures value { IfOk result (λ t. t ≡ chars.now) }
+        ensures fault { AnswersFault (id_fault chars.now) result }
+    {
+        match find_id_fault(chars) {
+            Some(fault) => Err(fault),
+            None => Ok(Id {
+                text: Text::from_allowed(alloc, chars)?,
+            }),
+        }
+    }
+
+    /// The value of a text, which is dropped where it is none.
+    ///
+    /// `TooLong` comes exactly above 128 characters, else `Empty` exactly for no character.
+    #[tactic(auto, using(crate::proofs::FaultLemmas::id_sized_length))]
+    pub fn from_text(text: Text) -> Result<Self, FieldFault>
+        ensures value { IfOk result (λ t. t ≡ text) }
+        ensures fault { AnswersOnlyFault (id_length_fault text) result }
+    {
+        match find_id_length_fault(text.len()) {
+            Some(fault) => Err(fault),
+            None => Ok(Id { text }),
+        }
+    }
+
+    /// The text.
+    pub fn text(&self) -> &Text
+        ensures value { result.now ≡ self.now }
+        ensures sized { IsId self.now }
+    {
+        &self.text
+    }
+
+    /// The text, out of the value.
+    pub fn into_text(self) -> Text
+        ensures value { result ≡ self }
+        ensures sized { IsId result }
+    {
+        self.text
+    }
+
+    /// The code units of the characters.
+    pub fn units(&self) -> &[u16]
+        ensures value { result.now ≡ units_of self.now }
+        ensures sized { IsId self.now }
+    {
+        self.text.units()
+    }
+
+    /// Appends the characters; without memory nothing is appended.
+    pub fn push_to(&self, out: &mut Vec<char>) -> Result<(), NoMemory>
+        ensures ok { OnOk result (out.new.items ≡ out.old.items ++ self.now) }
+        ensures err { OnErr result (out.new.items ≡ out.old.items) }
+    {
+        self.text.push_to(out)
+    }
+
+    /// The same value again, in memory of its own.
+    pub fn try_clone(&self) -> Result<Self, NoMemory>
+        ensures { IfOk result (λ t. t ≡ self.now) }
+    {
+        Ok(Id {
+            text: self.text.try_clone()?,
+        })
+    }
+}
+
+impl PartialEq for Id {
+    ghost eq = { pointwise ◌==◌ };
+
+    ghost laws = { partial_equiv_from_equiv nat_list_eq_equiv };
+
+    fn eq(&self, other: &Self) -> bool {
+        self.text == other.text
+    }
+}
+
+impl Eq for Id {
+    ghost laws = { nat_list_eq_equiv };
+}
+
+impl Id {
+    /// Whether both are the same characters.
+    #[tactic(auto, using(crate::proofs::OrderLemmas::decided))]
+    pub fn is(&self, other: &Self) -> bool
+        ensures { IsTrue result ↔ (self.now ≡ other.now) }
+    {
+        self == other
+    }
+}
+
+/// Texts are in order character by character.
+impl Ord for Id {
+    ghost cmp = { slice_cmp nat_cmp };
+
+    ghost total = { nat_list_cmp_total };
+
+    ghost matches_partial_cmp = { λ x y. refl };
+
+    ghost matches_eq = { λ x y. sym (is_eq-slice_cmp x y) };
+
+    fn cmp(&self, other: &Self) -> Ordering {
+        self.text.cmp(&other.text)
+    }
+}
+
+impl PartialOrd for Id {
+    ghost partial_cmp = { as_partial_cmp (slice_cmp nat_cmp) };
+
+    ghost laws = { partial_order_from_agreeing_total (slice_cmp nat_cmp) nat_list_cmp_total (λ x y. refl) (λ x y. sym (is_eq-slice_cmp x y)) };
+
+    fn partial_cmp(&self, other: &Self) -> Option<Ordering> {
+        Some(self.cmp(other))
+    }
+}

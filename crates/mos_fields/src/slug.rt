@@ -1,0 +1,125 @@
+//! Slugs.
+ghost use Rattle.std.specs.Prelude.{◌≡◌, ◌++◌, OnOk, OnErr, ◌≤◌, ℕ, List, IfOk, length, ◌==◌, ◌↔◌, IsTrue};
+ghost use Rattle.std.specs.Cmp.{partial_equiv_from_equiv};
+ghost use Rattle.std.specs.Cmp.Lexicographic.{pointwise};
+ghost use Rattle.std.proofs.lemmas.Cmp.{nat_list_eq_equiv};
+ghost use Rattle.mos_fields.specs.Faults.{AnswersFault, AnswersOnlyFault, slug_fault, length_fault};
+ghost use Rattle.mos_fields.specs.Characters.{units_of};
+ghost use Rattle.mos_fields.specs.Limits.{slug_limit};
+
+use crate::checks::{SLUG_LIMIT, find_length_fault, find_slug_fault};
+use crate::fault::{FieldFault, NoMemory};
+use crate::text::Text;
+use std::alloc::Global;
+use std::marker::Model;
+
+/// A slug, the short title of an order, a story or an item: 0 to 1,024 characters.
+#[derive(Drop)]
+pub struct Slug {
+    text: Text,
+}
+
+impl Model for Slug {
+    ghost Value = { List ℕ };
+
+    ghost view = { λ t. t.text };
+
+    ghost invariant = { λ t. length t.text ≤ slug_limit };
+}
+
+impl Slug {
+    /// The value of these characters.
+    ///
+    /// `BadChar` comes exactly at the first character that XML 1.0 forbids, else `TooLong` exactly above 1,024
+    /// characters.
+    #[tactic(auto, using(crate::proofs::FaultLemmas::slug_allowed, crate::proofs::FaultLemmas::slug_sized))]
+    pub fn try_new(alloc: Global, chars: &[char]) -> Result<Self, FieldFault>
+        ensures value { IfOk result (λ t. t ≡ chars.now) }
+        ensures fault { AnswersFault (slug_fault chars.now) result }
+    {
+        match find_slug_fault(chars) {
+            Some(fault) => Err(fault),
+            None => Ok(Slug {
+                text: Text::from_allowed(alloc, chars)?,
+            }),
+        }
+    }
+
+    /// The value of a text, which is dropped where it is none.
+    ///
+    /// `TooLong` comes exactly above 1,024 characters.
+    #[tactic(auto, using(crate::proofs::FaultLemmas::slug_sized_length))]
+    pub fn from_text(text: Text) -> Result<Self, FieldFault>
+        ensures value { IfOk result (λ t. t ≡ text) }
+        ensures fault { AnswersOnlyFault (length_fault slug_limit text) result }
+    {
+        match find_length_fault(SLUG_LIMIT, text.len()) {
+            Some(fault) => Err(fault),
+            None => Ok(Slug { text }),
+        }
+    }
+
+    /// The text.
+    pub fn text(&self) -> &Text
+        ensures value { result.now ≡ self.now }
+        ensures sized { length self.now ≤ slug_limit }
+    {
+        &self.text
+    }
+
+    /// The text, out of the value.
+    pub fn into_text(self) -> Text
+        ensures { result ≡ self }
+    {
+        self.text
+    }
+
+    /// The code units of the characters.
+    pub fn units(&self) -> &[u16]
+        ensures value { result.now ≡ units_of self.now }
+        ensures sized { length self.now ≤ slug_limit }
+    {
+        self.text.units()
+    }
+
+    /// Appends the characters; without memory nothing is appended.
+    pub fn push_to(&self, out: &mut Vec<char>) -> Result<(), NoMemory>
+        ensures ok { OnOk result (out.new.items ≡ out.old.items ++ self.now) }
+        ensures err { OnErr result (out.new.items ≡ out.old.items) }
+    {
+        self.text.push_to(out)
+    }
+
+    /// The same value again, in memory of its own.
+    pub fn try_clone(&self) -> Result<Self, NoMemory>
+        ensures { IfOk result (λ t. t ≡ self.now) }
+    {
+        Ok(Slug {
+            text: self.text.try_clone()?,
+        })
+    }
+}
+
+impl PartialEq for Slug {
+    ghost eq = { pointwise ◌==◌ };
+
+    ghost laws = { partial_equiv_from_equiv nat_list_eq_equiv };
+
+    fn eq(&self, other: &Self) -> bool {
+        self.text == other.text
+    }
+}
+
+impl Eq for Slug {
+    ghost laws = { nat_list_eq_equiv };
+}
+
+impl Slug {
+    /// Whether both are the same characters.
+    #[tactic(auto, using(crate::proofs::OrderLemmas::decided))]
+    pub fn is(&self, other: &Self) -> bool
+        ensures { IsTrue result ↔ (self.now ≡ other.now) }
+    {
+        self == other
+    }
+}

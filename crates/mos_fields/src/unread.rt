@@ -1,0 +1,100 @@
+//! Raw elements.
+ghost use Rattle.std.specs.Prelude.{◌≡◌, ◌++◌, OnOk, OnErr, ℕ, List, IfOk, ◌==◌, ◌↔◌, IsTrue};
+ghost use Rattle.std.specs.Cmp.{partial_equiv_from_equiv};
+ghost use Rattle.std.specs.Cmp.Lexicographic.{pointwise};
+ghost use Rattle.std.proofs.lemmas.Cmp.{nat_list_eq_equiv};
+ghost use Rattle.mos_fields.specs.Characters.{units_of};
+ghost use Rattle.mos_fields.specs.Raw.{IsRawElement};
+
+use crate::fault::NoMemory;
+use crate::text::Text;
+use std::marker::Model;
+
+/// The raw text of one element, which is kept character for character: one empty tag, or a start tag and everything
+/// up to the first end tag of its name that is written without white space.
+#[derive(Drop)]
+pub struct Unread {
+    text: Text,
+}
+
+impl Model for Unread {
+    ghost Value = { List ℕ };
+
+    ghost view = { λ t. t.text };
+
+    ghost invariant = { λ t. IsRawElement t.text };
+}
+
+impl Unread {
+    /// The value of a text that is the raw text of one element.
+    pub fn from_raw(text: Text) -> Self
+        requires { IsRawElement text }
+        ensures { result ≡ text }
+    {
+        Unread { text }
+    }
+
+    /// The text.
+    pub fn text(&self) -> &Text
+        ensures value { result.now ≡ self.now }
+        ensures element { IsRawElement self.now }
+    {
+        &self.text
+    }
+
+    /// The text, out of the value.
+    pub fn into_text(self) -> Text
+        ensures { result ≡ self }
+    {
+        self.text
+    }
+
+    /// The code units of the characters.
+    pub fn units(&self) -> &[u16]
+        ensures value { result.now ≡ units_of self.now }
+        ensures element { IsRawElement self.now }
+    {
+        self.text.units()
+    }
+
+    /// Appends the characters; without memory nothing is appended.
+    pub fn push_to(&self, out: &mut Vec<char>) -> Result<(), NoMemory>
+        ensures ok { OnOk result (out.new.items ≡ out.old.items ++ self.now) }
+        ensures err { OnErr result (out.new.items ≡ out.old.items) }
+    {
+        self.text.push_to(out)
+    }
+
+    /// The same value again, in memory of its own.
+    pub fn try_clone(&self) -> Result<Self, NoMemory>
+        ensures { IfOk result (λ t. t ≡ self.now) }
+    {
+        Ok(Unread {
+            text: self.text.try_clone()?,
+        })
+    }
+}
+
+impl PartialEq for Unread {
+    ghost eq = { pointwise ◌==◌ };
+
+    ghost laws = { partial_equiv_from_equiv nat_list_eq_equiv };
+
+    fn eq(&self, other: &Self) -> bool {
+        self.text == other.text
+    }
+}
+
+impl Eq for Unread {
+    ghost laws = { nat_list_eq_equiv };
+}
+
+impl Unread {
+    /// Whether both are the same characters.
+    #[tactic(auto, using(crate::proofs::OrderLemmas::decided))]
+    pub fn is(&self, other: &Self) -> bool
+        ensures { IsTrue result ↔ (self.now ≡ other.now) }
+    {
+        self == other
+    }
+}

@@ -1,0 +1,4 @@
+pub mod UnitLemmas
+pub mod EscapeLemmas
+pub mod LawLemmas
+pub mod ReadingLemmas
