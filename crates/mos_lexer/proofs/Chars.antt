@@ -10,6 +10,7 @@ use Rattle.mos_fields.specs.Raw.{tail_from, is_tail}
 use Rattle.mos_fields.specs.Forms.{is_white}
 use Rattle.mos_lexer.specs.Lexing.{begins_mark, WritesTokens}
 use Rattle.mos_lexer.specs.LexMachine.{LexState, begin, in_text, text_reference, in_tag, start_name, in_start, attribute_name, before_equals, before_value, in_value, value_reference, before_close, end_name, end_white, in_tail, in_question, in_declaration, LexStep, continues, whole_token, text_before, text_before_mark, no_token, no_reference, lex_step}
+use Rattle.mos_lexer.specs.Encodings.{EncodesChars}
 use Rattle.mos_lexer.specs.Units.{is_outside, lex_at}
 use Rattle.mos_grammar.specs.Records.{field_events}
 use Rattle.mos_grammar.specs.RecordMachine.{State, at, complete, between, in_field, behind_text, in_raw, after_text, step}
@@ -396,10 +397,6 @@ run_back (c ∷ cs) r s v h = char_back s c (cs ++ r) v (go (λ u. run_back cs r
     go f (Some u) g = f u g
     go f None g = absurd g
 
--- The characters spell a message: tokens that spell it, each written as tokens are.
-abbrev pub MessageChars : List Event → List ℕ → Type 0
-MessageChars v c = (ts : List Token) × WritesTokens ts c × IsMessage before_prolog v ts
-
 abbrev pub opening_spot : Spot
 opening_spot = record { position = before_message before_prolog; lex = begin }
 
@@ -407,7 +404,7 @@ abbrev pub whole_spot : List Event → Spot
 whole_spot v = record { position = inside (complete v); lex = begin }
 
 -- Characters that lead to a whole message spell it.
-pub run_message : (v : List Event) (c : List ℕ) → char_run opening_spot c ≡ Some (whole_spot v) → MessageChars v c
+pub run_message : (v : List Event) (c : List ℕ) → char_run opening_spot c ≡ Some (whole_spot v) → EncodesChars v c
 run_message v c e =
     let takes : CharTakes (char_run opening_spot c) [] v = subst (λ (z : Option Spot). CharTakes z [] v) (sym e) ([], refl, (refl, refl)) in
     let h : CharReads opening_spot (c ++ []) v = run_back c [] opening_spot v takes in
@@ -424,9 +421,9 @@ module _ (laws : ReferenceLaws) where
       go g None i k = absurd k
 
   -- Characters that begin the spelling of a message are read, and what is left of it is what the state still reads.
-  pub message_run_reads : (v : List Event) (c more : List ℕ) → MessageChars v (c ++ more) → CharTakes (char_run opening_spot c) more v
+  pub message_run_reads : (v : List Event) (c more : List ℕ) → EncodesChars v (c ++ more) → CharTakes (char_run opening_spot c) more v
   message_run_reads v c more m = run_forward c more opening_spot v refl (m.0, m.1, m.2)
 
   -- The characters of a message are read to its end.
-  pub message_run_whole : (v : List Event) (c : List ℕ) → MessageChars v c → CharTakes (char_run opening_spot c) [] v
+  pub message_run_whole : (v : List Event) (c : List ℕ) → EncodesChars v c → CharTakes (char_run opening_spot c) [] v
   message_run_whole v c m = message_run_reads v c [] (m.0, subst (λ (z : List ℕ). WritesTokens m.0 z) (sym (append-nil c)) m.1, m.2)

@@ -9,6 +9,7 @@ use Rattle.mos_fields.specs.Names.{is_empty}
 use Rattle.mos_fields.specs.Raw.{tail_from}
 use Rattle.mos_lexer.specs.Lexing.{byte_order_mark, declaration_from, begins_with, begins_mark, WritesTag, ends_start, ends_empty, tag_space, attribute, WritesEquals, equals_space, equals, WritesQuoted, quoted_space, quote, WritesValue, value_ends, value_itself, value_reference, WritesTokens, WrittenTag, Writes, nothing, itself, reference}
 use Rattle.mos_lexer.specs.LexMachine.{LexState, begin, in_text, text_reference, in_tag, start_name, in_start, attribute_name, before_equals, before_value, in_value, value_reference as value_reference_state, before_close, end_name, end_white, in_tail, in_question, in_declaration}
+use Rattle.mos_lexer.specs.Encodings.{EncodesChars}
 use Rattle.mos_lexer.specs.Units.{is_outside, lex_at}
 use Rattle.mos_grammar.specs.RecordMachine.{complete}
 use Rattle.mos_grammar.specs.Streams.{Stage, before_prolog, IsMessage, Position, before_message, inside}
@@ -16,7 +17,7 @@ use Rattle.mos_grammar.proofs.Sound.{done_is}
 use Rattle.mos_grammar.proofs.StreamProofs.{StillReads}
 use Rattle.mos_lexer.proofs.Lexer.{StartRest, LexRest}
 use Rattle.mos_lexer.proofs.Forward.{ReferenceLaws, Fitting}
-use Rattle.mos_lexer.proofs.Chars.{Spot, char_of, then_spot, char_run, reads_fitting, CharReads, CharTakes, Fits, FitsOk, char_fits, MessageChars, opening_spot, whole_spot, run_back, message_run_whole}
+use Rattle.mos_lexer.proofs.Chars.{Spot, char_of, then_spot, char_run, reads_fitting, CharReads, CharTakes, Fits, FitsOk, char_fits, opening_spot, whole_spot, run_back, message_run_whole}
 
 none_left : (a b q : List ℕ) → ◌≡◌ {A = List ℕ} [] ((a ++ b) ++ q) → ◌≡◌ {A = List ℕ} [] (b ++ q)
 none_left [] b q e = e
@@ -164,11 +165,11 @@ char_run_append (c ∷ cs) ds s = go (λ u. char_run_append cs ds u) (char_of s.
 
 module _ (laws : ReferenceLaws) where
   -- The spellings of a message are read to its end.
-  pub message_run : (v : List Event) (c : List ℕ) → MessageChars v c → char_run opening_spot c ≡ Some (whole_spot v)
+  pub message_run : (v : List Event) (c : List ℕ) → EncodesChars v c → char_run opening_spot c ≡ Some (whole_spot v)
   message_run v c m = char_done (char_run opening_spot c) v (run_fits c opening_spot refl) (message_run_whole laws v c m)
 
   -- No spelling of a message begins another, and none spells two values.
-  pub one_message : (v w : List Event) (c more : List ℕ) → MessageChars v c → MessageChars w (c ++ more) → (more ≡ []) × (v ≡ w)
+  pub one_message : (v w : List Event) (c more : List ℕ) → EncodesChars v c → EncodesChars w (c ++ more) → (more ≡ []) × (v ≡ w)
   one_message v w c more a b =
       let e : char_run opening_spot (c ++ more) ≡ char_run (whole_spot v) more = char_run_append c more opening_spot ∙ ap (λ (o : Option Spot). then_spot o (λ u. char_run u more)) (message_run v c a) in
       let f : char_run (whole_spot v) more ≡ Some (whole_spot w) = sym e ∙ message_run w (c ++ more) b in

@@ -1,45 +1,54 @@
--- Reading a stream code unit after code unit, with the places and kinds of rejections.
-use Rattle.std.specs.Prelude.{ℕ, Bool, true, false, cond, List, [], ◌∷◌, ◌++◌, Option, Some, None, Result, Ok, Err, ◌&&◌, nat_le, ◌+◌, ◌-◌, ◌*◌}
-use Rattle.mos_grammar.specs.Tokens.{text, mark}
+-- Reading one message code unit after code unit. Places count code units from the end of the message before.
+use Rattle.std.specs.Prelude.{ℕ, Bool, true, false, cond, List, [], ◌∷◌, ◌++◌, Option, Some, None, Result, Ok, Err, nat_le, ◌+◌, ◌-◌}
+use Rattle.mos_fields.specs.Characters.{Text, is_allowed, is_high, is_low, pair_char}
 use Rattle.mos_tables.specs.Events.{Event}
+use Rattle.mos_grammar.specs.Tokens.{text, mark}
 use Rattle.mos_grammar.specs.declared.fault.Fault.{Fault}
-use Rattle.mos_grammar.specs.declared.fault.Fault.TheVariants.{Tag as misplaced}
+use Rattle.mos_grammar.specs.declared.fault.Fault.TheVariants as faults
 use Rattle.mos_grammar.specs.RecordMachine.{at, complete, in_raw, in_field, behind_text, between}
 use Rattle.mos_grammar.specs.Streams.{Position, before_message, inside, before_prolog, message_step}
-use Rattle.mos_fields.specs.Characters.{is_allowed}
+use Rattle.mos_lexer.specs.declared.kind.Kind.{Kind}
+use Rattle.mos_lexer.specs.declared.kind.Kind.TheVariants as kinds
 use Rattle.mos_lexer.specs.LexMachine.{LexState, begin, in_tail, LexStep, continues, whole_token, text_before, text_before_mark, no_token, no_reference, lex_step}
 
--- the kinds of rejections
-pub data Kind : Type 0 where
-  bad_unit : Kind
-  bad_char : Kind
-  entity : Kind
-  of_token : Fault → Kind
-  too_long : Kind
+-- the kind of a token that does not fit
+abbrev pub kind_of : Fault → Kind
+kind_of (faults.Twice f) = kinds.Twice f
+kind_of (faults.Order f) = kinds.Order f
+kind_of (faults.Missing f) = kinds.Missing f
+kind_of (faults.Value f) = kinds.Value f
+kind_of faults.Tag = kinds.Tag
 
-pub record Rejection : Type 0 where
-  pub place : ℕ
-  pub kind : Kind
+-- a message and what stands before it have so many code units at most
+abbrev pub message_limit : ℕ
+message_limit = 8388608
 
--- the messages read, where the reading of tokens and of the token is, where that token began, how many units were
--- read, where the current message began, and a high unit that waits for its low one
+-- where the reading of tokens is, what of a token was read, where that token begins, how many code units were read, and
+-- a high unit that waits for its low one
 pub record Reader : Type 0 where
-  pub ready : List (List Event)
   pub position : Position
   pub lex : LexState
   pub start : ℕ
-  pub units : ℕ
-  pub base : ℕ
+  pub count : ℕ
   pub high : Option ℕ
 
+-- behind the message before
 abbrev pub start_reader : Reader
-start_reader = record { ready = []; position = before_message before_prolog; lex = begin; start = 0; units = 0; base = 0; high = None }
+start_reader = record { position = before_message before_prolog; lex = begin; start = 0; count = 0; high = None }
 
+-- What one code unit does: the reading goes on, a message is complete with its value, or the stream is rejected at a
+-- place.
+pub data UnitStep : Type 0 where
+  reads_on : Reader → UnitStep
+  completes : List Event → UnitStep
+  rejects : ℕ → Kind → UnitStep
+
+-- before `<mos>`
 abbrev pub is_outside : Position → Bool
 is_outside (before_message g) = true
 is_outside (inside s) = false
 
--- the state of a token's beginning
+-- how a token begins: behind the start tag of a raw element comes its rest
 abbrev pub lex_at : Position → LexState
 lex_at (inside (at (in_raw n p tag) f fs)) = in_tail n []
 lex_at (inside (at between f fs)) = begin
@@ -48,63 +57,85 @@ lex_at (inside (at (behind_text n o es) f fs)) = begin
 lex_at (inside (complete v)) = begin
 lex_at (before_message g) = begin
 
-abbrev pub RejectionOr : Type 0
-RejectionOr = Result Reader Rejection
+-- behind a whole token, where the next one begins at this place and this was read of it
+abbrev pub behind : ℕ → ℕ → LexState → Position → UnitStep
+behind start count l (inside (complete v)) = completes v
+behind start count l (inside (at m f fs)) = reads_on (record { position = inside (at m f fs); lex = l; start = start; count = count; high = None })
+behind start count l (before_message g) = reads_on (record { position = before_message g; lex = l; start = start; count = count; high = None })
 
-abbrev pub rejected_at : ℕ → Kind → RejectionOr
-rejected_at place k = Err (record { place = place; kind = k })
+-- what a token at a place came to; where it fits, the reading goes on
+abbrev pub at_token : ℕ → Result Position Fault → (Position → UnitStep) → UnitStep
+at_token place (Ok p) go_on = go_on p
+at_token place (Err k) go_on = rejects place (kind_of k)
 
--- behind a whole token, which ends before this place; the next one may have begun
-abbrev pub behind : Reader → ℕ → ℕ → Option LexState → Position → Reader
-behind s end units l (inside (complete v)) = record { ready = s.ready ++ v ∷ []; position = before_message before_prolog; lex = begin; start = end; units = units; base = end; high = None }
-behind s end units None (inside (at m f fs)) = record { ready = s.ready; position = inside (at m f fs); lex = lex_at (inside (at m f fs)); start = end; units = units; base = s.base; high = None }
-behind s end units (Some l) (inside (at m f fs)) = record { ready = s.ready; position = inside (at m f fs); lex = l; start = end; units = units; base = s.base; high = None }
-behind s end units None (before_message g) = record { ready = s.ready; position = before_message g; lex = begin; start = end; units = units; base = s.base; high = None }
-behind s end units (Some l) (before_message g) = record { ready = s.ready; position = before_message g; lex = l; start = end; units = units; base = s.base; high = None }
+-- the next token begins with the next code unit
+abbrev pub rests : ℕ → Position → UnitStep
+rests count p = behind count count (lex_at p) p
 
-abbrev pub told_token : Reader → ℕ → ℕ → ℕ → Option LexState → Result Position Fault → RejectionOr
-told_token s start end units l (Ok p) = Ok (behind s end units l p)
-told_token s start end units l (Err k) = rejected_at start (of_token k)
+-- one character, which begins at this place; with it so many code units were read
+abbrev pub lexed : Reader → ℕ → ℕ → LexStep → UnitStep
+lexed s place count (continues l) = reads_on (record { position = s.position; lex = l; start = s.start; count = count; high = None })
+lexed s place count (whole_token t) = at_token s.start (message_step s.position t) (rests count)
+lexed s place count (text_before raw y l) = at_token s.start (message_step s.position (text raw y)) (behind place count l)
+lexed s place count (text_before_mark raw y) = at_token s.start (message_step s.position (text raw y)) (λ p. at_token place (message_step p mark) (rests count))
+lexed s place count no_token = rejects s.start kinds.Tag
+lexed s place count (no_reference k) = rejects (place - k) kinds.Entity
 
-abbrev pub then_mark : Reader → ℕ → ℕ → Result Position Fault → RejectionOr
-then_mark s place units (Err k) = rejected_at s.start (of_token k)
-then_mark s place units (Ok p) = told_token s place units units None (message_step p mark)
+abbrev pub read_char : Reader → ℕ → ℕ → ℕ → UnitStep
+read_char s place count c = cond (is_allowed c) (lexed s place count (lex_step (is_outside s.position) s.lex c)) (rejects place kinds.BadChar)
 
--- one character, which begins at this place and ends before that
-abbrev pub lexed : Reader → ℕ → ℕ → LexStep → RejectionOr
-lexed s place units (continues l) = Ok (record { ready = s.ready; position = s.position; lex = l; start = s.start; units = units; base = s.base; high = None })
-lexed s place units (whole_token t) = told_token s s.start units units None (message_step s.position t)
-lexed s place units (text_before raw y l) = told_token s s.start place units (Some l) (message_step s.position (text raw y))
-lexed s place units (text_before_mark raw y) = then_mark s place units (message_step s.position (text raw y))
-lexed s place units no_token = rejected_at s.start (of_token misplaced)
-lexed s place units (no_reference k) = rejected_at (place - k) entity
+-- one code unit, behind a high one or not
+abbrev pub unit_read : Reader → ℕ → Option ℕ → UnitStep
+unit_read s u None = cond (is_high u) (reads_on (record { position = s.position; lex = s.lex; start = s.start; count = s.count + 1; high = Some u }))
+    (cond (is_low u) (rejects s.count kinds.BadUnit) (read_char s s.count (s.count + 1) u))
+unit_read s u (Some h) = cond (is_low u) (read_char s (s.count - 1) (s.count + 1) (pair_char h u)) (rejects (s.count - 1) kinds.BadUnit)
 
-abbrev pub read_char : Reader → ℕ → ℕ → ℕ → RejectionOr
-read_char s place units c = cond (is_allowed c) (lexed s place units (lex_step (is_outside s.position) s.lex c)) (rejected_at place bad_char)
+-- any other fault that the code unit shows comes before its being one too many
+abbrev pub too_long : Reader → UnitStep → UnitStep
+too_long s (rejects place k) = rejects place k
+too_long s (reads_on t) = cond (nat_le message_limit s.count) (rejects message_limit kinds.TooLong) (reads_on t)
+too_long s (completes v) = cond (nat_le message_limit s.count) (rejects message_limit kinds.TooLong) (completes v)
 
-abbrev pub is_high : ℕ → Bool
-is_high u = nat_le 55296 u && nat_le u 56319
+unfoldable pub unit_step : Reader → ℕ → UnitStep
+unit_step s u = too_long s (unit_read s u s.high)
 
-abbrev pub is_low : ℕ → Bool
-is_low u = nat_le 56320 u && nat_le u 57343
+-- What code units come to: all were read and more may come, a message is complete and these follow it, or the stream is
+-- rejected.
+pub data UnitRun : Type 0 where
+  still_reads : Reader → UnitRun
+  completed : List Event → List ℕ → UnitRun
+  rejected_at : ℕ → Kind → UnitRun
 
--- a message with what stands before it has so many units at most
-abbrev pub too_long_at : ℕ → Reader → RejectionOr → RejectionOr
-too_long_at limit s (Err k) = Err k
-too_long_at limit s (Ok u) = cond (nat_le limit (s.units - s.base)) (rejected_at (s.base + limit) too_long) (Ok u)
+abbrev pub then_units : UnitStep → List ℕ → (Reader → UnitRun) → UnitRun
+then_units (reads_on t) us go_on = go_on t
+then_units (completes v) us go_on = completed v us
+then_units (rejects place k) us go_on = rejected_at place k
 
-abbrev pub unit_read : Reader → ℕ → Option ℕ → RejectionOr
-unit_read s u None = cond (is_high u) (Ok (record { ready = s.ready; position = s.position; lex = s.lex; start = s.start; units = s.units + 1; base = s.base; high = Some u }))
-    (cond (is_low u) (rejected_at s.units bad_unit) (read_char s s.units (s.units + 1) u))
-unit_read s u (Some h) = cond (is_low u) (read_char s (s.units - 1) (s.units + 1) (65536 + (h - 55296) * 1024 + (u - 56320))) (rejected_at (s.units - 1) bad_unit)
+unfoldable pub unit_run : Reader → List ℕ → UnitRun
+unit_run s [] = still_reads s
+unit_run s (u ∷ us) = then_units (unit_step s u) us (λ t. unit_run t us)
 
-unfoldable pub unit_step : ℕ → Reader → ℕ → RejectionOr
-unit_step limit s u = too_long_at limit s (unit_read s u s.high)
+-- ---- a stream of messages
 
-abbrev pub then_units : RejectionOr → (Reader → RejectionOr) → RejectionOr
-then_units (Ok s) f = f s
-then_units (Err k) f = Err k
+-- the messages read, the code units before the one that is read, and where its reading is
+pub record StreamReader : Type 0 where
+  pub ready : List (List Event)
+  pub base : ℕ
+  pub reader : Reader
 
-unfoldable pub unit_run : ℕ → Reader → List ℕ → RejectionOr
-unit_run limit s [] = Ok s
-unit_run limit s (u ∷ us) = then_units (unit_step limit s u) (λ t. unit_run limit t us)
+abbrev pub start_stream : StreamReader
+start_stream = record { ready = []; base = 0; reader = start_reader }
+
+-- what a stream came to; a place counts from its beginning
+pub data StreamRun : Type 0 where
+  reads_stream : StreamReader → StreamRun
+  rejects_stream : StreamReader → ℕ → Kind → StreamRun
+
+abbrev pub then_stream : StreamReader → UnitStep → (StreamReader → StreamRun) → StreamRun
+then_stream s (reads_on t) go_on = go_on (record { ready = s.ready; base = s.base; reader = t })
+then_stream s (completes v) go_on = go_on (record { ready = s.ready ++ v ∷ []; base = s.base + (s.reader.count + 1); reader = start_reader })
+then_stream s (rejects place k) go_on = rejects_stream s (s.base + place) k
+
+unfoldable pub stream_units : StreamReader → List ℕ → StreamRun
+stream_units s [] = reads_stream s
+stream_units s (u ∷ us) = then_stream s (unit_step s.reader u) (λ t. stream_units t us)

@@ -1,2 +1,6 @@
-//! How tokens are written.
+//! How tokens are written as characters and code units, and the machine that reads a message code unit after code unit.
 #![tactic(auto)]
+
+mod kind;
+
+pub use kind::Kind;
