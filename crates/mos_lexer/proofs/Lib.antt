@@ -5,3 +5,6 @@ mod Places
 mod References
 mod Whole
 mod Messages
+mod UnitReads
+mod UnitAccepts
+mod UnitLaws
