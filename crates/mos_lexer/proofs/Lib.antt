@@ -8,3 +8,4 @@ mod Messages
 mod UnitReads
 mod UnitAccepts
 mod UnitLaws
+mod Readings
