@@ -8,7 +8,9 @@ use Rattle.mos_grammar.specs.declared.fault.Fault.TheVariants.{Tag as misplaced}
 use Rattle.mos_fields.specs.Characters.{Text}
 use Rattle.mos_fields.specs.Raw.{tail_from, is_tail}
 use Rattle.mos_fields.specs.Forms.{is_white}
-use Rattle.mos_lexer.specs.Lexing.{begins_mark, WritesTokens}
+use Rattle.mos_fields.specs.Raw.{is_space}
+use Rattle.std.specs.Prelude.{◌&&◌}
+use Rattle.mos_lexer.specs.Lexing.{begins_mark, meets_mark, WritesTokens}
 use Rattle.mos_lexer.specs.LexMachine.{LexState, begin, in_text, text_reference, in_tag, start_name, in_start, attribute_name, before_equals, before_value, in_value, value_reference, before_close, end_name, end_white, in_tail, in_question, in_declaration, LexStep, continues, whole_token, text_before, text_before_mark, no_token, no_reference, lex_step}
 use Rattle.mos_lexer.specs.Encodings.{EncodesChars}
 use Rattle.mos_lexer.specs.Units.{is_outside, lex_at}
@@ -152,6 +154,15 @@ outside_fits g x y ts v h = go (is_white x) (message_forward (before_message g) 
     go true k = (refl, still_not_tail g ts v k)
     go false k = absurd k
 
+-- white space alone meets no U+FEFF
+pub white_meets_none : (x : Text) → is_white x ≡ true → meets_mark x ≡ false
+white_meets_none [] w = refl
+white_meets_none (c ∷ x) w = go (λ h. white_meets_none x h) (is_space c) refl w
+  where
+    go : (is_white x ≡ true → meets_mark x ≡ false) → (b : Bool) → is_space c ≡ b → (b && is_white x) ≡ true → meets_mark (c ∷ x) ≡ false
+    go f true e h = rw e (f h)
+    go f false e h = absurd cc
+
 pub reads_fitting : (p : Position) (ts : List Token) (v : List Event) → lex_at p ≡ begin → StillReads p ts v → Fitting (is_outside p) ts
 reads_fitting p [] v e h = tt
 reads_fitting p (open_tag n a raw ∷ ts) v e h = tt
@@ -162,8 +173,8 @@ reads_fitting (before_message g) (mark ∷ ts) v e h = refl
 reads_fitting (inside s) (mark ∷ ts) v e h = absurd (not_admitted (step s mark) misplaced ts v (step_mark s) (forward s mark ts v h))
 reads_fitting (before_message g) (tail x ∷ ts) v e h = still_not_tail g (tail x ∷ ts) v h
 reads_fitting (inside s) (tail x ∷ ts) v e h = not_tail s (tail x ∷ ts) v e h
-reads_fitting (before_message g) (text x y ∷ ts) v e h = let k = outside_fits g x y ts v h in ((λ i. k.0), (λ i. no_bool i), k.1)
-reads_fitting (inside s) (text x y ∷ ts) v e h = let k = text_fits s x y ts v h in ((λ i. no_bool (sym i)), (λ i. k.0), k.1)
+reads_fitting (before_message g) (text x y ∷ ts) v e h = let k = outside_fits g x y ts v h in ((λ i. white_meets_none x k.0), (λ i j. k.0), (λ i. no_bool i), k.1)
+reads_fitting (inside s) (text x y ∷ ts) v e h = let k = text_fits s x y ts v h in ((λ i. no_bool (sym i)), (λ i j. no_bool (sym i)), (λ i. k.0), k.1)
 
 -- ---- behind a token
 

@@ -7,7 +7,7 @@ use Rattle.mos_fields.specs.Characters.{Text}
 use Rattle.mos_fields.specs.Names.{is_empty, may_grow, named}
 use Rattle.mos_fields.specs.Raw.{end_text, ends_with, tail_from, is_space, is_plain, is_quote}
 use Rattle.mos_fields.specs.Forms.{is_white}
-use Rattle.mos_lexer.specs.Lexing.{byte_order_mark, Writes, nothing, itself, reference, WritesValue, value_ends, value_itself, value_reference, WritesQuoted, quoted_space, quote, WritesEquals, equals_space, equals, WritesTag, ends_start, ends_empty, tag_space, attribute, declaration_from, begins_with, tag_token, WrittenTag, Written, begins_mark, WritesTokens}
+use Rattle.mos_lexer.specs.Lexing.{byte_order_mark, Writes, nothing, itself, reference, WritesValue, value_ends, value_itself, value_reference, WritesQuoted, quoted_space, quote, WritesEquals, equals_space, equals, WritesTag, ends_start, ends_empty, tag_space, attribute, declaration_from, begins_with, tag_token, WrittenTag, Written, begins_mark, meets_mark, WritesTokens}
 use Rattle.mos_fields.specs.References.{reference_of, begins_reference}
 use Rattle.mos_lexer.specs.LexMachine.{Tag, LexState, begin, in_text, text_reference, in_tag, start_name, in_start, attribute_name, before_equals, before_value, in_value, value_reference as value_reference_state, before_close, end_name, end_white, in_tail, in_question, in_declaration, continues, whole_token, text_before, text_before_mark, no_token, continues_if, more_attributes, reference_step, start_step, equals_step, lex_step}
 use Rattle.mos_tables.specs.Events.{Attribute}
@@ -24,10 +24,10 @@ abbrev pub NotTail : List Token → Type 0
 NotTail (tail x ∷ ts) = ⊥
 NotTail ts = Unit {0}
 
--- which tokens may come, where the tokens say whether a message was begun: before one a text is white space, in one no
--- U+FEFF is a token
+-- which tokens may come, where the flag says whether the message was not begun: before it U+FEFF is a token behind white
+-- space, in it no U+FEFF is one
 abbrev pub Fitting : Bool → List Token → Type 0
-Fitting o (text raw y ∷ ts) = (o ≡ true → is_white raw ≡ true) × (o ≡ false → begins_mark ts ≡ false) × NotTail ts
+Fitting o (text raw y ∷ ts) = (o ≡ true → meets_mark raw ≡ false) × (o ≡ true → begins_mark ts ≡ true → is_white raw ≡ true) × (o ≡ false → begins_mark ts ≡ false) × NotTail ts
 Fitting o (mark ∷ ts) = o ≡ true
 Fitting o (tail x ∷ ts) = ⊥
 Fitting o ts = Unit {0}
@@ -90,10 +90,33 @@ and_false : (b : Bool) → (b && false) ≡ false
 and_false true = refl
 and_false false = refl
 
--- white space is no U+FEFF
-no_mark : (o : Bool) (c : ℕ) → (o ≡ true → is_space c ≡ true) → (o && eqb c byte_order_mark) ≡ false
-no_mark false c f = refl
-no_mark true c f = apart c byte_order_mark is_space (f refl) refl
+-- behind white space U+FEFF would come
+white_meets : (raw x : Text) → is_white raw ≡ true → meets_mark (raw ++ byte_order_mark ∷ x) ≡ true
+white_meets [] x w = refl
+white_meets (d ∷ raw) x w = go (λ h. white_meets raw x h) (is_space d) refl w
+  where
+    go : (is_white raw ≡ true → meets_mark (raw ++ byte_order_mark ∷ x) ≡ true) → (b : Bool) → is_space d ≡ b → (b && is_white raw) ≡ true → meets_mark ((d ∷ raw) ++ byte_order_mark ∷ x) ≡ true
+    go f true e h = rw e (f h)
+    go f false e h = absurd (no_both false h refl)
+
+and_split : (a b : Bool) → (a && b) ≡ true → (a ≡ true) × (b ≡ true)
+and_split true b h = (refl, h)
+and_split false b h = absurd cc
+
+-- a text that meets no U+FEFF has none behind white space
+no_mark : (o : Bool) (raw : Text) (c : ℕ) (x : Text) → (o ≡ true → meets_mark (raw ++ c ∷ x) ≡ false) → ((o && eqb c byte_order_mark) && is_white raw) ≡ false
+no_mark o raw c x f = not_true ((o && eqb c byte_order_mark) && is_white raw) (λ h. (
+    let a = and_split (o && eqb c byte_order_mark) (is_white raw) h in
+    let b = and_split o (eqb c byte_order_mark) a.0 in
+    no_both (meets_mark (raw ++ c ∷ x)) (subst (λ (z : ℕ). meets_mark (raw ++ z ∷ x) ≡ true) (sym (eqb-true c byte_order_mark b.1)) (white_meets raw x a.1)) (f b.0)))
+
+-- nothing was read yet
+no_mark_first : (o : Bool) (c : ℕ) (x : Text) → (o ≡ true → meets_mark (c ∷ x) ≡ false) → (o && eqb c byte_order_mark) ≡ false
+no_mark_first o c x f = and_whole (o && eqb c byte_order_mark) (no_mark o [] c x f)
+  where
+    and_whole : (a : Bool) → (a && true) ≡ false → a ≡ false
+    and_whole true h = h
+    and_whole false h = refl
 
 white_at : (raw : Text) (c : ℕ) (x : Text) → is_white (raw ++ c ∷ x) ≡ true → is_space c ≡ true
 white_at [] c x h = first (is_space c) (is_white x) h
@@ -421,7 +444,7 @@ question_forward (d ∷ k) c r ts o h = let p = parts_of c d r (k ++ h.0 ∷ h.1
 -- ---- texts and references
 
 abbrev pub FirstText : Bool → Text → List Token → Type 0
-FirstText o raw us = (o ≡ true → is_white raw ≡ true) × (o ≡ false → begins_mark us ≡ false) × NotTail us
+FirstText o raw us = (o ≡ true → meets_mark raw ≡ false) × (o ≡ true → begins_mark us ≡ true → is_white raw ≡ true) × (o ≡ false → begins_mark us ≡ false) × NotTail us
 
 or_false : (a b : Bool) → (a || b) ≡ true → a ≡ false → b ≡ true
 or_false true b h k = absurd (no_both true refl k)
@@ -449,14 +472,14 @@ text_ends : (o : Bool) (raw y : Text) (c : ℕ) (r : List ℕ) (us : List Token)
 text_ends o raw y c r us fit b sp = go (eqb c 60) refl
   where
     behind_mark : (o : Bool) → FirstText o raw us → begins_mark us ≡ true → LexTakes (cond ((o && eqb c byte_order_mark) && is_white raw) (text_before_mark raw y) (cond (eqb c 38) (continues (text_reference (raw ++ c ∷ []) y [])) (continues (in_text (raw ++ c ∷ []) (y ++ c ∷ []))))) r (text raw y ∷ us)
-    behind_mark false f m = absurd (no_both (begins_mark us) m (f.1 refl))
+    behind_mark false f m = absurd (no_both (begins_mark us) m (f.2 refl))
     behind_mark true f m =
         let v = mark_first us m in
         let k = mark_char c r v.0 (subst (λ (z : List Token). WritesTokens z (c ∷ r)) v.1 sp) in
-        rw (k.0, f.0 refl) (v.0, ap (λ (z : List Token). text raw y ∷ z) v.1, k.1)
+        rw (k.0, f.1 refl m) (v.0, ap (λ (z : List Token). text raw y ∷ z) v.1, k.1)
 
     go : (i : Bool) → eqb c 60 ≡ i → LexTakes (cond i (text_before raw y in_tag) (cond ((o && eqb c byte_order_mark) && is_white raw) (text_before_mark raw y) (cond (eqb c 38) (continues (text_reference (raw ++ c ∷ []) y [])) (continues (in_text (raw ++ c ∷ []) (y ++ c ∷ [])))))) r (text raw y ∷ us)
-    go true e = (us, refl, to_tag us r fit.2 (subst (λ (z : ℕ). WritesTokens us (z ∷ r)) (eqb-true c 60 e) sp))
+    go true e = (us, refl, to_tag us r fit.3 (subst (λ (z : ℕ). WritesTokens us (z ∷ r)) (eqb-true c 60 e) sp))
     go false e = behind_mark o fit (or_false (eqb c 60) (begins_mark us) b e)
 
 and_more : (a b : Bool) → a ≡ false → (a && b) ≡ false
@@ -474,10 +497,10 @@ text_forward nothing o raw y c r q us ts fit e b t sp =
 text_forward (itself {c = d} {y = z} {x = x} pl w) o raw y c r q us ts fit e b t sp =
     let p = parts_of c d r (x ++ q) e in
     let j : is_plain c ≡ true = subst (λ (k : ℕ). is_plain k ≡ true) (sym p.0) pl in
-    let m : (o && eqb c byte_order_mark) ≡ false = no_mark o c (λ i. subst (λ (k : ℕ). is_space k ≡ true) (sym p.0) (white_at raw d x (fit.0 i))) in
+    let m : ((o && eqb c byte_order_mark) && is_white raw) ≡ false = no_mark o raw c x (λ i. subst (λ (k : ℕ). meets_mark (raw ++ k ∷ x) ≡ false) (sym p.0) (fit.0 i)) in
     let u : text (raw ++ d ∷ x) (y ++ d ∷ z) ≡ text ((raw ++ c ∷ []) ++ x) ((y ++ c ∷ []) ++ z) =
     ap (λ (k : ℕ). text (raw ++ k ∷ x) (y ++ k ∷ z)) (sym p.0) ∙ ap (λ (k : Text). text k (y ++ c ∷ z)) (sym (append_assoc raw (c ∷ []) x)) ∙ ap (λ (k : Text). text ((raw ++ c ∷ []) ++ x) k) (sym (append_assoc y (c ∷ []) z)) in
-    rw (plain_60 c j, plain_38 c j, and_more (o && eqb c byte_order_mark) (is_white raw) m) (z, x, q, us, w, p.1, b, t ∙ ap (λ (k : Token). k ∷ us) u, sp)
+    rw (plain_60 c j, plain_38 c j, m) (z, x, q, us, w, p.1, b, t ∙ ap (λ (k : Token). k ∷ us) u, sp)
 text_forward (reference {c = d} {y = z} {x = x} k is w) o raw y c r q us ts fit e b t sp =
     let p = parts_of c 38 r ((k ++ x) ++ q) e in
     let m : (o && eqb c byte_order_mark) ≡ false = subst (λ (i : ℕ). (o && eqb i byte_order_mark) ≡ false) (sym p.0) (and_false o) in
@@ -500,7 +523,7 @@ begin_forward o c r ts fit h = go (eqb c 60) refl ts fit h
     in_first (itself {c = d} {y = z} {x = x} pl w) raw q us f ne re e b sp n =
         let p = parts_of c d r (x ++ q) e in
         let j : is_plain c ≡ true = subst (λ (k : ℕ). is_plain k ≡ true) (sym p.0) pl in
-        let m : (o && eqb c byte_order_mark) ≡ false = no_mark o c (λ i. subst (λ (k : ℕ). is_space k ≡ true) (sym p.0) (white_at [] d x (subst (λ (k : Text). is_white k ≡ true) re (f.0 i)))) in
+        let m : (o && eqb c byte_order_mark) ≡ false = no_mark_first o c x (λ i. subst (λ (k : ℕ). meets_mark (k ∷ x) ≡ false) (sym p.0) (subst (λ (k : Text). meets_mark k ≡ false) re (f.0 i))) in
         rw (m, plain_38 c j) (z, x, q, us, w, p.1, b, ap (λ (k : Text). text k (d ∷ z) ∷ us) re ∙ ap (λ (k : ℕ). text (k ∷ x) (k ∷ z) ∷ us) (sym p.0), sp)
     in_first (reference {c = d} {y = z} {x = x} k is w) raw q us f ne re e b sp n =
         let p = parts_of c 38 r ((k ++ x) ++ q) e in

@@ -5,7 +5,7 @@ use Rattle.mos_fields.specs.Characters.{Text}
 use Rattle.mos_fields.specs.Names.{named, is_empty}
 use Rattle.mos_fields.specs.References.{reference_of, is_digit, number_in}
 use Rattle.mos_fields.specs.Raw.{is_plain, is_quote, is_space}
-use Rattle.mos_fields.specs.Forms.{is_white}
+use Rattle.mos_fields.specs.Forms.{is_white, behind_white}
 use Rattle.mos_tables.specs.Events.{Attribute}
 use Rattle.mos_grammar.specs.Tokens.{Token, open_tag, empty_tag, close_tag, text, tail, mark, declaration}
 
@@ -80,6 +80,10 @@ Written declaration x = (c : ℕ) × (y : List ℕ) × (is_space c ≡ true) × 
 abbrev pub begins_mark : List Token → Bool
 begins_mark (mark ∷ ts) = true
 begins_mark ts = false
+
+-- U+FEFF comes first behind the white space at the front
+abbrev pub meets_mark : Text → Bool
+meets_mark x = begins_with byte_order_mark (behind_white x)
 
 -- a text goes up to the next `<`, or to U+FEFF where that is a token
 abbrev pub Ends : Token → List Token → List ℕ → Type 0
