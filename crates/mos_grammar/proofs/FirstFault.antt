@@ -16,7 +16,7 @@ use Rattle.mos_grammar.specs.declared.fault.Fault.{Fault}
 use Rattle.mos_grammar.specs.declared.fault.Fault.TheVariants.{Twice as twice, Order as out_of_order, Missing as missing, Value as wrong_value, Tag as misplaced}
 use Rattle.mos_grammar.specs.Kinds.{later_columns, FieldShows, shows_twice, shows_order, shows_missing, ValuesShow, given_twice, not_given, not_a_word, AttributeShows, RoleShows, TagShows, First, fault_of}
 
-order_most : (f : Fault) → order_of f ≤ 4
+pub order_most : (f : Fault) → order_of f ≤ 4
 order_most (twice f) = omega arith
 order_most (out_of_order f) = omega arith
 order_most (missing f) = omega arith
@@ -42,7 +42,7 @@ lacking_order (c ∷ cs) seen k h = go (λ e. lacking_order cs seen k e) (lacks 
     go ih false h = ih h
 
 -- of two kinds of showing, the earlier of their first ones is the first
-earlier_first : (P Q : Fault → Type 0) (a b : Option Fault) → First P a → First Q b → First (λ k. P k ⊎ Q k) (earlier a b)
+pub earlier_first : (P Q : Fault → Type 0) (a b : Option Fault) → First P a → First Q b → First (λ k. P k ⊎ Q k) (earlier a b)
 earlier_first P Q None None p q = none
   where
     none : (k : Fault) → P k ⊎ Q k → ⊥
@@ -186,7 +186,7 @@ never : (k : Fault) → ⊥ → ⊥
 never k h = h
 
 -- what is shown in two ways that come to the same
-first_as : (P Q : Fault → Type 0) → ((k : Fault) → P k → Q k) → ((k : Fault) → Q k → P k) → (o : Option Fault) → First P o → First Q o
+pub first_as : (P Q : Fault → Type 0) → ((k : Fault) → P k → Q k) → ((k : Fault) → Q k → P k) → (o : Option Fault) → First P o → First Q o
 first_as P Q f b None h = λ k q. h k (b k q)
 first_as P Q f b (Some j) h = (f j h.0, λ k q. h.1 k (b k q))
 

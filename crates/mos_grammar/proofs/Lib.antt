@@ -4,3 +4,5 @@ pub mod Complete
 pub mod StreamProofs
 pub mod FirstFault
 pub mod Fresh
+mod TokenFirst
+mod TokenLaws

@@ -3,3 +3,5 @@ pub mod Records
 pub mod Kinds
 pub mod RecordMachine
 pub mod Streams
+pub mod TokenKinds
+pub mod Laws
