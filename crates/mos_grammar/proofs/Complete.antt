@@ -245,7 +245,7 @@ tail_ends n x c (d ∷ cs) e =
     let l : length (x ++ c ∷ []) < length (end_text n) = omega (arith, ap length e, length-append x (c ∷ d ∷ cs), length-append x (c ∷ [])) in
     rw (too_short (end_text n) (x ++ c ∷ []) l) (tail_ends n (x ++ c ∷ []) d cs (append_assoc x (c ∷ []) (d ∷ cs) ∙ e))
 
-end_is_tail : (n : Text) → is_tail n (end_text n) ≡ true
+pub end_is_tail : (n : Text) → is_tail n (end_text n) ≡ true
 unfolding is_tail
 end_is_tail n = tail_ends n [] 60 (47 ∷ (n ++ 62 ∷ [])) refl
 

@@ -143,7 +143,7 @@ message_sane (before_message g) (tail x) h = tt
 message_sane (before_message g) mark h = sane_cond (may_mark g) (Ok (before_message behind_mark)) misplaced tt
 message_sane (before_message g) declaration h = sane_cond (may_declare g) (Ok (before_message behind_declaration)) misplaced tt
 
-message_sane_run : (ts : List Token) (p : Position) → SaneAt p → SaneAtOk (message_run p ts)
+pub message_sane_run : (ts : List Token) (p : Position) → SaneAt p → SaneAtOk (message_run p ts)
 unfolding message_run
 message_sane_run [] p h = h
 message_sane_run (t ∷ ts) p h = go (λ u. message_sane_run ts u) (message_step p t) (message_sane p t h)
@@ -152,7 +152,7 @@ message_sane_run (t ∷ ts) p h = go (λ u. message_sane_run ts u) (message_step
     go f (Ok u) g = f u g
     go f (Err k) g = tt
 
-position_reads : (p : Position) → SaneAt p → (r : List Token) × (v : List Event) × StillReads p r v
+pub position_reads : (p : Position) → SaneAt p → (r : List Token) × (v : List Event) × StillReads p r v
 position_reads (inside s) h = reads_some s h
 position_reads (before_message g) h =
     let m = reads_some (opening Envelope mos_name) (sane_opening Envelope mos_name) in

@@ -58,7 +58,7 @@ char_run s (c ∷ cs) = then_spot (char_of s.position s.lex c) (λ u. char_run u
 
 -- ---- the laws of the machine of tokens
 
-step_mark : (s : State) → step s mark ≡ Err misplaced
+pub step_mark : (s : State) → step s mark ≡ Err misplaced
 unfolding step
 step_mark (complete v) = refl
 step_mark (at between f fs) = refl
@@ -66,7 +66,7 @@ step_mark (at (in_field n o) f fs) = refl
 step_mark (at (behind_text n o es) f fs) = refl
 step_mark (at (in_raw n p tag) f fs) = refl
 
-step_tail : (s : State) (x : Text) → lex_at (inside s) ≡ begin → step s (tail x) ≡ Err misplaced
+pub step_tail : (s : State) (x : Text) → lex_at (inside s) ≡ begin → step s (tail x) ≡ Err misplaced
 unfolding step
 step_tail (complete v) x e = refl
 step_tail (at between f fs) x e = refl
@@ -84,7 +84,7 @@ ok_err : (u : State) (k : Fault) → ◌≡◌ {A = Result State Fault} (Err k) 
 ok_err u k e = cc
 
 -- behind a text no raw element is open
-text_next : (s : State) (x y : Text) (u : State) → step s (text x y) ≡ Ok u → lex_at (inside u) ≡ begin
+pub text_next : (s : State) (x y : Text) (u : State) → step s (text x y) ≡ Ok u → lex_at (inside u) ≡ begin
 unfolding step
 text_next (complete v) x y u e = absurd (ok_err u misplaced e)
 text_next (at between f fs) x y u e = go (is_white x) e
@@ -178,7 +178,7 @@ reads_fitting (inside s) (text x y ∷ ts) v e h = let k = text_fits s x y ts v 
 
 -- ---- behind a token
 
-next_reads : (q : Position) (us : List Token) (r : List ℕ) (v : List Event) → WritesTokens us r → StillReads q us v → LexRest (lex_at q) r us
+pub next_reads : (q : Position) (us : List Token) (r : List ℕ) (v : List Event) → WritesTokens us r → StillReads q us v → LexRest (lex_at q) r us
 unfolding is_tail
 next_reads (before_message g) us r v sp h = sp
 next_reads (inside (complete w)) us r v sp h = sp
@@ -319,7 +319,7 @@ fits_any p (in_tail n x) e = tt
 fits_any p (in_question k) e = e
 fits_any p (in_declaration b) e = e
 
-fits_rest : (q : Position) → Fits (record { position = q; lex = lex_at q })
+pub fits_rest : (q : Position) → Fits (record { position = q; lex = lex_at q })
 fits_rest (before_message g) = refl
 fits_rest (inside (complete w)) = refl
 fits_rest (inside (at between f fs)) = refl
@@ -336,7 +336,7 @@ fits_behind (Ok q) = fits_rest q
 fits_behind (Err k) = tt
 
 -- behind a text that was taken no raw element is open
-text_begins : (p : Position) (x y : Text) (q : Position) → message_step p (text x y) ≡ Ok q → lex_at q ≡ begin
+pub text_begins : (p : Position) (x y : Text) (q : Position) → message_step p (text x y) ≡ Ok q → lex_at q ≡ begin
 unfolding message_step
 text_begins (before_message g) x y q e = go (is_white x) e
   where

@@ -143,7 +143,7 @@ reference_back m found more r ts h = go (reference_of m) refl (begins_reference 
     go None e false h = absurd h
 
 -- behind a `<`
-from_tag : (r : List ℕ) (ts : List Token) → InTagRest r ts → WritesTokens ts (60 ∷ r)
+pub from_tag : (r : List ℕ) (ts : List Token) → InTagRest r ts → WritesTokens ts (60 ∷ r)
 from_tag r ts (inl h) = go h.0 h.5 h.6
   where
     go : (e : Bool) → WritesTag false h.2 e h.3 → Finishes h.1 h.2 (60 ∷ []) e (h.1 ++ h.3) r ts → WritesTokens ts (60 ∷ r)

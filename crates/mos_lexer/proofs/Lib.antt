@@ -1,11 +1,11 @@
-mod Lexer
-mod Chars
-mod Forward
-mod Places
-mod References
-mod Whole
-mod Messages
-mod UnitReads
-mod UnitAccepts
-mod UnitLaws
+pub mod Lexer
+pub mod Chars
+pub mod Forward
+pub mod Places
+pub mod References
+pub mod Whole
+pub mod Messages
+pub mod UnitReads
+pub mod UnitAccepts
+pub mod UnitLaws
 mod Readings

@@ -127,7 +127,7 @@ no_message (Rattle.mos_grammar.specs.Streams.mark_before w d) e = cc
 no_message (Rattle.mos_grammar.specs.Streams.declaration_before w d) e = cc
 no_message (Rattle.mos_grammar.specs.Streams.element h) e = cc
 
-position_done : (p : Position) (v : List Event) → StillReads p [] v → p ≡ inside (complete v)
+pub position_done : (p : Position) (v : List Event) → StillReads p [] v → p ≡ inside (complete v)
 position_done (before_message g) v h = absurd (no_message h refl)
 position_done (inside s) v h = let e : Ok s ≡ Ok (complete v) = done_is (Ok s) v h in cc
 

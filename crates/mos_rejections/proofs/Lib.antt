@@ -1,0 +1,3 @@
+mod Shape
+mod Running
+mod AliveRuns
