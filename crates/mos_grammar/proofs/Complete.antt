@@ -231,7 +231,7 @@ too_short e (c ∷ cs) lt = go (too_short e cs (omega arith)) (same e (c ∷ cs)
     go ih false k = ih
     go ih true k = let p : length e ≡ length (c ∷ cs) = ap length (same-is e (c ∷ cs) k) in absurd (omega (arith, p))
 
-ends_itself : (e : Text) → ends_with e e ≡ true
+pub ends_itself : (e : Text) → ends_with e e ≡ true
 ends_itself [] = refl
 ends_itself (c ∷ cs) = rw (same-refl (c ∷ cs)) refl
 

@@ -233,11 +233,11 @@ all_front f (c ∷ a) b h =
     let q = all_front f a b p.1 in
     (both (f c) (list_all f a) p.0 q.0, q.1)
 
-decimal_append : (k : ℕ) (a b : Text) → number_from k (a ++ b) ≡ number_from (number_from k a) b
+pub decimal_append : (k : ℕ) (a b : Text) → number_from k (a ++ b) ≡ number_from (number_from k a) b
 decimal_append k [] b = refl
 decimal_append k (c ∷ a) b = decimal_append (k * 10 + (c - 48)) a b
 
-hex_append : (k : ℕ) (a b : Text) → hex_from k (a ++ b) ≡ hex_from (hex_from k a) b
+pub hex_append : (k : ℕ) (a b : Text) → hex_from k (a ++ b) ≡ hex_from (hex_from k a) b
 hex_append k [] b = refl
 hex_append k (c ∷ a) b = hex_append (k * 16 + hex_value c) a b
 

@@ -29,7 +29,7 @@ use Rattle.mos_rejections.proofs.Running.{Last, Unfinished, going, tail_inside, 
 
 -- ---- what stands behind tokens that are read
 
-push_run : (ts : List Token) (p q : Position) (t : Token) (u : Position) → message_run p ts ≡ Ok q → message_step q t ≡ Ok u → message_run p (ts ++ t ∷ []) ≡ Ok u
+pub push_run : (ts : List Token) (p q : Position) (t : Token) (u : Position) → message_run p ts ≡ Ok q → message_step q t ≡ Ok u → message_run p (ts ++ t ∷ []) ≡ Ok u
 unfolding message_run
 push_run ts p q t u e k = message_run_append ts (t ∷ []) p q e ∙ one (message_step q t) k
   where
@@ -227,8 +227,11 @@ nothing_written t (c ∷ more) h = record { left = λ r w. none r w; text_left =
     no_tag : (r : List ℕ) → ◌≡◌ {A = List ℕ} (60 ∷ r) [] → ⊥
     no_tag r e = cc
 
+pub a_is : (r : List ℕ) → WritesTokens (a_tag ∷ []) r → r ≡ codes "<a>"
+a_is r w = w.4 ∙ ap (λ (z : List ℕ). w.0 ++ z) w.5 ∙ append-nil w.0 ∙ sym (let k = w.2 in k.4)
+
 a_length : (r : List ℕ) → WritesTokens (a_tag ∷ []) r → length r ≡ 3
-a_length r w = ap length (w.4 ∙ ap (λ (z : List ℕ). w.0 ++ z) w.5 ∙ append-nil w.0 ∙ sym (let k = w.2 in k.4))
+a_length r w = ap length (a_is r w)
 
 text_unfinished : (t : Token) (more : List ℕ) → Unfinished t (a_tag ∷ []) (more ++ 120 ∷ codes "<a>")
 text_unfinished t more = record {
@@ -244,7 +247,7 @@ not_empty false h = refl
 one_written : (t : Token) (p more : List ℕ) → Ends t [] [] → Written t (p ++ more) → WritesTokens (t ∷ []) (p ++ more)
 one_written t p more e w = (p ++ more, [], w, e, sym (append-nil (p ++ more)), refl)
 
-a_written : WritesTokens (a_tag ∷ []) (codes "<a>")
+pub a_written : WritesTokens (a_tag ∷ []) (codes "<a>")
 unfolding may_grow
 a_written = (codes "<a>", [], (62 ∷ [], refl, ends_start, refl, refl), tt, refl, refl)
 

@@ -1,3 +1,5 @@
 mod Shape
 mod Running
 mod AliveRuns
+mod Witness
+mod Reaching

@@ -48,14 +48,23 @@ abbrev pub IsTailOf : Text → LexState → Type 0
 IsTailOf m (in_tail n x) = n ≡ m
 IsTailOf m l = ⊥
 
+abbrev pub IsNotTail : LexState → Type 0
+IsNotTail (in_tail n x) = ⊥
+IsNotTail l = Unit {0}
+
 abbrev pub KeepsTail : LexState → LexState → Type 0
 KeepsTail (in_tail m y) l = IsTailOf m l
-KeepsTail k l = Unit {0}
+KeepsTail k l = IsNotTail l
 
-abbrev pub IsReferenceState : LexState → Type 0
-IsReferenceState (text_reference raw y m) = Unit {0}
-IsReferenceState (value_reference g a q v raw m) = Unit {0}
-IsReferenceState l = ⊥
+-- in a tag or at the beginning of a declaration, and in no reference
+abbrev pub IsTagState : LexState → Type 0
+IsTagState begin = ⊥
+IsTagState (in_text raw y) = ⊥
+IsTagState (text_reference raw y m) = ⊥
+IsTagState (value_reference g a q v raw m) = ⊥
+IsTagState (in_tail n x) = ⊥
+IsTagState (in_declaration b) = ⊥
+IsTagState l = Unit {0}
 
 -- the character shows that no reference stands behind the last `&`
 pub record BreaksReference (p : Text) (c k : ℕ) : Type 0 where
@@ -74,7 +83,7 @@ StepSound o l p c (continues k) = Sound o k (p ++ c ∷ []) × KeepsTail k l
 StepSound o l p c (whole_token t) = is_text t ≡ false
 StepSound o l p c (text_before raw y k) = (k ≡ in_tag) × (c ≡ 60) × (raw ≡ p)
 StepSound o l p c (text_before_mark raw y) = (c ≡ byte_order_mark) × (o ≡ true) × (is_white raw ≡ true) × (raw ≡ p)
-StepSound o l p c no_token = IsReferenceState l → ⊥
+StepSound o l p c no_token = IsTagState l
 StepSound o l p c (no_reference k) = BreaksReference p c k
 
 cond_sound : {A : Type 0} (P : A → Type 0) (b : Bool) (x y : A) → (b ≡ true → P x) → (b ≡ false → P y) → P (cond b x y)
@@ -152,21 +161,21 @@ reference_sound o l p m c found more h f g = go (reference_of (m ++ c ∷ [])) r
     go None e false i = record { before = h.before; m = m; whole = h.whole; count = refl; begun = h.begun; not_whole = h.not_whole; no_reference = e; stuck = i }
 
 -- behind the name of a start tag or an attribute
-start_sound : (o : Bool) (l : LexState) (p : Text) (c : ℕ) (g : Tag) (spaced : Bool) (raw : Text) → (IsReferenceState l → ⊥) → StepSound o l p c (start_step g spaced raw c)
-start_sound o l p c g spaced raw n =
+start_sound : (o : Bool) (l : LexState) (p : Text) (c : ℕ) (g : Tag) (spaced : Bool) (raw : Text) → IsTagState l → IsNotTail l → StepSound o l p c (start_step g spaced raw c)
+start_sound o l p c g spaced raw n nt =
     cond_sound (StepSound o l p c) (is_space c) (continues (in_start g true (raw ++ c ∷ []))) (cond (eqb c 62) (whole_token (open_tag g.name g.given (raw ++ c ∷ []))) (cond (eqb c 47) (continues (before_close g (raw ++ c ∷ []))) (continues_if (spaced && may_grow [] c) (attribute_name g (c ∷ []) (raw ++ c ∷ [])))))
-    (λ e. (tt, tt))
+    (λ e. (tt, nt))
     (λ e. cond_sound (StepSound o l p c) (eqb c 62) (whole_token (open_tag g.name g.given (raw ++ c ∷ []))) (cond (eqb c 47) (continues (before_close g (raw ++ c ∷ []))) (continues_if (spaced && may_grow [] c) (attribute_name g (c ∷ []) (raw ++ c ∷ []))))
     (λ e. refl)
     (λ e. cond_sound (StepSound o l p c) (eqb c 47) (continues (before_close g (raw ++ c ∷ []))) (continues_if (spaced && may_grow [] c) (attribute_name g (c ∷ []) (raw ++ c ∷ [])))
-    (λ e. (tt, tt))
-    (λ e. cond_sound (StepSound o l p c) (spaced && may_grow [] c) (continues (attribute_name g (c ∷ []) (raw ++ c ∷ []))) no_token (λ e. (refl, tt)) (λ e. n))))
+    (λ e. (tt, nt))
+    (λ e. cond_sound (StepSound o l p c) (spaced && may_grow [] c) (continues (attribute_name g (c ∷ []) (raw ++ c ∷ []))) no_token (λ e. (refl, nt)) (λ e. n))))
 
-equals_sound : (o : Bool) (l : LexState) (p : Text) (c : ℕ) (g : Tag) (a raw : Text) → (IsReferenceState l → ⊥) → StepSound o l p c (equals_step g a raw c)
-equals_sound o l p c g a raw n =
+equals_sound : (o : Bool) (l : LexState) (p : Text) (c : ℕ) (g : Tag) (a raw : Text) → IsTagState l → IsNotTail l → StepSound o l p c (equals_step g a raw c)
+equals_sound o l p c g a raw n nt =
     cond_sound (StepSound o l p c) (is_space c) (continues (before_equals g a (raw ++ c ∷ []))) (continues_if (eqb c 61) (before_value g a (raw ++ c ∷ [])))
-    (λ e. (tt, tt))
-    (λ e. cond_sound (StepSound o l p c) (eqb c 61) (continues (before_value g a (raw ++ c ∷ []))) no_token (λ e. (tt, tt)) (λ e. n))
+    (λ e. (tt, nt))
+    (λ e. cond_sound (StepSound o l p c) (eqb c 61) (continues (before_value g a (raw ++ c ∷ []))) no_token (λ e. (tt, nt)) (λ e. n))
 
 -- before a message no U+FEFF comes behind white space
 no_mark_behind : (o : Bool) (p : Text) (c : ℕ) → (o ≡ true → meets_mark p ≡ false) → ((o && eqb c byte_order_mark) && is_white p) ≡ false → (o ≡ true → meets_mark (p ++ c ∷ []) ≡ false)
@@ -215,41 +224,41 @@ step_sound o in_tag p c h =
     cond_sound (StepSound o in_tag p c) (eqb c 47) (continues (end_name [])) (cond (eqb c 63) (continues (in_question (codes "xml"))) (continues_if (may_grow [] c) (start_name (c ∷ []))))
     (λ e. (tt, tt))
     (λ e. cond_sound (StepSound o in_tag p c) (eqb c 63) (continues (in_question (codes "xml"))) (continues_if (may_grow [] c) (start_name (c ∷ [])))
-    (λ e. (tt, tt)) (λ e. cond_sound (StepSound o in_tag p c) (may_grow [] c) (continues (start_name (c ∷ []))) no_token (λ e. (refl, tt)) (λ e i. i)))
+    (λ e. (tt, tt)) (λ e. cond_sound (StepSound o in_tag p c) (may_grow [] c) (continues (start_name (c ∷ []))) no_token (λ e. (refl, tt)) (λ e. tt)))
 step_sound o (start_name n) p c h =
     cond_sound (StepSound o (start_name n) p c) (may_grow n c) (continues (start_name (n ++ c ∷ []))) (cond (is_empty n) no_token (start_step (record { name = n; given = [] }) false (60 ∷ n) c))
     (λ e. (some_behind n c, tt))
-    (λ e. cond_sound (StepSound o (start_name n) p c) (is_empty n) no_token (start_step (record { name = n; given = [] }) false (60 ∷ n) c) (λ e i. i) (λ e. start_sound o (start_name n) p c (record { name = n; given = [] }) false (60 ∷ n) (λ i. i)))
-step_sound o (in_start g spaced raw) p c h = start_sound o (in_start g spaced raw) p c g spaced raw (λ i. i)
+    (λ e. cond_sound (StepSound o (start_name n) p c) (is_empty n) no_token (start_step (record { name = n; given = [] }) false (60 ∷ n) c) (λ e. tt) (λ e. start_sound o (start_name n) p c (record { name = n; given = [] }) false (60 ∷ n) tt tt))
+step_sound o (in_start g spaced raw) p c h = start_sound o (in_start g spaced raw) p c g spaced raw tt tt
 step_sound o (attribute_name g a raw) p c h =
     cond_sound (StepSound o (attribute_name g a raw) p c) (may_grow a c) (continues (attribute_name g (a ++ c ∷ []) (raw ++ c ∷ []))) (cond (is_empty a) no_token (equals_step g a raw c))
     (λ e. (some_behind a c, tt))
-    (λ e. cond_sound (StepSound o (attribute_name g a raw) p c) (is_empty a) no_token (equals_step g a raw c) (λ e i. i) (λ e. equals_sound o (attribute_name g a raw) p c g a raw (λ i. i)))
-step_sound o (before_equals g a raw) p c h = equals_sound o (before_equals g a raw) p c g a raw (λ i. i)
+    (λ e. cond_sound (StepSound o (attribute_name g a raw) p c) (is_empty a) no_token (equals_step g a raw c) (λ e. tt) (λ e. equals_sound o (attribute_name g a raw) p c g a raw tt tt))
+step_sound o (before_equals g a raw) p c h = equals_sound o (before_equals g a raw) p c g a raw tt tt
 step_sound o (before_value g a raw) p c h =
     cond_sound (StepSound o (before_value g a raw) p c) (is_space c) (continues (before_value g a (raw ++ c ∷ []))) (continues_if (is_quote c) (in_value g a c [] (raw ++ c ∷ [])))
-    (λ e. (tt, tt)) (λ e. cond_sound (StepSound o (before_value g a raw) p c) (is_quote c) (continues (in_value g a c [] (raw ++ c ∷ []))) no_token (λ e. (e, tt)) (λ e i. i))
+    (λ e. (tt, tt)) (λ e. cond_sound (StepSound o (before_value g a raw) p c) (is_quote c) (continues (in_value g a c [] (raw ++ c ∷ []))) no_token (λ e. (e, tt)) (λ e. tt))
 step_sound o (in_value g a q v raw) p c h =
     cond_sound (StepSound o (in_value g a q v raw) p c) (eqb c q) (continues_if (is_quote q) (in_start (more_attributes g a v) false (raw ++ c ∷ []))) (cond (eqb c 38) (continues (value_reference g a q v (raw ++ c ∷ []) [])) (continues_if (not (eqb c 60)) (in_value g a q (v ++ c ∷ []) (raw ++ c ∷ []))))
-    (λ e. cond_sound (StepSound o (in_value g a q v raw) p c) (is_quote q) (continues (in_start (more_attributes g a v) false (raw ++ c ∷ []))) no_token (λ e. (tt, tt)) (λ e i. i))
+    (λ e. cond_sound (StepSound o (in_value g a q v raw) p c) (is_quote q) (continues (in_start (more_attributes g a v) false (raw ++ c ∷ []))) no_token (λ e. (tt, tt)) (λ e. tt))
     (λ e. cond_sound (StepSound o (in_value g a q v raw) p c) (eqb c 38) (continues (value_reference g a q v (raw ++ c ∷ []) [])) (continues_if (not (eqb c 60)) (in_value g a q (v ++ c ∷ []) (raw ++ c ∷ [])))
     (λ i. ((h, subst (λ (z : ℕ). InReference (p ++ z ∷ []) []) (sym (eqb-true c 38 i)) (first_reference p)), tt))
-    (λ i. cond_sound (StepSound o (in_value g a q v raw) p c) (not (eqb c 60)) (continues (in_value g a q (v ++ c ∷ []) (raw ++ c ∷ []))) no_token (λ e. (h, tt)) (λ e i. i)))
+    (λ i. cond_sound (StepSound o (in_value g a q v raw) p c) (not (eqb c 60)) (continues (in_value g a q (v ++ c ∷ []) (raw ++ c ∷ []))) no_token (λ e. (h, tt)) (λ e. tt)))
 step_sound o (value_reference g a q v raw m) p c h =
     reference_sound o (value_reference g a q v raw m) p m c (λ d. in_value g a q (v ++ d ∷ []) (raw ++ c ∷ [])) (value_reference g a q v (raw ++ c ∷ []) (m ++ c ∷ [])) h.1 (λ d. (h.0, tt)) (λ i. ((h.0, i), tt))
 step_sound o (before_close g raw) p c h =
-    cond_sound (StepSound o (before_close g raw) p c) (eqb c 62) (whole_token (empty_tag g.name g.given (raw ++ c ∷ []))) no_token (λ e. refl) (λ e i. i)
+    cond_sound (StepSound o (before_close g raw) p c) (eqb c 62) (whole_token (empty_tag g.name g.given (raw ++ c ∷ []))) no_token (λ e. refl) (λ e. tt)
 step_sound o (end_name n) p c h =
     cond_sound (StepSound o (end_name n) p c) (may_grow n c) (continues (end_name (n ++ c ∷ []))) (cond (is_empty n) no_token (cond (eqb c 62) (whole_token (close_tag n)) (continues_if (is_space c) (end_white n))))
     (λ e. (tt, tt))
-    (λ e. cond_sound (StepSound o (end_name n) p c) (is_empty n) no_token (cond (eqb c 62) (whole_token (close_tag n)) (continues_if (is_space c) (end_white n))) (λ e i. i)
-    (λ e. cond_sound (StepSound o (end_name n) p c) (eqb c 62) (whole_token (close_tag n)) (continues_if (is_space c) (end_white n)) (λ e. refl) (λ e. cond_sound (StepSound o (end_name n) p c) (is_space c) (continues (end_white n)) no_token (λ e. (tt, tt)) (λ e i. i))))
+    (λ e. cond_sound (StepSound o (end_name n) p c) (is_empty n) no_token (cond (eqb c 62) (whole_token (close_tag n)) (continues_if (is_space c) (end_white n))) (λ e. tt)
+    (λ e. cond_sound (StepSound o (end_name n) p c) (eqb c 62) (whole_token (close_tag n)) (continues_if (is_space c) (end_white n)) (λ e. refl) (λ e. cond_sound (StepSound o (end_name n) p c) (is_space c) (continues (end_white n)) no_token (λ e. (tt, tt)) (λ e. tt))))
 step_sound o (end_white n) p c h =
-    cond_sound (StepSound o (end_white n) p c) (eqb c 62) (whole_token (close_tag n)) (continues_if (is_space c) (end_white n)) (λ e. refl) (λ e. cond_sound (StepSound o (end_white n) p c) (is_space c) (continues (end_white n)) no_token (λ e. (tt, tt)) (λ e i. i))
+    cond_sound (StepSound o (end_white n) p c) (eqb c 62) (whole_token (close_tag n)) (continues_if (is_space c) (end_white n)) (λ e. refl) (λ e. cond_sound (StepSound o (end_white n) p c) (is_space c) (continues (end_white n)) no_token (λ e. (tt, tt)) (λ e. tt))
 step_sound o (in_tail n x) p c h =
     cond_sound (StepSound o (in_tail n x) p c) (ends_with (end_text n) (x ++ c ∷ [])) (whole_token (tail (x ++ c ∷ []))) (continues (in_tail n (x ++ c ∷ [])))
     (λ e. refl) (λ e. ((ap (λ (z : Text). z ++ c ∷ []) h.0, tail_grows n x c h.1 e), refl))
-step_sound o (in_question []) p c h = cond_sound (StepSound o (in_question []) p c) (is_space c) (continues (in_declaration false)) no_token (λ e. (tt, tt)) (λ e i. i)
-step_sound o (in_question (d ∷ k)) p c h = cond_sound (StepSound o (in_question (d ∷ k)) p c) (eqb c d) (continues (in_question k)) no_token (λ e. (tt, tt)) (λ e i. i)
+step_sound o (in_question []) p c h = cond_sound (StepSound o (in_question []) p c) (is_space c) (continues (in_declaration false)) no_token (λ e. (tt, tt)) (λ e. tt)
+step_sound o (in_question (d ∷ k)) p c h = cond_sound (StepSound o (in_question (d ∷ k)) p c) (eqb c d) (continues (in_question k)) no_token (λ e. (tt, tt)) (λ e. tt)
 step_sound o (in_declaration b) p c h =
     cond_sound (StepSound o (in_declaration b) p c) (b && eqb c 62) (whole_token declaration) (continues (in_declaration (eqb c 63))) (λ e. refl) (λ e. (tt, tt))
