@@ -190,7 +190,7 @@ next_reads (inside (at (in_raw n p tag) f fs)) us r v sp h =
     let k = subst (λ (z : List Token). WritesTokens z r) a.2 sp in
     (a.0, k.1, h.1, a.3, k.4 ∙ ap (λ (z : List ℕ). z ++ k.1) k.2, a.2, k.5)
 
-next_back : (q : Position) (us : List Token) (r : List ℕ) → LexRest (lex_at q) r us → WritesTokens us r
+pub next_back : (q : Position) (us : List Token) (r : List ℕ) → LexRest (lex_at q) r us → WritesTokens us r
 next_back (before_message g) us r h = h
 next_back (inside (complete w)) us r h = h
 next_back (inside (at between f fs)) us r h = h

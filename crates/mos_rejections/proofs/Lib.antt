@@ -3,3 +3,4 @@ mod Running
 mod AliveRuns
 mod Witness
 mod Reaching
+mod Stepping

@@ -205,7 +205,7 @@ one_written : (t : Token) (x : List ℕ) → WritesTokens (t ∷ []) x → Writt
 one_written t x w = subst (λ (z : List ℕ). Written t z) (sym (w.4 ∙ ap (λ (z : List ℕ). w.0 ++ z) w.5 ∙ append-nil w.0)) w.2
 
 -- the place of a state that reads no rest
-lex_begins : (p : Position) (l : LexState) → TailAt p l → IsNotTail l → lex_at p ≡ begin
+pub lex_begins : (p : Position) (l : LexState) → TailAt p l → IsNotTail l → lex_at p ≡ begin
 lex_begins p begin t f = t
 lex_begins p (in_text raw y) t f = t
 lex_begins p (text_reference raw y m) t f = t
