@@ -61,7 +61,7 @@ empty_is : (x : Text) → is_empty x ≡ true → x ≡ []
 empty_is [] h = refl
 empty_is (c ∷ x) h = absurd (no_both false h refl)
 
-of_number_digits : (digit : ℕ → Bool) (value : Text → ℕ) (d x : Text) (e : ℕ) → of_number digit value d x ≡ Some e → DigitsOf digit value d x
+pub of_number_digits : (digit : ℕ → Bool) (value : Text → ℕ) (d x : Text) (e : ℕ) → of_number digit value d x ≡ Some e → DigitsOf digit value d x
 of_number_digits digit value d [] e h = absurd cc
 of_number_digits digit value d (c ∷ x) e h = go (eqb c 59) refl (λ k. of_number_digits digit value (d ++ c ∷ []) x e k) h
   where

@@ -209,13 +209,14 @@ other_last : (ts : List Token) (q : Position) (t : Token) → message_run (befor
 other_last ts q t e n f k = let b = no_raw_begins ts q e n in record { fits = λ i. f; raw = λ r w. begin_rest q (t ∷ []) r b w; no_tail = λ i. k }
 
 -- which token comes to an end behind the part, and what is written then
-pub record Ending (ts : List Token) (q : Position) (p : List ℕ) : Type 0 where
+pub record Ending (ts : List Token) (q : Position) (p first : List ℕ) : Type 0 where
   pub token : Token
   pub behind : List Token
   pub more : List ℕ
   pub last : Last q token behind
   pub unfinished : Unfinished token behind more
   pub written : WritesTokens (token ∷ behind) (p ++ more)
+  pub extends : (z : List ℕ) × (more ≡ first ++ z)
 
 nothing_written : (t : Token) (more : List ℕ) → is_empty more ≡ false → Unfinished t [] more
 nothing_written t [] h = absurd cc
@@ -251,7 +252,7 @@ pub a_written : WritesTokens (a_tag ∷ []) (codes "<a>")
 unfolding may_grow
 a_written = (codes "<a>", [], (62 ∷ [], refl, ends_start, refl, refl), tt, refl, refl)
 
-text_ending : (ts : List Token) (q : Position) (p more raw y : Text) → message_run (before_message before_prolog) ts ≡ Ok q → Written (text raw y) (p ++ more) → MayFollow ts (text raw y) → Ending ts q p
+text_ending : (ts : List Token) (q : Position) (p more raw y : Text) → message_run (before_message before_prolog) ts ≡ Ok q → Written (text raw y) (p ++ more) → MayFollow ts (text raw y) → Ending ts q p more
 text_ending ts q p more raw y e w m =
     let x : Text = (p ++ more) ++ 120 ∷ [] in
     let i : p ++ (more ++ 120 ∷ codes "<a>") ≡ x ++ codes "<a>" = sym (append_assoc p more (120 ∷ codes "<a>")) ∙ sym (append_assoc (p ++ more) (120 ∷ []) (codes "<a>")) in
@@ -262,15 +263,16 @@ text_ending ts q p more raw y e w m =
       last = text_last ts q x (y ++ 120 ∷ []) e (m.0, λ o. still_no_mark (p ++ more) 120 (subst (λ (z : Text). meets_mark z ≡ false) w.2 (m.1 o)) refl);
       unfinished = text_unfinished (text x (y ++ 120 ∷ [])) more;
       written = (x, codes "<a>", (some_behind (p ++ more) 120, writes_more w.1, refl), refl, i, a_written);
+      extends = (120 ∷ codes "<a>", refl);
     }
 
-other_ending : (ts : List Token) (q : Position) (p more : List ℕ) (t : Token) → Last q t [] → is_empty more ≡ false → Ends t [] [] → Written t (p ++ more) → Ending ts q p
-other_ending ts q p more t last s e w = record { token = t; behind = []; more = more; last = last; unfinished = nothing_written t more s; written = one_written t p more e w }
+other_ending : (ts : List Token) (q : Position) (p more : List ℕ) (t : Token) → Last q t [] → is_empty more ≡ false → Ends t [] [] → Written t (p ++ more) → Ending ts q p more
+other_ending ts q p more t last s e w = record { token = t; behind = []; more = more; last = last; unfinished = nothing_written t more s; written = one_written t p more e w; extends = ([], sym (append-nil more)) }
 
-pub ending : (ts : List Token) (q : Position) (p : List ℕ) → message_run (before_message before_prolog) ts ≡ Ok q → BeginsToken ts p → Ending ts q p
+pub ending : (ts : List Token) (q : Position) (p : List ℕ) → message_run (before_message before_prolog) ts ≡ Ok q → (b : BeginsToken ts p) → Ending ts q p b.more
 ending ts q p e b = go b.token b.unfinished b.written b.may_follow
   where
-    go : (t : Token) → (is_text t || not (is_empty b.more)) ≡ true → Written t (p ++ b.more) → MayFollow ts t → Ending ts q p
+    go : (t : Token) → (is_text t || not (is_empty b.more)) ≡ true → Written t (p ++ b.more) → MayFollow ts t → Ending ts q p b.more
     go (text raw y) u w m = text_ending ts q p b.more raw y e w m
     go (tail x) u w m = other_ending ts q p b.more (tail x) (tail_last ts q x e m) (not_empty (is_empty b.more) u) tt w
     go (open_tag n g raw) u w m = other_ending ts q p b.more (open_tag n g raw) (other_last ts q (open_tag n g raw) e m tt tt) (not_empty (is_empty b.more) u) tt w
@@ -287,4 +289,5 @@ alive_runs c a =
     let d = ending a.tokens r.0 a.part r.1 a.begins in
     let w : WritesTokens (a.tokens ++ d.token ∷ d.behind) (c ++ d.more) =
     subst (λ (z : List ℕ). WritesTokens (a.tokens ++ d.token ∷ d.behind) z) (sym (append_assoc a.front a.part d.more) ∙ ap (λ (z : List ℕ). z ++ d.more) (sym a.whole)) (fronts_write a.tokens (d.token ∷ d.behind) a.front a.part d.more a.fronts d.written) in
-    going c d.more d.token d.behind r.0 d.last d.unfinished (before_message before_prolog) begin [] a.tokens refl refl r.1 w
+    let g = going c d.more d.token d.behind r.0 d.last d.unfinished (before_message before_prolog) begin [] a.tokens refl refl r.1 w in
+    (g.spot, g.is)

@@ -4,3 +4,5 @@ mod AliveRuns
 mod Witness
 mod Reaching
 mod Stepping
+mod Amp
+mod Rejecting

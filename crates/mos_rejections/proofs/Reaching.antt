@@ -21,10 +21,11 @@ use Rattle.mos_lexer.specs.Lexing.{begins_mark, begins_with, meets_mark, WritesT
 use Rattle.mos_lexer.specs.LexMachine.{Tag, LexState, begin, in_text, text_reference, in_tag, start_name, in_start, attribute_name, before_equals, before_value, in_value, value_reference as value_reference_state, before_close, end_name, end_white, in_tail, in_question, in_declaration}
 use Rattle.mos_lexer.specs.Units.{is_outside, lex_at}
 use Rattle.mos_lexer.proofs.Lexer.{LexRest}
+use Rattle.mos_lexer.proofs.Chars.{char_run, opening_spot}
 use Rattle.mos_lexer.proofs.Places.{IsOpenAt}
 use Rattle.mos_lexer.proofs.Whole.{position_done}
 use Rattle.mos_rejections.specs.Alive.{IsOpenMessage, Fronts, is_before_mos, IsNoRaw, MayFollow, is_text, BeginsToken, IsAlive}
-use Rattle.mos_rejections.proofs.Shape.{InReference, Sound, IsTailFront, IsNotTail, meets_same, not_white}
+use Rattle.mos_rejections.proofs.Shape.{InReference, Sound, IsTailFront, IsNotTail, IsTagState, meets_same, not_white}
 use Rattle.mos_rejections.proofs.Running.{tail_inside}
 use Rattle.mos_rejections.proofs.AliveRuns.{a_tag, a_is, a_written, tail_read, outside_from, push_run}
 use Rattle.mos_rejections.proofs.Witness.{Completion, completion}
@@ -42,7 +43,7 @@ IsTag mark = ⊥
 
 pub data Finish (o : Bool) (l : LexState) (p : Text) : Type 0 where
   by_tag : (t : Token) (more : List ℕ) → IsNotTail l → IsTag t → is_empty more ≡ false → LexRest l more (t ∷ []) → Finish o l p
-  by_text : (raw y : Text) (k : List ℕ) → IsNotTail l → (o ≡ true → meets_mark (p ++ k) ≡ false) → LexRest l (k ++ codes "<a>") (text raw y ∷ a_tag ∷ []) → Finish o l p
+  by_text : (raw y : Text) (k : List ℕ) → IsNotTail l → (IsTagState l → ⊥) → (o ≡ true → meets_mark (p ++ k) ≡ false) → LexRest l (k ++ codes "<a>") (text raw y ∷ a_tag ∷ []) → Finish o l p
   by_tail : (n x : Text) (more : List ℕ) → l ≡ in_tail n x → is_empty more ≡ false → is_tail n (p ++ more) ≡ true → LexRest l more (tail (p ++ more) ∷ []) → Finish o l p
 
 some_end : (k : List ℕ) (c : ℕ) (r : List ℕ) → is_empty (k ++ c ∷ r) ≡ false
@@ -90,7 +91,7 @@ finish_reference : (o : Bool) (raw y m p : Text) → Sound o (text_reference raw
 finish_reference o raw y m p h =
     let w = h.1 in
     let c = completion m w.begun w.not_whole in
-    by_text (raw ++ (c.rest ++ [])) (y ++ c.char ∷ []) c.rest tt (λ i. meets_same p c.rest (subst (λ (z : Text). is_white z ≡ false) (sym w.whole) (not_white w.before m)) ∙ h.2 i)
+    by_text (raw ++ (c.rest ++ [])) (y ++ c.char ∷ []) c.rest tt (λ i. i) (λ i. meets_same p c.rest (subst (λ (z : Text). is_white z ≡ false) (sym w.whole) (not_white w.before m)) ∙ h.2 i)
     (c.rest, c.char, [], [], codes "<a>", a_tag ∷ [], c.some, c.is, nothing, refl, refl, refl, a_written)
 
 finish_value : (o : Bool) (g : Tag) (a : Text) (q : ℕ) (v raw m p : Text) → Sound o (value_reference_state g a q v raw m) p → Finish o (value_reference_state g a q v raw m) p
@@ -104,7 +105,7 @@ finish_value o g a q v raw m p h =
 pub finish : (o : Bool) (l : LexState) (p : Text) → Sound o l p → Finish o l p
 unfolding may_grow
 finish o begin p h = by_tag a_tag (codes "<a>") tt tt refl a_written
-finish o (in_text raw y) p h = by_text (raw ++ []) (y ++ []) [] tt (λ i. ap meets_mark (append-nil p) ∙ h.2 i) ([], [], codes "<a>", a_tag ∷ [], nothing, refl, refl, refl, a_written)
+finish o (in_text raw y) p h = by_text (raw ++ []) (y ++ []) [] tt (λ i. i) (λ i. ap meets_mark (append-nil p) ∙ h.2 i) ([], [], codes "<a>", a_tag ∷ [], nothing, refl, refl, refl, a_written)
 finish o (text_reference raw y m) p h = finish_reference o raw y m p h
 finish o in_tag p h = by_tag a_tag (codes "a>") tt tt refl (inl (false, codes "a", [], 62 ∷ [], refl, ends_start, ([], [], refl, refl, refl)))
 finish o (start_name n) p h = by_tag (open_tag (n ++ []) [] ((60 ∷ n) ++ ([] ++ 62 ∷ []))) (62 ∷ []) tt tt refl (false, [], [], 62 ∷ [], not_is (is_empty n) h, ends_start, ([], [], refl, refl, refl))
@@ -167,6 +168,7 @@ pub record Reached (c : List ℕ) (p : Position) (l : LexState) (front : List �
   pub begun : (r : List ℕ) (ts : List Token) → LexRest l r ts → WritesTokens ts (part ++ r)
   pub tail_at : TailAt p l
   pub sound : Sound (is_outside p) l part
+  pub stood : char_run opening_spot c ≡ Some (record { position = p; lex = l })
 
 pub begins_no_raw : (ts : List Token) (p : Position) → message_run (before_message before_prolog) ts ≡ Ok p → lex_at p ≡ begin → IsNoRaw ts
 begins_no_raw ts p e b x m = let t = tail_read ts p x e m in tail_inside p t.0 x b t.1
@@ -201,7 +203,7 @@ unfinished_tag t more h = rw h (or_true (is_text t))
     or_true true = refl
     or_true false = refl
 
-one_written : (t : Token) (x : List ℕ) → WritesTokens (t ∷ []) x → Written t x
+pub one_written : (t : Token) (x : List ℕ) → WritesTokens (t ∷ []) x → Written t x
 one_written t x w = subst (λ (z : List ℕ). Written t z) (sym (w.4 ∙ ap (λ (z : List ℕ). w.0 ++ z) w.5 ∙ append-nil w.0)) w.2
 
 -- the place of a state that reads no rest
@@ -225,7 +227,7 @@ lex_begins p (in_question k) t f = t
 lex_begins p (in_declaration b) t f = t
 
 -- behind the start tag of a raw element its rest is read
-tail_comes : (p : Position) (n x : Text) → lex_at p ≡ in_tail n [] → is_tail n x ≡ true → (u : Position) × (message_step p (tail x) ≡ Ok u)
+pub tail_comes : (p : Position) (n x : Text) → lex_at p ≡ in_tail n [] → is_tail n x ≡ true → (u : Position) × (message_step p (tail x) ≡ Ok u)
 unfolding message_step step
 tail_comes (inside (at (in_raw m q tag) f fs)) n x e h =
     let i : is_tail m x ≡ true = subst (λ (z : Text). is_tail z x ≡ true) (sym (name_is m n e)) h in
@@ -251,7 +253,7 @@ begins_token c p l front h = go (finish (is_outside p) l h.part h.sound)
       written = one_written t (h.part ++ more) (h.begun more (t ∷ []) rest);
       may_follow = tag_follows h.tokens t tag (begins_no_raw h.tokens p h.ran (lex_begins p l h.tail_at nt));
     }
-    go (by_text raw y k nt meets rest) =
+    go (by_text raw y k nt no_tag meets rest) =
         let w = h.begun (k ++ codes "<a>") (text raw y ∷ a_tag ∷ []) rest in
         let a : w.1 ≡ codes "<a>" = a_is w.1 w.5 in
         let e : h.part ++ k ≡ w.0 = append_cancel_right (h.part ++ k) w.0 (codes "<a>") (append_assoc h.part k (codes "<a>") ∙ w.4 ∙ ap (λ (z : List ℕ). w.0 ++ z) a) in

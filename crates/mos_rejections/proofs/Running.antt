@@ -197,7 +197,7 @@ pub record Unfinished (t : Token) (us : List Token) (more : List ℕ) : Type 0 w
   pub text_left : (r : List ℕ) → LexRest in_tag r us → length r < length more
   pub no_mark : begins_mark us ≡ false
 
-fitting_at : (p q : Position) (l : LexState) (ts : List Token) (t : Token) (us : List Token) → Fits (record { position = p; lex = l }) → message_run p ts ≡ Ok q → Last q t us → FittingAt l (is_outside p) (ts ++ t ∷ us)
+pub fitting_at : (p q : Position) (l : LexState) (ts : List Token) (t : Token) (us : List Token) → Fits (record { position = p; lex = l }) → message_run p ts ≡ Ok q → Last q t us → FittingAt l (is_outside p) (ts ++ t ∷ us)
 fitting_at p q begin ts t us f e last = fits_all p q ts t us f e last
 fitting_at p q (in_text raw y) ts t us f e last = fits_all p q ts t us f e last
 fitting_at p q l ts t us f e last = tt
@@ -208,13 +208,19 @@ too_long cs more h = absurd (let e = length-append cs more in omega (arith, h, e
 head_is : (a b : Token) (x y : List Token) → (a ∷ x) ≡ (b ∷ y) → (a ≡ b) × (x ≡ y)
 head_is a b x y e = (cc, cc)
 
-abbrev pub Reads : List ℕ → Option Spot → Type 0
-Reads cs o = (w : Spot) × (then_spot o (λ u. char_run u cs) ≡ Some w)
+-- where the reading of characters comes to, and what is left of the tokens
+pub record Gone (more : List ℕ) (t : Token) (us : List Token) (q : Position) (o : Option Spot) : Type 0 where
+  pub spot : Spot
+  pub is : o ≡ Some spot
+  pub tokens : List Token
+  pub run : message_run spot.position tokens ≡ Ok q
+  pub fits : Fits spot
+  pub rest : LexRest spot.lex more (tokens ++ t ∷ us)
 
 -- further characters are read from any state
 abbrev pub Goes : List ℕ → List ℕ → Token → List Token → Position → Type 0
 Goes cs more t us q = (p : Position) (l : LexState) (part : List ℕ) (ts : List Token) → Fits (record { position = p; lex = l }) → Sound (is_outside p) l part → message_run p ts ≡ Ok q → LexRest l (cs ++ more) (ts ++ t ∷ us)
-    → (w : Spot) × (char_run (record { position = p; lex = l }) cs ≡ Some w)
+    → Gone more t us q (char_run (record { position = p; lex = l }) cs)
 
 pub sound_at : (u : Position) → Sound (is_outside u) (lex_at u) []
 sound_at (before_message g) = refl
@@ -226,7 +232,7 @@ sound_at (inside (at (in_raw n p tag) f fs)) = (refl, λ y. refl)
 
 -- behind a token that fits
 behind_whole : (cs more : List ℕ) (t : Token) (us : List Token) (q p : Position) (k : Token) (ts us2 : List Token) → Goes cs more t us q → Last q t us → Unfinished t us more
-    → message_run p ts ≡ Ok q → ts ++ t ∷ us ≡ k ∷ us2 → WritesTokens us2 (cs ++ more) → Reads cs (behind_token (message_step p k) rests)
+    → message_run p ts ≡ Ok q → ts ++ t ∷ us ≡ k ∷ us2 → WritesTokens us2 (cs ++ more) → Gone more t us q (then_spot (behind_token (message_step p k) rests) (λ u. char_run u cs))
 behind_whole cs more t us q p k [] us2 ih last left run e sp =
     let i = head_is t k us us2 e in
     too_long cs more (left.left (cs ++ more) (subst (λ (z : List Token). WritesTokens z (cs ++ more)) (sym i.1) sp))
@@ -238,7 +244,7 @@ behind_whole cs more t us q p k (a ∷ ts) us2 ih last left run e sp =
 
 -- before a tag a text is whole
 behind_text_whole : (cs more : List ℕ) (t : Token) (us : List Token) (q p : Position) (raw y : Text) (ts us2 : List Token) → Goes cs more t us q → Last q t us → Unfinished t us more
-    → message_run p ts ≡ Ok q → ts ++ t ∷ us ≡ text raw y ∷ us2 → LexRest in_tag (cs ++ more) us2 → Reads cs (behind_token (message_step p (text raw y)) (λ u. Some (record { position = u; lex = in_tag })))
+    → message_run p ts ≡ Ok q → ts ++ t ∷ us ≡ text raw y ∷ us2 → LexRest in_tag (cs ++ more) us2 → Gone more t us q (then_spot (behind_token (message_step p (text raw y)) (λ u. Some (record { position = u; lex = in_tag }))) (λ u. char_run u cs))
 behind_text_whole cs more t us q p raw y [] us2 ih last left run e sp =
     let i = head_is t (text raw y) us us2 e in
     too_long cs more (left.text_left (cs ++ more) (subst (λ (z : List Token). LexRest in_tag (cs ++ more) z) (sym i.1) sp))
@@ -250,7 +256,7 @@ behind_text_whole cs more t us q p raw y (a ∷ ts) us2 ih last left run e sp =
 
 -- U+FEFF behind white space
 behind_mark_whole : (cs more : List ℕ) (t : Token) (us : List Token) (q p : Position) (raw y : Text) (ts us2 : List Token) → Goes cs more t us q → Last q t us → Unfinished t us more
-    → message_run p ts ≡ Ok q → ts ++ t ∷ us ≡ text raw y ∷ (mark ∷ us2) → WritesTokens us2 (cs ++ more) → Reads cs (behind_token (message_step p (text raw y)) (λ u. behind_token (message_step u mark) rests))
+    → message_run p ts ≡ Ok q → ts ++ t ∷ us ≡ text raw y ∷ (mark ∷ us2) → WritesTokens us2 (cs ++ more) → Gone more t us q (then_spot (behind_token (message_step p (text raw y)) (λ u. behind_token (message_step u mark) rests)) (λ u. char_run u cs))
 behind_mark_whole cs more t us q p raw y [] us2 ih last left run e sp =
     let i = head_is t (text raw y) us (mark ∷ us2) e in
     both (begins_mark us) (subst (λ (z : List Token). begins_mark z ≡ true) (sym i.1) refl) left.no_mark
@@ -263,16 +269,16 @@ behind_mark_whole cs more t us q p raw y (a ∷ ts) us2 ih last left run e sp =
 -- Characters that do not finish the last token are read.
 pub going : (cs more : List ℕ) (t : Token) (us : List Token) (q : Position) → Last q t us → Unfinished t us more → Goes cs more t us q
 unfolding char_run
-going [] more t us q last left p l part ts fit sound run rest = (record { position = p; lex = l }, refl)
+going [] more t us q last left p l part ts fit sound run rest = record { spot = record { position = p; lex = l }; is = refl; tokens = ts; run = run; fits = fit; rest = rest }
 going (c ∷ cs) more t us q last left p l part ts fit sound run rest =
     go (going cs more t us q last left) (lex_step (is_outside p) l c) (char_fits p l c fit) (step_sound (is_outside p) l part c sound)
     (lex_forward reference_laws (is_outside p) l c (cs ++ more) (ts ++ t ∷ us) (fitting_at p q l ts t us fit run last) rest)
   where
-    go : Goes cs more t us q → (o : LexStep) → FitsOk (taken p o) → StepSound (is_outside p) l part c o → LexTakes o (cs ++ more) (ts ++ t ∷ us) → Reads cs (taken p o)
+    go : Goes cs more t us q → (o : LexStep) → FitsOk (taken p o) → StepSound (is_outside p) l part c o → LexTakes o (cs ++ more) (ts ++ t ∷ us) → Gone more t us q (then_spot (taken p o) (λ u. char_run u cs))
     go ih (continues k) f s takes = ih p k (part ++ c ∷ []) ts f s.0 run takes
     go ih (whole_token k) f s takes = behind_whole cs more t us q p k ts takes.0 ih last left run takes.1 takes.2
     go ih (text_before raw y k) f s takes =
-        subst (λ (z : LexState). Reads cs (behind_token (message_step p (text raw y)) (λ u. Some (record { position = u; lex = z })))) (sym s.0)
+        subst (λ (z : LexState). Gone more t us q (then_spot (behind_token (message_step p (text raw y)) (λ u. Some (record { position = u; lex = z }))) (λ u. char_run u cs))) (sym s.0)
         (behind_text_whole cs more t us q p raw y ts takes.0 ih last left run takes.1 (subst (λ (z : LexState). LexRest z (cs ++ more) takes.0) s.0 takes.2))
     go ih (text_before_mark raw y) f s takes = behind_mark_whole cs more t us q p raw y ts takes.0 ih last left run takes.1 takes.2
     go ih no_token f s takes = absurd takes

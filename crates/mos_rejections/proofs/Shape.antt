@@ -5,12 +5,11 @@ use Rattle.std.proofs.lemmas.Bool.{eqb-true}
 use Rattle.mos_fields.specs.Characters.{Text}
 use Rattle.mos_fields.specs.Names.{is_empty, may_grow}
 use Rattle.mos_fields.specs.References.{reference_of, begins_reference}
-use Rattle.mos_fields.specs.Raw.{end_text, ends_with, tail_from, is_space, is_quote}
+use Rattle.mos_fields.specs.Raw.{end_text, ends_with, tail_from, is_tail, is_space, is_quote}
 use Rattle.mos_fields.specs.Forms.{is_white, behind_white}
-use Rattle.mos_grammar.specs.Tokens.{Token, open_tag, empty_tag, close_tag, tail, mark, declaration}
+use Rattle.mos_grammar.specs.Tokens.{Token, open_tag, empty_tag, close_tag, text, tail, mark, declaration}
 use Rattle.mos_lexer.specs.Lexing.{byte_order_mark, begins_with, meets_mark}
 use Rattle.mos_lexer.specs.LexMachine.{Tag, LexState, begin, in_text, text_reference, in_tag, start_name, in_start, attribute_name, before_equals, before_value, in_value, value_reference, before_close, end_name, end_white, in_tail, in_question, in_declaration, LexStep, continues, whole_token, text_before, text_before_mark, no_token, no_reference, continues_if, more_attributes, referred, reference_step, start_step, equals_step, lex_step}
-use Rattle.mos_rejections.specs.Alive.{is_text}
 
 -- behind the last `&` stands the beginning of a reference
 pub record InReference (p m : Text) : Type 0 where
@@ -22,6 +21,10 @@ pub record InReference (p m : Text) : Type 0 where
 -- the end tag comes later, if at all
 abbrev pub IsTailFront : Text → Text → Type 0
 IsTailFront n x = (y : Text) → tail_from n [] (x ++ y) ≡ tail_from n x y
+
+abbrev pub has_no_amp : Text → Bool
+has_no_amp [] = true
+has_no_amp (c ∷ k) = not (eqb c 38) && has_no_amp k
 
 -- what a state knows of the part of a token that it has read
 abbrev pub Sound : Bool → LexState → Text → Type 0
@@ -40,7 +43,7 @@ Sound o (before_close g raw) p = Unit {0}
 Sound o (end_name n) p = Unit {0}
 Sound o (end_white n) p = Unit {0}
 Sound o (in_tail n x) p = (x ≡ p) × IsTailFront n x
-Sound o (in_question k) p = Unit {0}
+Sound o (in_question k) p = has_no_amp k ≡ true
 Sound o (in_declaration b) p = Unit {0}
 
 -- the rest of a raw element is read on as that of the same element, and not begun by a character
@@ -77,12 +80,22 @@ pub record BreaksReference (p : Text) (c k : ℕ) : Type 0 where
   pub no_reference : reference_of (m ++ c ∷ []) ≡ None
   pub stuck : begins_reference (m ++ c ∷ []) ≡ false
 
+-- a token that the character ends
+abbrev pub WholeSound : Bool → LexState → Text → ℕ → Token → Type 0
+WholeSound o l p c (open_tag n g raw) = IsNotTail l
+WholeSound o l p c (empty_tag n g raw) = IsNotTail l
+WholeSound o l p c (close_tag n) = IsNotTail l
+WholeSound o l p c declaration = IsNotTail l
+WholeSound o l p c mark = (o ≡ true) × IsNotTail l
+WholeSound o l p c (text raw y) = ⊥
+WholeSound o l p c (tail y) = (n : Text) × IsTailOf n l × (is_tail n (p ++ c ∷ []) ≡ true) × (y ≡ p ++ c ∷ [])
+
 -- what one more character comes to
 abbrev pub StepSound : Bool → LexState → Text → ℕ → LexStep → Type 0
 StepSound o l p c (continues k) = Sound o k (p ++ c ∷ []) × KeepsTail k l
-StepSound o l p c (whole_token t) = is_text t ≡ false
-StepSound o l p c (text_before raw y k) = (k ≡ in_tag) × (c ≡ 60) × (raw ≡ p)
-StepSound o l p c (text_before_mark raw y) = (c ≡ byte_order_mark) × (o ≡ true) × (is_white raw ≡ true) × (raw ≡ p)
+StepSound o l p c (whole_token t) = WholeSound o l p c t
+StepSound o l p c (text_before raw y k) = (k ≡ in_tag) × (c ≡ 60) × (raw ≡ p) × (o ≡ true → meets_mark p ≡ false) × IsNotTail l
+StepSound o l p c (text_before_mark raw y) = (c ≡ byte_order_mark) × (o ≡ true) × (is_white raw ≡ true) × (raw ≡ p) × (o ≡ true → meets_mark p ≡ false) × IsNotTail l
 StepSound o l p c no_token = IsTagState l
 StepSound o l p c (no_reference k) = BreaksReference p c k
 
@@ -166,7 +179,7 @@ start_sound o l p c g spaced raw n nt =
     cond_sound (StepSound o l p c) (is_space c) (continues (in_start g true (raw ++ c ∷ []))) (cond (eqb c 62) (whole_token (open_tag g.name g.given (raw ++ c ∷ []))) (cond (eqb c 47) (continues (before_close g (raw ++ c ∷ []))) (continues_if (spaced && may_grow [] c) (attribute_name g (c ∷ []) (raw ++ c ∷ [])))))
     (λ e. (tt, nt))
     (λ e. cond_sound (StepSound o l p c) (eqb c 62) (whole_token (open_tag g.name g.given (raw ++ c ∷ []))) (cond (eqb c 47) (continues (before_close g (raw ++ c ∷ []))) (continues_if (spaced && may_grow [] c) (attribute_name g (c ∷ []) (raw ++ c ∷ []))))
-    (λ e. refl)
+    (λ e. nt)
     (λ e. cond_sound (StepSound o l p c) (eqb c 47) (continues (before_close g (raw ++ c ∷ []))) (continues_if (spaced && may_grow [] c) (attribute_name g (c ∷ []) (raw ++ c ∷ [])))
     (λ e. (tt, nt))
     (λ e. cond_sound (StepSound o l p c) (spaced && may_grow [] c) (continues (attribute_name g (c ∷ []) (raw ++ c ∷ []))) no_token (λ e. (refl, nt)) (λ e. n))))
@@ -187,9 +200,9 @@ text_sound : (o : Bool) (raw y p : Text) (c : ℕ) → Sound o (in_text raw y) p
 unfolding lex_step
 text_sound o raw y p c h =
     cond_sound (StepSound o (in_text raw y) p c) (eqb c 60) (text_before raw y in_tag) (cond ((o && eqb c byte_order_mark) && is_white raw) (text_before_mark raw y) (cond (eqb c 38) (continues (text_reference (raw ++ c ∷ []) y [])) (continues (in_text (raw ++ c ∷ []) (y ++ c ∷ [])))))
-    (λ e. (refl, eqb-true c 60 e, h.0))
+    (λ e. (refl, eqb-true c 60 e, h.0, h.2, tt))
     (λ e. cond_sound (StepSound o (in_text raw y) p c) ((o && eqb c byte_order_mark) && is_white raw) (text_before_mark raw y) (cond (eqb c 38) (continues (text_reference (raw ++ c ∷ []) y [])) (continues (in_text (raw ++ c ∷ []) (y ++ c ∷ []))))
-    (λ e. (let a = and_parts (o && eqb c byte_order_mark) (is_white raw) e in let b = and_parts o (eqb c byte_order_mark) a.0 in (eqb-true c byte_order_mark b.1, b.0, a.1, h.0)))
+    (λ e. (let a = and_parts (o && eqb c byte_order_mark) (is_white raw) e in let b = and_parts o (eqb c byte_order_mark) a.0 in (eqb-true c byte_order_mark b.1, b.0, a.1, h.0, h.2, tt)))
     (λ e. (let n = no_mark_behind o p c h.2 (subst (λ (z : Text). ((o && eqb c byte_order_mark) && is_white z) ≡ false) h.0 e) in
     cond_sound (StepSound o (in_text raw y) p c) (eqb c 38) (continues (text_reference (raw ++ c ∷ []) y [])) (continues (in_text (raw ++ c ∷ []) (y ++ c ∷ [])))
     (λ i. ((ap (λ (z : Text). z ++ c ∷ []) h.0, subst (λ (z : ℕ). InReference (p ++ z ∷ []) []) (sym (eqb-true c 38 i)) (first_reference p), n), tt))
@@ -201,7 +214,7 @@ begin_sound o p c h =
     cond_sound (StepSound o begin p c) (eqb c 60) (continues in_tag) (cond (o && eqb c byte_order_mark) (whole_token mark) (cond (eqb c 38) (continues (text_reference (c ∷ []) [] [])) (continues (in_text (c ∷ []) (c ∷ [])))))
     (λ e. (ap (λ (z : Text). z ++ c ∷ []) h ∙ ap (λ (z : ℕ). z ∷ []) (eqb-true c 60 e), tt))
     (λ e. cond_sound (StepSound o begin p c) (o && eqb c byte_order_mark) (whole_token mark) (cond (eqb c 38) (continues (text_reference (c ∷ []) [] [])) (continues (in_text (c ∷ []) (c ∷ []))))
-    (λ e. refl)
+    (λ e. (let a = and_parts o (eqb c byte_order_mark) e in (a.0, tt)))
     (λ e. (let n : o ≡ true → meets_mark (p ++ c ∷ []) ≡ false = no_mark_behind o p c (λ i. subst (λ (z : Text). meets_mark z ≡ false) (sym h) refl) (subst (λ (z : Text). ((o && eqb c byte_order_mark) && is_white z) ≡ false) (sym h) (false_and (o && eqb c byte_order_mark) e)) in
     cond_sound (StepSound o begin p c) (eqb c 38) (continues (text_reference (c ∷ []) [] [])) (continues (in_text (c ∷ []) (c ∷ [])))
     (λ i. ((ap (λ (z : Text). z ++ c ∷ []) (sym h), subst (λ (z : ℕ). InReference (p ++ z ∷ []) []) (sym (eqb-true c 38 i)) (first_reference p), n), tt))
@@ -212,6 +225,10 @@ begin_sound o p c h =
     false_and false e = refl
 
 -- What a state knows, the state behind one more character knows of one character more.
+tail_ends : (n x p : Text) (c : ℕ) → (x ≡ p) × IsTailFront n x → ends_with (end_text n) (x ++ c ∷ []) ≡ true → is_tail n (p ++ c ∷ []) ≡ true
+unfolding is_tail
+tail_ends n x p c h e = ap (λ (z : Text). tail_from n [] (z ++ c ∷ [])) (sym h.0) ∙ h.1 (c ∷ []) ∙ rw e refl
+
 pub step_sound : (o : Bool) (l : LexState) (p : Text) (c : ℕ) → Sound o l p → StepSound o l p c (lex_step o l c)
 unfolding lex_step
 step_sound o begin p c h = begin_sound o p c h
@@ -224,7 +241,7 @@ step_sound o in_tag p c h =
     cond_sound (StepSound o in_tag p c) (eqb c 47) (continues (end_name [])) (cond (eqb c 63) (continues (in_question (codes "xml"))) (continues_if (may_grow [] c) (start_name (c ∷ []))))
     (λ e. (tt, tt))
     (λ e. cond_sound (StepSound o in_tag p c) (eqb c 63) (continues (in_question (codes "xml"))) (continues_if (may_grow [] c) (start_name (c ∷ [])))
-    (λ e. (tt, tt)) (λ e. cond_sound (StepSound o in_tag p c) (may_grow [] c) (continues (start_name (c ∷ []))) no_token (λ e. (refl, tt)) (λ e. tt)))
+    (λ e. (refl, tt)) (λ e. cond_sound (StepSound o in_tag p c) (may_grow [] c) (continues (start_name (c ∷ []))) no_token (λ e. (refl, tt)) (λ e. tt)))
 step_sound o (start_name n) p c h =
     cond_sound (StepSound o (start_name n) p c) (may_grow n c) (continues (start_name (n ++ c ∷ []))) (cond (is_empty n) no_token (start_step (record { name = n; given = [] }) false (60 ∷ n) c))
     (λ e. (some_behind n c, tt))
@@ -247,18 +264,18 @@ step_sound o (in_value g a q v raw) p c h =
 step_sound o (value_reference g a q v raw m) p c h =
     reference_sound o (value_reference g a q v raw m) p m c (λ d. in_value g a q (v ++ d ∷ []) (raw ++ c ∷ [])) (value_reference g a q v (raw ++ c ∷ []) (m ++ c ∷ [])) h.1 (λ d. (h.0, tt)) (λ i. ((h.0, i), tt))
 step_sound o (before_close g raw) p c h =
-    cond_sound (StepSound o (before_close g raw) p c) (eqb c 62) (whole_token (empty_tag g.name g.given (raw ++ c ∷ []))) no_token (λ e. refl) (λ e. tt)
+    cond_sound (StepSound o (before_close g raw) p c) (eqb c 62) (whole_token (empty_tag g.name g.given (raw ++ c ∷ []))) no_token (λ e. tt) (λ e. tt)
 step_sound o (end_name n) p c h =
     cond_sound (StepSound o (end_name n) p c) (may_grow n c) (continues (end_name (n ++ c ∷ []))) (cond (is_empty n) no_token (cond (eqb c 62) (whole_token (close_tag n)) (continues_if (is_space c) (end_white n))))
     (λ e. (tt, tt))
     (λ e. cond_sound (StepSound o (end_name n) p c) (is_empty n) no_token (cond (eqb c 62) (whole_token (close_tag n)) (continues_if (is_space c) (end_white n))) (λ e. tt)
-    (λ e. cond_sound (StepSound o (end_name n) p c) (eqb c 62) (whole_token (close_tag n)) (continues_if (is_space c) (end_white n)) (λ e. refl) (λ e. cond_sound (StepSound o (end_name n) p c) (is_space c) (continues (end_white n)) no_token (λ e. (tt, tt)) (λ e. tt))))
+    (λ e. cond_sound (StepSound o (end_name n) p c) (eqb c 62) (whole_token (close_tag n)) (continues_if (is_space c) (end_white n)) (λ e. tt) (λ e. cond_sound (StepSound o (end_name n) p c) (is_space c) (continues (end_white n)) no_token (λ e. (tt, tt)) (λ e. tt))))
 step_sound o (end_white n) p c h =
-    cond_sound (StepSound o (end_white n) p c) (eqb c 62) (whole_token (close_tag n)) (continues_if (is_space c) (end_white n)) (λ e. refl) (λ e. cond_sound (StepSound o (end_white n) p c) (is_space c) (continues (end_white n)) no_token (λ e. (tt, tt)) (λ e. tt))
+    cond_sound (StepSound o (end_white n) p c) (eqb c 62) (whole_token (close_tag n)) (continues_if (is_space c) (end_white n)) (λ e. tt) (λ e. cond_sound (StepSound o (end_white n) p c) (is_space c) (continues (end_white n)) no_token (λ e. (tt, tt)) (λ e. tt))
 step_sound o (in_tail n x) p c h =
     cond_sound (StepSound o (in_tail n x) p c) (ends_with (end_text n) (x ++ c ∷ [])) (whole_token (tail (x ++ c ∷ []))) (continues (in_tail n (x ++ c ∷ [])))
-    (λ e. refl) (λ e. ((ap (λ (z : Text). z ++ c ∷ []) h.0, tail_grows n x c h.1 e), refl))
+    (λ e. (n, refl, tail_ends n x p c h e, ap (λ (z : Text). z ++ c ∷ []) h.0)) (λ e. ((ap (λ (z : Text). z ++ c ∷ []) h.0, tail_grows n x c h.1 e), refl))
 step_sound o (in_question []) p c h = cond_sound (StepSound o (in_question []) p c) (is_space c) (continues (in_declaration false)) no_token (λ e. (tt, tt)) (λ e. tt)
-step_sound o (in_question (d ∷ k)) p c h = cond_sound (StepSound o (in_question (d ∷ k)) p c) (eqb c d) (continues (in_question k)) no_token (λ e. (tt, tt)) (λ e. tt)
+step_sound o (in_question (d ∷ k)) p c h = cond_sound (StepSound o (in_question (d ∷ k)) p c) (eqb c d) (continues (in_question k)) no_token (λ e. ((and_parts (not (eqb d 38)) (has_no_amp k) h).1, tt)) (λ e. tt)
 step_sound o (in_declaration b) p c h =
-    cond_sound (StepSound o (in_declaration b) p c) (b && eqb c 62) (whole_token declaration) (continues (in_declaration (eqb c 63))) (λ e. refl) (λ e. (tt, tt))
+    cond_sound (StepSound o (in_declaration b) p c) (b && eqb c 62) (whole_token declaration) (continues (in_declaration (eqb c 63))) (λ e. tt) (λ e. (tt, tt))

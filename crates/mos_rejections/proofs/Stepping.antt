@@ -15,7 +15,8 @@ use Rattle.mos_lexer.specs.Lexing.{byte_order_mark, begins_mark, begins_with, Wr
 use Rattle.mos_lexer.specs.LexMachine.{LexState, begin, in_text, text_reference, in_tag, start_name, in_start, attribute_name, before_equals, before_value, in_value, value_reference, before_close, end_name, end_white, in_tail, in_question, in_declaration, LexStep, continues, whole_token, text_before, text_before_mark, no_token, no_reference, lex_step}
 use Rattle.mos_lexer.specs.Units.{is_outside, lex_at}
 use Rattle.mos_lexer.proofs.Lexer.{LexRest, LexTakes, lex_back, from_tag}
-use Rattle.mos_lexer.proofs.Chars.{text_begins, next_back}
+use Rattle.mos_lexer.proofs.Chars.{text_begins, next_back, behind_token, rests, taken}
+use Rattle.mos_lexer.proofs.UnitReads.{run_push}
 use Rattle.mos_lexer.proofs.Places.{IsOpenAt, text_open}
 use Rattle.mos_rejections.specs.Alive.{Fronts, is_text, IsAlive}
 use Rattle.mos_rejections.proofs.Shape.{Sound, IsTailOf, KeepsTail, StepSound, step_sound}
@@ -126,6 +127,7 @@ goes_on c p l front h d k e s kt = record {
   begun = λ r ts w. subst (λ (z : List ℕ). WritesTokens ts z) (sym (append_assoc h.part (d ∷ []) r)) (h.begun (d ∷ r) ts (lex_back (is_outside p) l d r ts (subst (λ (z : LexStep). LexTakes z r ts) (sym e) w)));
   tail_at = tail_kept p l k h.tail_at kt;
   sound = s;
+  stood = run_push c d (record { position = p; lex = l }) h.stood ∙ ap (taken p) e;
 }
 
 -- a position's first state
@@ -152,6 +154,7 @@ goes_over c p l front h d t q e s o =
       begun = λ r ts k. next_back q ts r k;
       tail_at = tail_rests q;
       sound = sound_at q;
+      stood = run_push c d (record { position = p; lex = l }) h.stood ∙ ap (taken p) e ∙ ap (λ (o : Result Position Fault). behind_token o rests) s;
     }
 
 pub goes_to_tag : (c : List ℕ) (p : Position) (l : LexState) (front : List ℕ) (h : Reached c p l front) (d : ℕ) (raw y : Text) (q : Position) → lex_step (is_outside p) l d ≡ text_before raw y in_tag → d ≡ 60 → message_step p (text raw y) ≡ Ok q → Reached (c ++ d ∷ []) q in_tag c
@@ -168,6 +171,7 @@ goes_to_tag c p l front h d raw y q e is s =
       begun = λ r ts k. subst (λ (z : ℕ). WritesTokens ts (z ∷ r)) (sym is) (from_tag r ts k);
       tail_at = text_begins p raw y q s;
       sound = ap (λ (z : ℕ). z ∷ []) is;
+      stood = run_push c d (record { position = p; lex = l }) h.stood ∙ ap (taken p) e ∙ ap (λ (o : Result Position Fault). behind_token o (λ u. Some (record { position = u; lex = in_tag }))) s;
     }
 
 pub goes_over_mark : (c : List ℕ) (p : Position) (l : LexState) (front : List ℕ) (h : Reached c p l front) (d : ℕ) (raw y : Text) (u q : Position) → lex_step (is_outside p) l d ≡ text_before_mark raw y → d ≡ byte_order_mark
@@ -188,6 +192,7 @@ goes_over_mark c p l front h d raw y u q e is s s2 o =
       begun = λ r ts k. next_back q ts r k;
       tail_at = tail_rests q;
       sound = sound_at q;
+      stood = run_push c d (record { position = p; lex = l }) h.stood ∙ ap (taken p) e ∙ ap (λ (o : Result Position Fault). behind_token o (λ w. behind_token (message_step w mark) rests)) s ∙ ap (λ (o : Result Position Fault). behind_token o rests) s2;
     }
   where
     or_true : (b : Bool) → (b || true) ≡ true
