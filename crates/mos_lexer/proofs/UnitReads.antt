@@ -59,10 +59,10 @@ StepFacts us (rejects place k) = Unit {0}
 spot_same : (a : Spot) (o : Option Spot) (b : Spot) → o ≡ Some a → a ≡ b → o ≡ Some b
 spot_same a o b e f = e ∙ ap (λ (z : Spot). Some z) f
 
-push_allowed : (cs : List ℕ) (c : ℕ) → are_allowed cs ≡ true → is_allowed c ≡ true → are_allowed (cs ++ c ∷ []) ≡ true
+pub push_allowed : (cs : List ℕ) (c : ℕ) → are_allowed cs ≡ true → is_allowed c ≡ true → are_allowed (cs ++ c ∷ []) ≡ true
 push_allowed cs c a b = list_all-append is_allowed cs (c ∷ []) ∙ rw (a, b) refl
 
-push_units : (cs : List ℕ) (c : ℕ) → units_of (cs ++ c ∷ []) ≡ units_of cs ++ encode_utf16 c
+pub push_units : (cs : List ℕ) (c : ℕ) → units_of (cs ++ c ∷ []) ≡ units_of cs ++ encode_utf16 c
 push_units cs c = flat_map-append encode_utf16 cs (c ∷ []) ∙ ap (λ (z : List ℕ). units_of cs ++ z) (append-nil (encode_utf16 c))
 
 -- a whole character was read

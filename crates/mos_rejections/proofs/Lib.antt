@@ -6,3 +6,5 @@ mod Reaching
 mod Stepping
 mod Amp
 mod Rejecting
+mod Reading
+mod UnitReading

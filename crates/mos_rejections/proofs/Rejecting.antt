@@ -29,7 +29,7 @@ use Rattle.mos_rejections.proofs.AliveRuns.{outside_from, push_run, fronts_write
 use Rattle.mos_rejections.proofs.Reaching.{TailAt, lex_begins, Reached, begins_no_raw, open_message, tail_comes, Finish, by_tag, by_text, by_tail, IsTag, finish, one_written}
 use Rattle.mos_rejections.proofs.Stepping.{fronts_more, token_written, text_written, mark_written}
 
-stands : (c : List ℕ) (p : Position) (l : LexState) (front : List ℕ) (h : Reached c p l front) → StandsAt h.tokens front h.part c p
+pub stands : (c : List ℕ) (p : Position) (l : LexState) (front : List ℕ) (h : Reached c p l front) → StandsAt h.tokens front h.part c p
 stands c p l front h = record { whole = h.whole; fronts = h.fronts; message = open_message h.tokens p h.ran h.open_at; ran = h.ran }
 
 stands_more : (c : List ℕ) (p : Position) (l : LexState) (front : List ℕ) (h : Reached c p l front) (d : ℕ) → StandsAt h.tokens front (h.part ++ d ∷ []) (c ++ d ∷ []) p

@@ -64,3 +64,57 @@ pub record RejectsChar (c : List ℕ) (d : ℕ) (front : List ℕ) (k : Kind) : 
   pub dead : IsAlive (c ++ d ∷ []) → ⊥
   pub no_message : (v : List Event) → EncodesChars v (c ++ d ∷ []) → ⊥
   pub shows : Shows c d front k
+
+-- ---- code units
+
+-- a high unit that waits for its low one
+abbrev pub waiting : Option ℕ → List ℕ
+waiting None = []
+waiting (Some h) = h ∷ []
+
+abbrev pub IsWaiting : Option ℕ → Type 0
+IsWaiting None = Unit {0}
+IsWaiting (Some h) = is_high h ≡ true
+
+-- The code units are those of allowed characters that are alive, and perhaps a high one behind them.
+pub record AreAlive (us : List ℕ) : Type 0 where
+  pub chars : List ℕ
+  pub high : Option ℕ
+  pub allowed : are_allowed chars ≡ true
+  pub units : us ≡ units_of chars ++ waiting high
+  pub waits : IsWaiting high
+  pub alive : IsAlive chars
+
+-- they are a message but for its length
+pub record AreMessage (us : List ℕ) : Type 0 where
+  pub chars : List ℕ
+  pub value : List Event
+  pub allowed : are_allowed chars ≡ true
+  pub units : us ≡ units_of chars
+  pub encodes : EncodesChars value chars
+
+-- The code units begin a message, as far as they go.
+pub record IsOpen (us : List ℕ) : Type 0 where
+  pub alive : AreAlive us
+  pub short : length us ≤ message_limit
+
+-- Behind the code units us the code unit u shows a fault of this kind at this place.
+pub data ShowsUnit (us : List ℕ) (u : ℕ) : ℕ → Kind → Type 0 where
+  -- a low unit behind no high one
+  lone_low : (c : List ℕ) → us ≡ units_of c → is_low u ≡ true → ShowsUnit us u (length us) BadUnit
+  -- a high unit behind which no low one stands
+  lone_high : (c : List ℕ) (h : ℕ) → us ≡ units_of c ++ h ∷ [] → is_high h ≡ true → is_low u ≡ false → ShowsUnit us u (length (units_of c)) BadUnit
+  -- a character that XML 1.0 forbids
+  forbidden : (c : List ℕ) (d : ℕ) → us ++ u ∷ [] ≡ units_of c ++ encode_utf16 d → is_allowed d ≡ false → ShowsUnit us u (length (units_of c)) BadChar
+  -- a character that shows a fault, behind those before it
+  wrong_char : (c : List ℕ) (d : ℕ) (front : List ℕ) (k : Kind) → are_allowed c ≡ true → us ++ u ∷ [] ≡ units_of c ++ encode_utf16 d → is_allowed d ≡ true → RejectsChar c d front k → ShowsUnit us u (length (units_of front)) k
+  -- one code unit too many, which shows no other fault
+  too_many : length us ≡ message_limit → AreAlive (us ++ u ∷ []) ⊎ AreMessage (us ++ u ∷ []) → ShowsUnit us u message_limit TooLong
+
+-- These code units, and none fewer, show that the stream is rejected: at this place, with this kind.
+pub record IsRejection (us : List ℕ) (place : ℕ) (k : Kind) : Type 0 where
+  pub before : List ℕ
+  pub last : ℕ
+  pub whole : us ≡ before ++ last ∷ []
+  pub open_before : IsOpen before
+  pub shows : ShowsUnit before last place k
