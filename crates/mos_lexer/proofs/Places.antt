@@ -10,20 +10,20 @@ use Rattle.mos_grammar.specs.Records.{field_events}
 use Rattle.mos_grammar.specs.RecordMachine.{State, at, complete, between, in_field, behind_text, in_raw, after_text, step}
 use Rattle.mos_grammar.specs.Streams.{Position, before_message, inside, inside_of, message_step}
 use Rattle.mos_lexer.specs.LexMachine.{LexState, LexStep, continues, whole_token, text_before, text_before_mark, no_token, no_reference, lex_step}
-use Rattle.mos_lexer.specs.Units.{Reader, UnitStep, reads_on, completes, rejects, is_outside, lex_at, behind, at_token, rests as rests_at, lexed, read_char}
+use Rattle.mos_lexer.specs.Units.{Reader, UnitStep, reads_on, completes, rejects, is_outside, lex_at, behind, at_token, opened_by, rests as rests_at, lexed, read_char}
 use Rattle.mos_lexer.proofs.Chars.{Spot, behind_token, rests, taken, char_of, whole_spot}
 
 -- the reader goes on at this spot, or the message is complete there; or both refuse
 abbrev pub SpotIs : Spot → ℕ → UnitStep → Type 0
 SpotIs w count (reads_on u) = (w ≡ record { position = u.position; lex = u.lex }) × (u.count ≡ count) × (u.high ≡ None)
-SpotIs w count (completes v) = w ≡ whole_spot v
+SpotIs w count (completes began v) = w ≡ whole_spot v
 SpotIs w count (rejects place k) = ⊥
 
 abbrev pub Agrees : Option Spot → ℕ → UnitStep → Type 0
 Agrees (Some w) count u = SpotIs w count u
 Agrees None count (rejects place k) = Unit {0}
 Agrees None count (reads_on u) = ⊥
-Agrees None count (completes v) = ⊥
+Agrees None count (completes began v) = ⊥
 
 -- a message is not complete
 abbrev pub IsOpenAt : Position → Type 0
@@ -70,32 +70,32 @@ text_open (inside s) x y q e = go (step s (text x y)) refl e
     go (Ok u) i e = subst (λ (z : Position). IsOpenAt z) (position_is (inside u) q e) (state_text_open s x y u i)
     go (Err k) i e = absurd cc
 
-open_agrees : (start count : ℕ) (l : LexState) (q : Position) → IsOpenAt q → SpotIs (record { position = q; lex = l }) count (behind start count l q)
-open_agrees start count l (before_message g) i = (refl, refl, refl)
-open_agrees start count l (inside (at m f fs)) i = (refl, refl, refl)
-open_agrees start count l (inside (complete v)) i = absurd i
+open_agrees : (opened start count : ℕ) (l : LexState) (q : Position) → IsOpenAt q → SpotIs (record { position = q; lex = l }) count (behind opened start count l q)
+open_agrees opened start count l (before_message g) i = (refl, refl, refl)
+open_agrees opened start count l (inside (at m f fs)) i = (refl, refl, refl)
+open_agrees opened start count l (inside (complete v)) i = absurd i
 
-rest_agrees : (count : ℕ) (q : Position) → SpotIs (record { position = q; lex = lex_at q }) count (rests_at count q)
-rest_agrees count (before_message g) = (refl, refl, refl)
-rest_agrees count (inside (at m f fs)) = (refl, refl, refl)
-rest_agrees count (inside (complete v)) = refl
+rest_agrees : (opened count : ℕ) (q : Position) → SpotIs (record { position = q; lex = lex_at q }) count (rests_at opened count q)
+rest_agrees opened count (before_message g) = (refl, refl, refl)
+rest_agrees opened count (inside (at m f fs)) = (refl, refl, refl)
+rest_agrees opened count (inside (complete v)) = refl
 
-rests_agree : (place count : ℕ) (o : Result Position Fault) → Agrees (behind_token o rests) count (at_token place o (rests_at count))
-rests_agree place count (Ok q) = rest_agrees count q
-rests_agree place count (Err k) = tt
+rests_agree : (place opened count : ℕ) (o : Result Position Fault) → Agrees (behind_token o rests) count (at_token place o (rests_at opened count))
+rests_agree place opened count (Ok q) = rest_agrees opened count q
+rests_agree place opened count (Err k) = tt
 
 lexed_agrees : (s : Reader) (place count : ℕ) (o : LexStep) → Agrees (taken s.position o) count (lexed s place count o)
 lexed_agrees s place count (continues l) = (refl, refl, refl)
-lexed_agrees s place count (whole_token t) = rests_agree s.start count (message_step s.position t)
+lexed_agrees s place count (whole_token t) = rests_agree s.start (opened_by s) count (message_step s.position t)
 lexed_agrees s place count (text_before raw y l) = go (message_step s.position (text raw y)) refl
   where
-    go : (o : Result Position Fault) → message_step s.position (text raw y) ≡ o → Agrees (behind_token o (λ q. Some (record { position = q; lex = l }))) count (at_token s.start o (behind place count l))
-    go (Ok q) e = open_agrees place count l q (text_open s.position raw y q e)
+    go : (o : Result Position Fault) → message_step s.position (text raw y) ≡ o → Agrees (behind_token o (λ q. Some (record { position = q; lex = l }))) count (at_token s.start o (behind (opened_by s) place count l))
+    go (Ok q) e = open_agrees (opened_by s) place count l q (text_open s.position raw y q e)
     go (Err k) e = tt
 lexed_agrees s place count (text_before_mark raw y) = go (message_step s.position (text raw y))
   where
-    go : (o : Result Position Fault) → Agrees (behind_token o (λ q. behind_token (message_step q mark) rests)) count (at_token s.start o (λ p. at_token place (message_step p mark) (rests_at count)))
-    go (Ok q) = rests_agree place count (message_step q mark)
+    go : (o : Result Position Fault) → Agrees (behind_token o (λ q. behind_token (message_step q mark) rests)) count (at_token s.start o (λ p. at_token place (message_step p mark) (rests_at place count)))
+    go (Ok q) = rests_agree place place count (message_step q mark)
     go (Err k) = tt
 lexed_agrees s place count no_token = tt
 lexed_agrees s place count (no_reference k) = tt
@@ -107,13 +107,13 @@ read_agrees s place count c a = rw a (lexed_agrees s place count (lex_step (is_o
 -- where a message is complete, nothing is read on
 abbrev pub OpenStep : UnitStep → Type 0
 OpenStep (reads_on u) = IsOpenAt u.position
-OpenStep (completes v) = Unit {0}
+OpenStep (completes began v) = Unit {0}
 OpenStep (rejects place k) = Unit {0}
 
-behind_open : (start count : ℕ) (l : LexState) (q : Position) → OpenStep (behind start count l q)
-behind_open start count l (before_message g) = tt
-behind_open start count l (inside (at m f fs)) = tt
-behind_open start count l (inside (complete v)) = tt
+behind_open : (opened start count : ℕ) (l : LexState) (q : Position) → OpenStep (behind opened start count l q)
+behind_open opened start count l (before_message g) = tt
+behind_open opened start count l (inside (at m f fs)) = tt
+behind_open opened start count l (inside (complete v)) = tt
 
 token_open : (place : ℕ) (o : Result Position Fault) (f : Position → UnitStep) → ((q : Position) → OpenStep (f q)) → OpenStep (at_token place o f)
 token_open place (Ok q) f h = h q
@@ -121,10 +121,10 @@ token_open place (Err k) f h = tt
 
 lexed_open : (s : Reader) (place count : ℕ) (o : LexStep) → IsOpenAt s.position → OpenStep (lexed s place count o)
 lexed_open s place count (continues l) i = i
-lexed_open s place count (whole_token t) i = token_open s.start (message_step s.position t) (rests_at count) (λ q. behind_open count count (lex_at q) q)
-lexed_open s place count (text_before raw y l) i = token_open s.start (message_step s.position (text raw y)) (behind place count l) (λ q. behind_open place count l q)
-lexed_open s place count (text_before_mark raw y) i = token_open s.start (message_step s.position (text raw y)) (λ p. at_token place (message_step p mark) (rests_at count))
-    (λ p. token_open place (message_step p mark) (rests_at count) (λ q. behind_open count count (lex_at q) q))
+lexed_open s place count (whole_token t) i = token_open s.start (message_step s.position t) (rests_at (opened_by s) count) (λ q. behind_open (opened_by s) count count (lex_at q) q)
+lexed_open s place count (text_before raw y l) i = token_open s.start (message_step s.position (text raw y)) (behind (opened_by s) place count l) (λ q. behind_open (opened_by s) place count l q)
+lexed_open s place count (text_before_mark raw y) i = token_open s.start (message_step s.position (text raw y)) (λ p. at_token place (message_step p mark) (rests_at place count))
+    (λ p. token_open place (message_step p mark) (rests_at place count) (λ q. behind_open place count count (lex_at q) q))
 lexed_open s place count no_token i = tt
 lexed_open s place count (no_reference k) i = tt
 

@@ -13,7 +13,7 @@ use Rattle.mos_grammar.specs.Streams.{message_step}
 use Rattle.mos_lexer.specs.LexMachine.{lex_step}
 use Rattle.mos_lexer.specs.declared.kind.Kind.{Kind}
 use Rattle.mos_lexer.specs.declared.kind.Kind.TheVariants as kinds
-use Rattle.mos_lexer.specs.Units.{unit_step, StreamRun, reads_stream, rejects_stream, start_stream, stream_units}
+use Rattle.mos_lexer.specs.Units.{unit_step, Found, StreamRun, reads_stream, rejects_stream, start_stream, stream_units}
 
 -- the canonical encodings of the messages read, or the place and the kind
 data Answer : Type 0 where
@@ -21,7 +21,7 @@ data Answer : Type 0 where
   rejects_at : ℕ → Kind → Answer
 
 answer_of : StreamRun → Answer
-answer_of (reads_stream s) = reads_all (map (λ v. canonical v) s.ready)
+answer_of (reads_stream s) = reads_all (map (λ (f : Found). canonical f.value) s.ready)
 answer_of (rejects_stream s place k) = rejects_at place k
 
 answer : List ℕ → Answer

@@ -38,7 +38,7 @@ low_unit c h a = (grind (arith, nat_tests), grind (arith, nat_tests))
 no_limit : (s : Reader) (x : UnitStep) → nat_le message_limit s.count ≡ false → too_long s x ≡ x
 no_limit s (rejects p k) e = refl
 no_limit s (reads_on t) e = rw e refl
-no_limit s (completes v) e = rw e refl
+no_limit s (completes began v) e = rw e refl
 
 below : (k : ℕ) → k < message_limit → nat_le message_limit k ≡ false
 below k h = grind (arith, nat_tests)
@@ -78,7 +78,7 @@ char_units t c rest no_high a short = go (allowed_cases c a)
         let b2 = below (t.count + 1) s2 in
         let i : t.count + 1 - 1 ≡ t.count = omega arith in
         let j : t.count + 1 + 1 ≡ t.count + 2 = omega arith in
-        rw (e, no_high, h, b, l, i, j, pair_again c large, no_limit (record { position = t.position; lex = t.lex; start = t.start; count = t.count + 1; high = Some (55296 + (c - 65536) / 1024) }) (read_char t t.count (t.count + 2) c) b2) refl
+        rw (e, no_high, h, b, l, i, j, pair_again c large, no_limit (record { position = t.position; lex = t.lex; start = t.start; opened = t.opened; count = t.count + 1; high = Some (55296 + (c - 65536) / 1024) }) (read_char t t.count (t.count + 2) c) b2) refl
 
     go : ((9 ≤ c) × (c < 55296)) ⊎ (((57344 ≤ c) × (c < 65534)) ⊎ ((65536 ≤ c) × (c < 1114112))) → unit_run t (encode_utf16 c ++ rest) ≡ then_units (read_char t t.count (t.count + width c) c) rest (λ u. unit_run u rest)
     go (inl p) = one (omega (arith, p.1))
@@ -87,7 +87,7 @@ char_units t c rest no_high a short = go (allowed_cases c a)
 
 -- the characters that follow lead to the end of the message
 Leads : List ℕ → List Event → List ℕ → Type 0
-Leads cs v rest = (u : Reader) → u.high ≡ None → IsOpenAt u.position → u.count + length (units_of cs) ≤ message_limit → char_run (record { position = u.position; lex = u.lex }) cs ≡ Some (whole_spot v) → unit_run u (units_of cs ++ rest) ≡ completed v rest
+Leads cs v rest = (u : Reader) → u.high ≡ None → IsOpenAt u.position → u.count + length (units_of cs) ≤ message_limit → char_run (record { position = u.position; lex = u.lex }) cs ≡ Some (whole_spot v) → (began : ℕ) × (unit_run u (units_of cs ++ rest) ≡ completed began v rest)
 
 nothing_read : (u : Reader) {w : Spot} → char_run (record { position = u.position; lex = u.lex }) [] ≡ Some w → ◌≡◌ {A = Option Spot} (Some (record { position = u.position; lex = u.lex })) (Some w)
 unfolding char_run
@@ -99,16 +99,16 @@ accept_one cs c v rest a more t no_high i short e =
     let l : length (units_of (c ∷ cs)) ≡ width c + length (units_of cs) = length-append (encode_utf16 c) (units_of cs) in
     let room : t.count + width c ≤ message_limit = omega (arith, short, l) in
     let left : (t.count + width c) + length (units_of cs) ≤ message_limit = omega (arith, short, l) in
-    ap (unit_run t) (append_assoc (encode_utf16 c) (units_of cs) rest) ∙ char_units t c (units_of cs ++ rest) no_high a room
-    ∙ go left (char_of t.position t.lex c) e (read_char t t.count (t.count + width c) c) (read_agrees t t.count (t.count + width c) c a) (read_open t t.count (t.count + width c) c i)
+    let g = go left (char_of t.position t.lex c) e (read_char t t.count (t.count + width c) c) (read_agrees t t.count (t.count + width c) c a) (read_open t t.count (t.count + width c) c i) in
+    (g.0, ap (unit_run t) (append_assoc (encode_utf16 c) (units_of cs) rest) ∙ char_units t c (units_of cs ++ rest) no_high a room ∙ g.1)
   where
     go : (t.count + width c) + length (units_of cs) ≤ message_limit → (o : Option Spot) → then_spot o (λ u. char_run u cs) ≡ Some (whole_spot v) → (x : UnitStep) → Agrees o (t.count + width c) x → OpenStep x
-        → then_units x (units_of cs ++ rest) (λ u. unit_run u (units_of cs ++ rest)) ≡ completed v rest
+        → (began : ℕ) × (then_units x (units_of cs ++ rest) (λ u. unit_run u (units_of cs ++ rest)) ≡ completed began v rest)
     go left None h x g j = absurd cc
     go left (Some w) h (rejects p k) g j = absurd g
-    go left (Some w) h (completes v2) g j =
+    go left (Some w) h (completes began v2) g j =
         let s = complete_stops v2 v cs (ap (λ (z : Spot). char_run z cs) (sym g) ∙ h) in
-        ap (λ (z : List Event). completed z (units_of cs ++ rest)) s.1 ∙ ap (λ (z : List ℕ). completed v (units_of z ++ rest)) s.0
+        (began, ap (λ (z : List Event). completed began z (units_of cs ++ rest)) s.1 ∙ ap (λ (z : List ℕ). completed began v (units_of z ++ rest)) s.0)
     go left (Some w) h (reads_on u) g j = more u g.2 j (subst (λ (z : ℕ). z + length (units_of cs) ≤ message_limit) (sym g.1) left) (ap (λ (z : Spot). char_run z cs) (sym g.0) ∙ h)
 
 accepts : (cs : List ℕ) (v : List Event) (rest : List ℕ) → are_allowed cs ≡ true → Leads cs v rest
@@ -121,12 +121,14 @@ accepts [] v rest a = none
     same_spot : (x y : Spot) → ◌≡◌ {A = Option Spot} (Some x) (Some y) → x ≡ y
     same_spot x y e = cc
 
-    none : (u : Reader) → u.high ≡ None → IsOpenAt u.position → u.count + length (units_of []) ≤ message_limit → char_run (record { position = u.position; lex = u.lex }) [] ≡ Some (whole_spot v) → unit_run u (units_of [] ++ rest) ≡ completed v rest
+    none : (u : Reader) → u.high ≡ None → IsOpenAt u.position → u.count + length (units_of []) ≤ message_limit → char_run (record { position = u.position; lex = u.lex }) [] ≡ Some (whole_spot v) → (began : ℕ) × (unit_run u (units_of [] ++ rest) ≡ completed began v rest)
     none u h i s e = absurd (open_not_whole u.position i (ap (λ (z : Spot). z.position) (same_spot (record { position = u.position; lex = u.lex }) (whole_spot v) (nothing_read u e))))
 accepts (c ∷ cs) v rest a = let ok = and_parts (is_allowed c) (are_allowed cs) a in accept_one cs c v rest ok.0 (accepts cs v rest ok.1)
 
 -- Exactly the encodings of a message are read to its end, whatever follows.
-pub encoding_read : (v : List Event) (us rest : List ℕ) → Encodes v us → unit_run start_reader (us ++ rest) ≡ completed v rest
+pub encoding_read : (v : List Event) (us rest : List ℕ) → Encodes v us → (began : ℕ) × (unit_run start_reader (us ++ rest) ≡ completed began v rest)
 unfolding Leads
 encoding_read v us rest h =
-    ap (λ (z : List ℕ). unit_run start_reader (z ++ rest)) h.units ∙ accepts h.chars v rest h.allowed start_reader refl tt (let n : length (units_of h.chars) ≤ message_limit = subst (λ (z : List ℕ). length z ≤ message_limit) h.units h.short in omega (arith, n)) (message_run reference_laws v h.chars h.encodes)
+    let n : length (units_of h.chars) ≤ message_limit = subst (λ (z : List ℕ). length z ≤ message_limit) h.units h.short in
+    let a = accepts h.chars v rest h.allowed start_reader refl tt (omega (arith, n)) (message_run reference_laws v h.chars h.encodes) in
+    (a.0, ap (λ (z : List ℕ). unit_run start_reader (z ++ rest)) h.units ∙ a.1)

@@ -53,7 +53,7 @@ run_push cs c s e = char_run_append cs (c ∷ []) opening_spot ∙ ap (λ (o : O
 -- what a step comes to
 abbrev pub StepFacts : List ℕ → UnitStep → Type 0
 StepFacts us (reads_on t) = UnitsReached us t
-StepFacts us (completes v) = Encodes v us
+StepFacts us (completes began v) = Encodes v us
 StepFacts us (rejects place k) = Unit {0}
 
 spot_same : (a : Spot) (o : Option Spot) (b : Spot) → o ≡ Some a → a ≡ b → o ≡ Some b
@@ -73,7 +73,7 @@ char_facts us s h vs place count c e n short = go (is_allowed c) refl
     of_spot : is_allowed c ≡ true → (o : Option Spot) → char_of s.position s.lex c ≡ o → (u : UnitStep) → Agrees o count u → StepFacts vs u
     of_spot a None i (rejects p k) g = tt
     of_spot a None i (reads_on t) g = absurd g
-    of_spot a None i (completes v) g = absurd g
+    of_spot a None i (completes began v) g = absurd g
     of_spot a (Some w) i (rejects p k) g = tt
     of_spot a (Some w) i (reads_on t) g = record {
       chars = h.chars ++ c ∷ [];
@@ -84,7 +84,7 @@ char_facts us s h vs place count c e n short = go (is_allowed c) refl
       short = short;
       high_is = subst WaitsHigh (sym g.2) tt;
     }
-    of_spot a (Some w) i (completes v) g = record {
+    of_spot a (Some w) i (completes began v) g = record {
       chars = h.chars ++ c ∷ [];
       allowed = push_allowed h.chars c h.allowed a;
       units = e ∙ sym (push_units h.chars c);
@@ -139,12 +139,12 @@ step_facts us s h u small = go (nat_le message_limit s.count) refl
     fits : nat_le message_limit s.count ≡ false → (x : UnitStep) → StepFacts (us ++ u ∷ []) x → StepFacts (us ++ u ∷ []) (too_long s x)
     fits e (rejects p k) f = tt
     fits e (reads_on t) f = rw e f
-    fits e (completes v) f = rw e f
+    fits e (completes began v) f = rw e f
 
     full : nat_le message_limit s.count ≡ true → (x : UnitStep) → StepFacts (us ++ u ∷ []) (too_long s x)
     full e (rejects p k) = tt
     full e (reads_on t) = rw e tt
-    full e (completes v) = rw e tt
+    full e (completes began v) = rw e tt
 
     go : (b : Bool) → nat_le message_limit s.count ≡ b → StepFacts (us ++ u ∷ []) (too_long s (unit_read s u s.high))
     go true e = full e (unit_read s u s.high)
@@ -157,7 +157,7 @@ start_reached = record { chars = []; allowed = refl; units = refl; ran = refl; c
 -- what a run comes to
 abbrev pub RunFacts : List ℕ → UnitRun → Type 0
 RunFacts us (still_reads t) = UnitsReached us t
-RunFacts us (completed v rest) = (x : List ℕ) × (us ≡ x ++ rest) × Encodes v x
+RunFacts us (completed began v rest) = (x : List ℕ) × (us ≡ x ++ rest) × Encodes v x
 RunFacts us (rejected_at place k) = Unit {0}
 
 pub run_facts : (ds us : List ℕ) (s : Reader) → UnitsReached us s → are_units ds ≡ true → RunFacts (us ++ ds) (unit_run s ds)
@@ -173,5 +173,5 @@ run_facts (u ∷ ds) us s h w = go (λ t g. run_facts ds (us ++ u ∷ []) t g la
 
     go : ((t : Reader) → UnitsReached (us ++ u ∷ []) t → RunFacts ((us ++ u ∷ []) ++ ds) (unit_run t ds)) → (o : UnitStep) → StepFacts (us ++ u ∷ []) o → RunFacts (us ++ u ∷ ds) (then_units o ds (λ t. unit_run t ds))
     go f (reads_on t) g = rw (← append_assoc us (u ∷ []) ds) (f t g)
-    go f (completes v) g = (us ++ u ∷ [], sym (append_assoc us (u ∷ []) ds), g)
+    go f (completes began v) g = (us ++ u ∷ [], sym (append_assoc us (u ∷ []) ds), g)
     go f (rejects p k) g = tt

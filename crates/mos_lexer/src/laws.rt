@@ -1,5 +1,5 @@
 //! Laws of encodings, for the crates above: each function does nothing, and its clause is the law.
-ghost use Rattle.mos_lexer.specs.Laws.{EncodingsAreApart, EncodingsAreRead, OnlyEncodingsAreRead, PiecesAreOne};
+ghost use Rattle.mos_lexer.specs.Laws.{EncodingsAreApart, EncodingsAreRead, OnlyEncodingsAreRead, PiecesAreOne, StreamPiecesAreOne, HandedOutIsBehind};
 
 /// No encoding of a message begins another one, and none encodes two values.
 pub fn encodings_are_apart()
@@ -19,4 +19,14 @@ pub fn only_encodings_are_read()
 /// In whichever pieces code units come, they come to the same.
 pub fn pieces_are_one()
     ensures { PiecesAreOne }
+{}
+
+/// In whichever pieces a stream comes, it comes to the same.
+pub fn stream_pieces_are_one()
+    ensures { StreamPiecesAreOne }
+{}
+
+/// Messages that were handed out do not matter for what is read behind them.
+pub fn handed_out_is_behind()
+    ensures { HandedOutIsBehind }
 {}
