@@ -17,7 +17,7 @@ use Rattle.mos_grammar.specs.Streams.{before_prolog, Position, before_message, i
 use Rattle.mos_lexer.specs.declared.kind.Kind.{Kind}
 use Rattle.mos_lexer.specs.declared.kind.Kind.TheVariants as kinds
 use Rattle.mos_lexer.specs.LexMachine.{LexState, begin, in_tag, LexStep, continues, whole_token, text_before, text_before_mark, no_token, no_reference, lex_step}
-use Rattle.mos_lexer.specs.Units.{is_outside, lex_at, kind_of, Reader, UnitStep, reads_on, completes, rejects, behind, at_token, rests as rests_at, lexed, read_char}
+use Rattle.mos_lexer.specs.Units.{is_outside, lex_at, kind_of, Reader, UnitStep, reads_on, completes, rejects, behind, at_token, opened_by, rests as rests_at, lexed, read_char}
 use Rattle.mos_lexer.specs.Encodings.{EncodesChars}
 use Rattle.mos_lexer.proofs.References.{reference_laws}
 use Rattle.mos_lexer.proofs.Chars.{Spot, behind_token, rests, taken, char_of, then_spot, char_run, opening_spot, whole_spot}
@@ -196,13 +196,13 @@ pub record ReaderAt (c : List ℕ) (s : Reader) : Type 0 where
 
 abbrev pub CharFacts : List ℕ → ℕ → UnitStep → Type 0
 CharFacts c d (reads_on t) = ReaderAt (c ++ d ∷ []) t
-CharFacts c d (completes v) = Unit {0}
+CharFacts c d (completes began v) = Unit {0}
 CharFacts c d (rejects place k) = (front : List ℕ) × (place ≡ width_of front) × Shows c d front k
 
-behind_facts : (c : List ℕ) (d : ℕ) (q : Position) (l : LexState) (front : List ℕ) (start count : ℕ) → start ≡ width_of front → count ≡ width_of (c ++ d ∷ []) → (IsOpenAt q → Reached (c ++ d ∷ []) q l front) → CharFacts c d (behind start count l q)
-behind_facts c d (before_message g) l front start count s n f = record { front = front; reached = f tt; start_is = s; count_is = n }
-behind_facts c d (inside (at m a fs)) l front start count s n f = record { front = front; reached = f tt; start_is = s; count_is = n }
-behind_facts c d (inside (complete v)) l front start count s n f = tt
+behind_facts : (c : List ℕ) (d : ℕ) (q : Position) (l : LexState) (front : List ℕ) (opened start count : ℕ) → start ≡ width_of front → count ≡ width_of (c ++ d ∷ []) → (IsOpenAt q → Reached (c ++ d ∷ []) q l front) → CharFacts c d (behind opened start count l q)
+behind_facts c d (before_message g) l front opened start count s n f = record { front = front; reached = f tt; start_is = s; count_is = n }
+behind_facts c d (inside (at m a fs)) l front opened start count s n f = record { front = front; reached = f tt; start_is = s; count_is = n }
+behind_facts c d (inside (complete v)) l front opened start count s n f = tt
 
 pub lexed_facts : (c : List ℕ) (s : Reader) (r : ReaderAt c s) (d count : ℕ) → count ≡ width_of (c ++ d ∷ []) → CharFacts c d (lexed s s.count count (lex_step (is_outside s.position) s.lex d))
 lexed_facts c s r d count n = go (lex_step (is_outside s.position) s.lex d) refl (step_sound (is_outside s.position) s.lex part d sound)
@@ -220,24 +220,24 @@ lexed_facts c s r d count n = go (lex_step (is_outside s.position) s.lex d) refl
     go (continues k) i a = record { front = r.front; reached = goes_on c s.position s.lex r.front h d k i a.0 a.1; start_is = r.start_is; count_is = n }
     go (whole_token t) i a = two (message_step s.position t) refl
       where
-        two : (o : Result Position Fault) → message_step s.position t ≡ o → CharFacts c d (at_token s.start o (rests_at count))
-        two (Ok q) j = behind_facts c d q (lex_at q) (c ++ d ∷ []) count count n n (λ o. goes_over c s.position s.lex r.front h d t q i j o)
+        two : (o : Result Position Fault) → message_step s.position t ≡ o → CharFacts c d (at_token s.start o (rests_at (opened_by s) count))
+        two (Ok q) j = behind_facts c d q (lex_at q) (c ++ d ∷ []) (opened_by s) count count n n (λ o. goes_over c s.position s.lex r.front h d t q i j o)
         two (Err k) j = (r.front, r.start_is, whole_shows c s.position s.lex r.front h d t k i a j)
     go (text_before raw y k) i a = two (message_step s.position (text raw y)) refl
       where
         is_tag : lex_step (is_outside s.position) s.lex d ≡ text_before raw y in_tag
         is_tag = i ∙ ap (text_before raw y) a.0
 
-        two : (o : Result Position Fault) → message_step s.position (text raw y) ≡ o → CharFacts c d (at_token s.start o (behind s.count count k))
-        two (Ok q) j = behind_facts c d q k c s.count count r.count_is n (λ o. subst (λ (z : LexState). Reached (c ++ d ∷ []) q z c) (sym a.0) (goes_to_tag c s.position s.lex r.front h d raw y q is_tag a.1 j))
+        two : (o : Result Position Fault) → message_step s.position (text raw y) ≡ o → CharFacts c d (at_token s.start o (behind (opened_by s) s.count count k))
+        two (Ok q) j = behind_facts c d q k c (opened_by s) s.count count r.count_is n (λ o. subst (λ (z : LexState). Reached (c ++ d ∷ []) q z c) (sym a.0) (goes_to_tag c s.position s.lex r.front h d raw y q is_tag a.1 j))
         two (Err k) j = (r.front, r.start_is, text_shows c s.position s.lex r.front h d raw y k is_tag a.1 a.2 a.3 a.4 j)
     go (text_before_mark raw y) i a = two (message_step s.position (text raw y)) refl
       where
-        three : (u : Position) → message_step s.position (text raw y) ≡ Ok u → (o : Result Position Fault) → message_step u mark ≡ o → CharFacts c d (at_token s.count o (rests_at count))
-        three u j (Ok q) m = behind_facts c d q (lex_at q) (c ++ d ∷ []) count count n n (λ o. goes_over_mark c s.position s.lex r.front h d raw y u q i a.0 j m o)
+        three : (u : Position) → message_step s.position (text raw y) ≡ Ok u → (o : Result Position Fault) → message_step u mark ≡ o → CharFacts c d (at_token s.count o (rests_at s.count count))
+        three u j (Ok q) m = behind_facts c d q (lex_at q) (c ++ d ∷ []) s.count count count n n (λ o. goes_over_mark c s.position s.lex r.front h d raw y u q i a.0 j m o)
         three u j (Err k) m = (c, r.count_is, mark_shows c s.position s.lex r.front h d raw y u k i a.0 a.1 a.2 j m)
 
-        two : (o : Result Position Fault) → message_step s.position (text raw y) ≡ o → CharFacts c d (at_token s.start o (λ p. at_token s.count (message_step p mark) (rests_at count)))
+        two : (o : Result Position Fault) → message_step s.position (text raw y) ≡ o → CharFacts c d (at_token s.start o (λ p. at_token s.count (message_step p mark) (rests_at s.count count)))
         two (Ok u) j = three u j (message_step u mark) refl
         two (Err k) j = (r.front, r.start_is, mark_text_shows c s.position s.lex r.front h d raw y k i a.0 a.1 a.2 a.3 a.4 a.5 j)
     go no_token i a = (r.front, r.start_is, shows_no_token h.tokens r.front h.part s.position (stands c s.position s.lex r.front h) (begins_no_token c s.position s.lex r.front h d i) (tag_no_text c s.position s.lex r.front h a) (tag_no_reference c s.position s.lex r.front h d a))

@@ -3,7 +3,7 @@ use Rattle.std.proofs.Common.{◌≡◌, ℕ, ◌+◌, ◌-◌, ◌<◌, ◌≤�
 use Rattle.std.specs.Prelude.{nat_le, nat_lt, ◌&&◌}
 use Rattle.std.specs.Char.Escape.{encode_utf16}
 use Rattle.std.specs.List.{list_all}
-use Rattle.std.proofs.lemmas.List.{append-nil, length-append}
+use Rattle.std.proofs.lemmas.List.{append-nil, length-append, map-append}
 use Rattle.std.proofs.lemmas.Bool.Decides.{nat_tests}
 use Rattle.mos_fields.specs.Characters.{is_allowed, are_allowed, is_high, is_low, pair_char, units_of}
 use Rattle.mos_fields.proofs.CharacterLemmas.{one_unit}
@@ -13,13 +13,13 @@ use Rattle.mos_lexer.specs.declared.kind.Kind.TheVariants as kinds
 use Rattle.mos_lexer.specs.LexMachine.{lex_step}
 use Rattle.mos_lexer.specs.Encodings.{EncodesChars, Encodes, AreEncodings}
 use Rattle.mos_lexer.specs.Laws.{are_units}
-use Rattle.mos_lexer.specs.Units.{message_limit, is_outside, Reader, start_reader, UnitStep, reads_on, completes, rejects, lexed, read_char, unit_read, too_long, unit_step, UnitRun, still_reads, completed, rejected_at, then_units, unit_run, StreamReader, start_stream, StreamRun, reads_stream, rejects_stream, then_stream, stream_units}
+use Rattle.mos_lexer.specs.Units.{message_limit, is_outside, Reader, start_reader, UnitStep, reads_on, completes, rejects, lexed, read_char, unit_read, too_long, unit_step, UnitRun, still_reads, completed, rejected_at, then_units, unit_run, Found, StreamReader, start_stream, StreamRun, reads_stream, rejects_stream, then_stream, stream_units}
 use Rattle.mos_lexer.proofs.Chars.{Spot, char_of, char_run, opening_spot, whole_spot, run_message}
 use Rattle.mos_lexer.proofs.Places.{SpotIs, Agrees, read_agrees}
 use Rattle.mos_lexer.proofs.UnitReads.{pair_units, push_allowed, push_units, run_push}
 use Rattle.mos_rejections.specs.Alive.{IsAlive}
 use Rattle.mos_rejections.specs.Rejections.{Shows, RejectsChar, waiting, IsWaiting, AreAlive, AreMessage, IsOpen, ShowsUnit, lone_low, lone_high, forbidden, wrong_char, too_many, IsRejection}
-use Rattle.mos_rejections.specs.Laws.{RunIsExact, RunsAreExact, StreamIsExact, StreamsAreExact}
+use Rattle.mos_rejections.specs.Laws.{RunIsExact, RunsAreExact, values, StreamIsExact, StreamsAreExact}
 use Rattle.mos_rejections.proofs.Reaching.{Reached, alive_at}
 use Rattle.mos_rejections.proofs.Reading.{start_reached, width_of, width_one, ReaderAt, CharFacts, lexed_facts, dead_at, no_message_at}
 
@@ -29,7 +29,7 @@ pub record UnitsAt (us : List ℕ) (s : Reader) : Type 0 where
   pub allowed : are_allowed chars ≡ true
   pub units : us ≡ units_of chars ++ waiting s.high
   pub waits : IsWaiting s.high
-  pub reader : (count : ℕ) → count ≡ width_of chars → ReaderAt chars (record { position = s.position; lex = s.lex; start = s.start; count = count; high = None })
+  pub reader : (count : ℕ) → count ≡ width_of chars → ReaderAt chars (record { position = s.position; lex = s.lex; start = s.start; opened = s.opened; count = count; high = None })
   pub counted : s.count ≡ length us
 
 pub alive_units : (us : List ℕ) (s : Reader) → UnitsAt us s → AreAlive us
@@ -38,33 +38,33 @@ alive_units us s h = let r = h.reader (width_of h.chars) refl in record { chars 
 -- what a step comes to, its length aside
 abbrev pub UnitFacts : List ℕ → ℕ → UnitStep → Type 0
 UnitFacts us u (reads_on t) = UnitsAt (us ++ u ∷ []) t
-UnitFacts us u (completes v) = (c : List ℕ) × (are_allowed c ≡ true) × (us ++ u ∷ [] ≡ units_of c) × EncodesChars v c
+UnitFacts us u (completes began v) = (c : List ℕ) × (are_allowed c ≡ true) × (us ++ u ∷ [] ≡ units_of c) × EncodesChars v c
 UnitFacts us u (rejects place k) = ShowsUnit us u place k
 
 -- a whole character
 char_facts : (us : List ℕ) (u : ℕ) (s : Reader) (h : UnitsAt us s) (place count d : ℕ) → us ++ u ∷ [] ≡ units_of h.chars ++ encode_utf16 d → place ≡ width_of h.chars → count ≡ length (us ++ u ∷ []) → UnitFacts us u (read_char s place count d)
 char_facts us u s h place count d e pl n = go (is_allowed d) refl
   where
-    r : ReaderAt h.chars (record { position = s.position; lex = s.lex; start = s.start; count = place; high = None })
+    r : ReaderAt h.chars (record { position = s.position; lex = s.lex; start = s.start; opened = s.opened; count = place; high = None })
     r = h.reader place pl
 
     w : count ≡ width_of (h.chars ++ d ∷ [])
     w = n ∙ ap length e ∙ length-append (units_of h.chars) (encode_utf16 d) ∙ sym (width_one h.chars d)
 
     facts : CharFacts h.chars d (lexed s place count (lex_step (is_outside s.position) s.lex d))
-    facts = lexed_facts h.chars (record { position = s.position; lex = s.lex; start = s.start; count = place; high = None }) r d count w
+    facts = lexed_facts h.chars (record { position = s.position; lex = s.lex; start = s.start; opened = s.opened; count = place; high = None }) r d count w
 
     reached : Reached h.chars s.position s.lex r.front
     reached = r.reached
 
     of_spot : is_allowed d ≡ true → (o : Option Spot) → char_of s.position s.lex d ≡ o → (x : UnitStep) → Agrees o count x → CharFacts h.chars d x → UnitFacts us u x
     of_spot a None i (reads_on t) g f = absurd g
-    of_spot a None i (completes v) g f = absurd g
+    of_spot a None i (completes began v) g f = absurd g
     of_spot a (Some z) i (rejects p k) g f = absurd g
     of_spot a None i (rejects p k) g f =
         let none : char_run opening_spot (h.chars ++ d ∷ []) ≡ None = run_push h.chars d (record { position = s.position; lex = s.lex }) reached.stood ∙ i in
         subst (λ (z : ℕ). ShowsUnit us u z k) (sym f.1) (wrong_char h.chars d f.0 k h.allowed e a (record { alive = alive_at h.chars s.position s.lex r.front reached; dead = dead_at h.chars d none; no_message = no_message_at h.chars d none; shows = f.2 }))
-    of_spot a (Some z) i (completes v) g f = (
+    of_spot a (Some z) i (completes began v) g f = (
       h.chars ++ d ∷ [],
       push_allowed h.chars d h.allowed a,
       e ∙ sym (push_units h.chars d),
@@ -125,7 +125,7 @@ unit_facts us s h u small (Some d) e = go (is_low u) refl
 -- what a step comes to
 abbrev pub StepFacts : List ℕ → ℕ → UnitStep → Type 0
 StepFacts us u (reads_on t) = UnitsAt (us ++ u ∷ []) t × (length (us ++ u ∷ []) ≤ message_limit)
-StepFacts us u (completes v) = Encodes v (us ++ u ∷ [])
+StepFacts us u (completes began v) = Encodes v (us ++ u ∷ [])
 StepFacts us u (rejects place k) = ShowsUnit us u place k
 
 step_facts : (us : List ℕ) (s : Reader) (h : UnitsAt us s) → length us ≤ message_limit → (u : ℕ) → u < 65536 → StepFacts us u (unit_step s u)
@@ -141,16 +141,16 @@ step_facts us s h fit u small = go (nat_le message_limit s.count) refl (unit_rea
     go : (b : Bool) → nat_le message_limit s.count ≡ b → (x : UnitStep) → UnitFacts us u x → StepFacts us u (too_long s x)
     go b e (rejects place k) f = f
     go true e (reads_on t) f = rw e (too_many (full e) (inl (alive_units (us ++ u ∷ []) t f)))
-    go true e (completes v) f = rw e (too_many (full e) (inr (record { chars = f.0; value = v; allowed = f.1; units = f.2; encodes = f.3 })))
+    go true e (completes began v) f = rw e (too_many (full e) (inr (record { chars = f.0; value = v; allowed = f.1; units = f.2; encodes = f.3 })))
     go false e (reads_on t) f = rw e (f, room e)
-    go false e (completes v) f = rw e (record { chars = f.0; allowed = f.1; units = f.2; encodes = f.3; short = room e })
+    go false e (completes began v) f = rw e (record { chars = f.0; allowed = f.1; units = f.2; encodes = f.3; short = room e })
 
 start_at : UnitsAt [] start_reader
 start_at = record { chars = []; allowed = refl; units = refl; waits = tt; reader = λ k i. record { front = []; reached = start_reached; start_is = refl; count_is = i }; counted = refl }
 
 abbrev pub RunFacts : List ℕ → UnitRun → Type 0
 RunFacts us (still_reads s) = UnitsAt us s × (length us ≤ message_limit)
-RunFacts us (completed v rest) = (x : List ℕ) × (us ≡ x ++ rest) × Encodes v x
+RunFacts us (completed began v rest) = (x : List ℕ) × (us ≡ x ++ rest) × Encodes v x
 RunFacts us (rejected_at place k) = (x : List ℕ) × (rest : List ℕ) × (us ≡ x ++ rest) × IsRejection x place k
 
 first_unit : (u : ℕ) (ds : List ℕ) → are_units (u ∷ ds) ≡ true → (u < 65536) × (are_units ds ≡ true)
@@ -163,7 +163,7 @@ run_facts (u ∷ ds) us s h fit w = let k = first_unit u ds w in go (λ t g f. r
   where
     go : ((t : Reader) → UnitsAt (us ++ u ∷ []) t → length (us ++ u ∷ []) ≤ message_limit → RunFacts ((us ++ u ∷ []) ++ ds) (unit_run t ds)) → (o : UnitStep) → StepFacts us u o → RunFacts (us ++ u ∷ ds) (then_units o ds (λ t. unit_run t ds))
     go f (reads_on t) g = rw (← append_assoc us (u ∷ []) ds) (f t g.0 g.1)
-    go f (completes v) g = (us ++ u ∷ [], sym (append_assoc us (u ∷ []) ds), g)
+    go f (completes began v) g = (us ++ u ∷ [], sym (append_assoc us (u ∷ []) ds), g)
     go f (rejects place k) g = (us ++ u ∷ [], ds, sym (append_assoc us (u ∷ []) ds), record { before = us; last = u; whole = refl; open_before = record { alive = alive_units us s h; short = fit }; shows = g })
 
 pub runs_exact : RunsAreExact
@@ -171,7 +171,7 @@ runs_exact us w = go (unit_run start_reader us) (run_facts us [] start_reader st
   where
     go : (o : UnitRun) → RunFacts us o → RunIsExact us o
     go (still_reads s) f = record { alive = alive_units us s f.0; short = f.1 }
-    go (completed v rest) f = f
+    go (completed began v rest) f = f
     go (rejected_at place k) f = f
 
 -- ---- streams
@@ -181,7 +181,7 @@ pub record StreamAt (us : List ℕ) (s : StreamReader) : Type 0 where
   pub before : List ℕ
   pub now : List ℕ
   pub whole : us ≡ before ++ now
-  pub messages : AreEncodings s.ready before
+  pub messages : AreEncodings (values s.ready) before
   pub base_is : s.base ≡ length before
   pub at_now : UnitsAt now s.reader
   pub short : length now ≤ message_limit
@@ -200,11 +200,11 @@ stream_facts (u ∷ ds) us s h w = let k = first_unit u ds w in go (λ t g. stre
 
     go : ((t : StreamReader) → StreamAt (us ++ u ∷ []) t → StreamIsExact ((us ++ u ∷ []) ++ ds) (stream_units t ds)) → (o : UnitStep) → StepFacts h.now u o → StreamIsExact (us ++ u ∷ ds) (then_stream s o (λ t. stream_units t ds))
     go f (reads_on t) g = rw (← append_assoc us (u ∷ []) ds) (f (record { ready = s.ready; base = s.base; reader = t }) (record { before = h.before; now = h.now ++ u ∷ []; whole = pushed; messages = h.messages; base_is = h.base_is; at_now = g.0; short = g.1 }))
-    go f (completes v) g =
+    go f (completes began v) g =
         let i : s.base + (s.reader.count + 1) ≡ length (h.before ++ (h.now ++ u ∷ [])) =
         (let a = h.base_is in let n = h.at_now in let b = n.counted in let c = length-append h.before (h.now ++ u ∷ []) in let d = one_more h.now u in omega (arith, a, b, c, d)) in
-        rw (← append_assoc us (u ∷ []) ds) (f (record { ready = s.ready ++ v ∷ []; base = s.base + (s.reader.count + 1); reader = start_reader })
-        (record { before = h.before ++ (h.now ++ u ∷ []); now = []; whole = pushed ∙ sym (append-nil (h.before ++ (h.now ++ u ∷ []))); messages = encodings_push s.ready h.before v (h.now ++ u ∷ []) h.messages g; base_is = i; at_now = start_at; short = omega arith }))
+        rw (← append_assoc us (u ∷ []) ds) (f (record { ready = s.ready ++ record { began = s.base + began; value = v } ∷ []; base = s.base + (s.reader.count + 1); reader = start_reader })
+        (record { before = h.before ++ (h.now ++ u ∷ []); now = []; whole = pushed ∙ sym (append-nil (h.before ++ (h.now ++ u ∷ []))); messages = subst (λ (z : List (List Event)). AreEncodings z (h.before ++ (h.now ++ u ∷ []))) (sym (map-append (λ (f : Found). f.value) s.ready (record { began = s.base + began; value = v } ∷ []))) (encodings_push (values s.ready) h.before v (h.now ++ u ∷ []) h.messages g); base_is = i; at_now = start_at; short = omega arith }))
     go f (rejects place k) g = (
       h.before,
       h.now ++ u ∷ [],
