@@ -295,7 +295,7 @@ done_is (Ok (at (in_field n o) f fs)) v h = absurd (go h.2)
 done_is (Ok (at (behind_text n o es) f fs)) v h = absurd (no_token (close_tag n) h.0 h.1)
 done_is (Ok (at (in_raw n p tag) f fs)) v h = let a = h.2 in absurd (no_token (tail a.0) h.1 a.2)
 
--- Exactly the spellings of a value lead to that value.
+-- Exactly the tokens of a record with a value lead to that value.
 pub record_runs : (t : Table) (n : Text) (v : List Event) (ts : List Token) → IsRecord t n v ts → run (opening t n) ts ≡ Ok (complete v)
 record_runs t n v ts h =
     done_is (run (opening t n) ts) v (run_forward ts [] (opening t n) v (h.0, h.1, [], h.2, append-nil ts ∙ h.3, (refl, h.4)))

@@ -32,8 +32,8 @@ head_is a b x y e = (cc, cc)
 opening_reads : (v : List Event) (r : List Token) → IsRecord Envelope mos_name v r → Reads (opening Envelope mos_name) r v
 opening_reads v r h = (h.0, h.1, [], h.2, h.3, (refl, h.4))
 
-opening_spells : (v : List Event) (r : List Token) → Reads (opening Envelope mos_name) r v → IsRecord Envelope mos_name v r
-opening_spells v r h = (h.0, h.1, h.3, h.4 ∙ ap (λ (w : List Token). h.1 ++ close_tag mos_name ∷ w) h.5.0, h.5.1)
+opening_record : (v : List Event) (r : List Token) → Reads (opening Envelope mos_name) r v → IsRecord Envelope mos_name v r
+opening_record v r h = (h.0, h.1, h.3, h.4 ∙ ap (λ (w : List Token). h.1 ++ close_tag mos_name ∷ w) h.5.0, h.5.1)
 
 first_forward : {g : Stage} {v : List Event} {ts : List Token} → IsMessage g v ts → (k : Token) (r : List Token) → (k ∷ r) ≡ ts → StillTakes (message_step (before_message g) k) r v
 unfolding message_step
@@ -64,7 +64,7 @@ unfolding message_step
 message_back (inside s) k r v h = back s k r v (takes_inside (step s k) r v h)
 message_back (before_message g) (open_tag n a tag) r v h =
     let t = tested (same mos_name n) (Ok (inside (opening Envelope mos_name))) misplaced r v h in
-    subst (λ (x : Text). IsMessage g v (open_tag x a tag ∷ r)) (same-is mos_name n t.0) (element (opening_spells v r t.1))
+    subst (λ (x : Text). IsMessage g v (open_tag x a tag ∷ r)) (same-is mos_name n t.0) (element (opening_record v r t.1))
 message_back (before_message g) (empty_tag n a tag) r v h = absurd h
 message_back (before_message g) (close_tag n) r v h = absurd h
 message_back (before_message g) (text x y) r v h =
@@ -104,7 +104,7 @@ message_done (Err k) v h = absurd h
 message_done (Ok (before_message g)) v h = absurd (no_message h refl)
 message_done (Ok (inside s)) v h = let e : Ok s ≡ Ok (complete v) = done_is (Ok s) v h in cc
 
--- Exactly the spellings of a value, each behind what may stand before a message, lead to that value.
+-- Exactly the tokens of a message with a value, each behind what may stand before a message, lead to that value.
 pub message_runs : (g : Stage) (v : List Event) (ts : List Token) → IsMessage g v ts → message_run (before_message g) ts ≡ Ok (inside (complete v))
 message_runs g v ts h = message_done (message_run (before_message g) ts) v (message_run_forward ts [] (before_message g) v (rw (append-nil ts) h))
 
@@ -156,7 +156,7 @@ pub position_reads : (p : Position) → SaneAt p → (r : List Token) × (v : Li
 position_reads (inside s) h = reads_some s h
 position_reads (before_message g) h =
     let m = reads_some (opening Envelope mos_name) (sane_opening Envelope mos_name) in
-    (open_tag mos_name [] [] ∷ m.0, m.1, element (opening_spells m.1 m.0 m.2))
+    (open_tag mos_name [] [] ∷ m.0, m.1, element (opening_record m.1 m.0 m.2))
 
 -- Tokens that are read begin a message.
 pub message_runs_begin : (g : Stage) (ts : List Token) (p : Position) → message_run (before_message g) ts ≡ Ok p → BeginsMessage g ts
@@ -196,7 +196,7 @@ whole_takes_none : (w : List Event) (t : Token) (r : List Token) (q : Position) 
 unfolding message_run message_step step
 whole_takes_none w t r q h = cc
 
--- No spelling begins another, and none spells two values.
+-- No message begins another, and no tokens are messages of two values.
 pub one_form : (g : Stage) (v w : List Event) (ts more : List Token) → IsMessage g v ts → IsMessage g w (ts ++ more) → (more ≡ []) × (v ≡ w)
 one_form g v w ts more a b =
     whole_stops v more w (sym (message_run_append ts more (before_message g) (inside (complete v)) (message_runs g v ts a)) ∙ message_runs g w (ts ++ more) b)

@@ -1,12 +1,10 @@
 -- The fault of a token is the first of what it shows.
-use Rattle.std.proofs.Common.{◌≡◌, Bool, true, false, cond, List, [], ◌∷◌, Option, Some, None, Result, Ok, Err, ◌++◌, refl, sym, ap, subst, ◌∙◌, arith, ◌≤◌, ◌⊎◌, inl, inr}
+use Rattle.std.proofs.Common.{◌≡◌, Bool, true, false, cond, List, [], ◌∷◌, Option, Some, None, Result, Ok, Err, ◌++◌, refl, sym, subst, ◌∙◌, arith, ◌≤◌, ◌⊎◌, inl, inr}
 use Rattle.std.specs.Prelude.{nat_lt}
 use Rattle.mos_fields.specs.Characters.{Text}
 use Rattle.mos_fields.specs.Fields.{same}
 use Rattle.mos_fields.specs.Raw.{is_tail}
 use Rattle.mos_fields.specs.Forms.{is_white}
-use Rattle.mos_fields.specs.declared.field.Field.{Field}
-use Rattle.mos_tables.specs.declared.table.Table.{Table}
 use Rattle.mos_tables.specs.declared.table.Table.TheVariants.{Envelope}
 use Rattle.mos_tables.specs.Events.{Attribute, Event}
 use Rattle.mos_grammar.specs.Tokens.{Token, open_tag, empty_tag, close_tag, text, tail, mark, declaration}
@@ -16,8 +14,8 @@ use Rattle.mos_grammar.specs.Records.{OpenField, Role, out_of_place, leaf_role, 
 use Rattle.mos_grammar.specs.RecordMachine.{Frame, State, at, complete, between, in_field, behind_text, in_raw, after_start_tag, after_empty_tag, after_field, after_record_tag, after_end_tag, after_text, empty_text_fault, with_child, step, opening}
 use Rattle.mos_grammar.specs.Streams.{mos_name, may_mark, may_declare, Position, before_message, inside, inside_of, bare_fault, message_step, behind_mark, behind_declaration}
 use Rattle.mos_grammar.specs.Kinds.{TagShows, First, fault_of}
-use Rattle.mos_grammar.specs.TokenKinds.{TextShows, EndShows, BetweenShows, FieldTokenShows, BehindTextShows, RawShows, StateShows, PositionShows, fault_in, FaultsAreFirst}
-use Rattle.mos_grammar.proofs.FirstFault.{order_most, earlier_first, first_as, admission_first, empty_admission_first}
+use Rattle.mos_grammar.specs.TokenKinds.{TextShows, EndShows, StateShows, fault_in, FaultsAreFirst}
+use Rattle.mos_grammar.proofs.FirstFault.{order_most, first_as, admission_first, empty_admission_first}
 
 -- the fault of a step
 abbrev pub state_fault : Result State Fault → Option Fault

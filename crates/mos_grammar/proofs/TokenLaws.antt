@@ -1,8 +1,7 @@
 -- The laws of messages as tokens.
-use Rattle.std.proofs.Common.{◌≡◌, List, [], ◌∷◌, ◌++◌, Result, Ok, Err, refl, sym, ap, ◌∙◌}
-use Rattle.mos_grammar.specs.Tokens.{Token}
+use Rattle.std.proofs.Common.{◌≡◌, [], ◌∷◌, ◌++◌, Result, Ok, Err, sym, ap, ◌∙◌}
 use Rattle.mos_grammar.specs.declared.fault.Fault.{Fault}
-use Rattle.mos_grammar.specs.Streams.{Stage, BeginsMessage, Position, before_message, message_step, then_position, message_run}
+use Rattle.mos_grammar.specs.Streams.{Position, before_message, message_step, then_position, message_run}
 use Rattle.mos_grammar.specs.Laws.{MessagesAreRead, BeginningsAreRead, RejectedBeginsNone, MessagesAreApart}
 use Rattle.mos_grammar.proofs.StreamProofs.{message_runs, runs_message, message_runs_begin, message_begins_run, message_run_append, one_form}
 

@@ -1,5 +1,5 @@
 -- What holds of messages as tokens and of reading them token by token.
-use Rattle.std.specs.Prelude.{◌≡◌, List, [], ◌∷◌, ◌++◌, Result, Ok, Err, ◌↔◌}
+use Rattle.std.specs.Prelude.{◌≡◌, List, [], ◌∷◌, ◌++◌, Ok, Err, ◌↔◌}
 use Rattle.mos_tables.specs.Events.{Event}
 use Rattle.mos_grammar.specs.Tokens.{Token}
 use Rattle.mos_grammar.specs.declared.fault.Fault.{Fault}

@@ -17,7 +17,7 @@ use Rattle.mos_tables.specs.declared.column.Often.TheVariants.{One, Optional, An
 use Rattle.mos_tables.specs.declared.others.Others.{Others}
 use Rattle.mos_tables.specs.declared.others.Others.TheVariants.{Kept, Dropped, Refused}
 use Rattle.mos_tables.specs.Events.{Attribute, Event, leaf, raw, opens, closes}
-use Rattle.mos_grammar.specs.Tokens.{Token, open_tag, empty_tag, close_tag, text, tail, mark, declaration}
+use Rattle.mos_grammar.specs.Tokens.{Token, open_tag, empty_tag, close_tag, text, tail}
 use Rattle.mos_grammar.specs.declared.fault.Fault.{Fault}
 use Rattle.mos_grammar.specs.declared.fault.Fault.TheVariants.{Twice as twice, Order as out_of_order, Missing as missing, Value as wrong_value, Tag as misplaced}
 use Rattle.mos_fields.specs.Characters.{Text}
@@ -359,7 +359,7 @@ pub data Content : Table → List Text → List Child → List Child → List To
       → empty_admission t taken before n g ≡ admitted_record f u h → end_fault u [] ≡ None
       → Content t taken (before ++ (f, nested n h u []) ∷ []) all r → Content t taken before all (empty_tag n g tag ∷ r)
 
--- The tokens behind a start tag of this name, to its end tag, spell the value.
+-- The tokens behind a start tag of this name, to its end tag, are a record with this value.
 abbrev pub IsRecord : Table → Text → List Event → List Token → Type 0
 IsRecord t n v toks = (all : List Child) × (r : List Token) × Content t [] [] all r × (toks ≡ r ++ close_tag n ∷ []) × (v ≡ nested n [] t all)
 

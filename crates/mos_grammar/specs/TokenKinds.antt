@@ -1,11 +1,10 @@
 -- What a token shows behind the tokens before it, kind by kind. Of several kinds the first in their order is its fault.
-use Rattle.std.specs.Prelude.{◌≡◌, Bool, true, false, List, [], Option, Some, None, Result, Ok, Err, ◌⊎◌}
+use Rattle.std.specs.Prelude.{◌≡◌, true, false, List, [], Option, Some, None, Result, Ok, Err, ◌⊎◌}
 use Rattle.mos_fields.specs.Characters.{Text}
 use Rattle.mos_fields.specs.Fields.{same}
 use Rattle.mos_fields.specs.Raw.{is_tail}
 use Rattle.mos_fields.specs.Forms.{is_white}
 use Rattle.mos_tables.specs.declared.table.Table.TheVariants.{Envelope}
-use Rattle.mos_tables.specs.Events.{Event}
 use Rattle.mos_grammar.specs.Tokens.{Token, open_tag, empty_tag, close_tag, text, tail, mark, declaration}
 use Rattle.mos_grammar.specs.declared.fault.Fault.{Fault}
 use Rattle.mos_grammar.specs.declared.fault.Fault.TheVariants.{Value as wrong_value, Tag as misplaced}

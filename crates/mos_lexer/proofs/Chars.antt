@@ -414,7 +414,7 @@ opening_spot = record { position = before_message before_prolog; lex = begin }
 abbrev pub whole_spot : List Event → Spot
 whole_spot v = record { position = inside (complete v); lex = begin }
 
--- Characters that lead to a whole message spell it.
+-- Characters that lead to a complete message encode it.
 pub run_message : (v : List Event) (c : List ℕ) → char_run opening_spot c ≡ Some (whole_spot v) → EncodesChars v c
 run_message v c e =
     let takes : CharTakes (char_run opening_spot c) [] v = subst (λ (z : Option Spot). CharTakes z [] v) (sym e) ([], refl, (refl, refl)) in
@@ -431,7 +431,7 @@ module _ (laws : ReferenceLaws) where
       go g (Some u) i k = g u i k
       go g None i k = absurd k
 
-  -- Characters that begin the spelling of a message are read, and what is left of it is what the state still reads.
+  -- Characters that begin the encoding of a message are read, and what is left of it is what the state still reads.
   pub message_run_reads : (v : List Event) (c more : List ℕ) → EncodesChars v (c ++ more) → CharTakes (char_run opening_spot c) more v
   message_run_reads v c more m = run_forward c more opening_spot v refl (m.0, m.1, m.2)
 

@@ -76,7 +76,7 @@ CloseRest t raw c ts = Finishes t.name t.given raw true (62 ∷ []) c ts
 abbrev pub InTagRest : List ℕ → List Token → Type 0
 InTagRest c ts = StartRest [] c ts ⊎ (((d : List ℕ) × (c ≡ 47 ∷ d) × EndRest [] d ts) ⊎ ((d : List ℕ) × (c ≡ 63 ∷ d) × QuestionRest (codes "xml") d ts))
 
--- the characters complete the token that was begun, and then spell the other tokens
+-- the characters complete the token that was begun, and then write the other tokens
 abbrev pub LexRest : LexState → List ℕ → List Token → Type 0
 LexRest begin c ts = WritesTokens ts c
 LexRest (in_text raw y) c ts = TextRest raw y c ts
@@ -174,8 +174,8 @@ pub plain_from : (c : ℕ) → eqb c 60 ≡ false → eqb c 38 ≡ false → is_
 plain_from c h k = rw (h, k) refl
 
 -- two facts that stand for a test each
-mark_spelled : (c : ℕ) (r : List ℕ) (us : List Token) → eqb c byte_order_mark ≡ true → WritesTokens us r → WritesTokens (mark ∷ us) (c ∷ r)
-mark_spelled c r us e h = (byte_order_mark ∷ [], r, refl, tt, (let p : c ≡ byte_order_mark = eqb-true c byte_order_mark e in rw p refl), h)
+mark_writes : (c : ℕ) (r : List ℕ) (us : List Token) → eqb c byte_order_mark ≡ true → WritesTokens us r → WritesTokens (mark ∷ us) (c ∷ r)
+mark_writes c r us e h = (byte_order_mark ∷ [], r, refl, tt, (let p : c ≡ byte_order_mark = eqb-true c byte_order_mark e in rw p refl), h)
 
 text_reference_next : (raw y : Text) (r : List ℕ) (ts : List Token) → TextReferenceRest (raw ++ 38 ∷ []) y [] r ts → TextRest raw y (38 ∷ r) ts
 text_reference_next raw y r ts (k, d, z, x, q, us, ne, is, w, e, b, t, sp) =
@@ -188,7 +188,7 @@ text_plain_next raw y c r ts pl (z, x, q, us, w, e, b, t, sp) =
 begin_back : (o : Bool) (c : ℕ) (r : List ℕ) (ts : List Token) (b1 b2 b3 : Bool) → eqb c 60 ≡ b1 → (o && eqb c byte_order_mark) ≡ b2 → eqb c 38 ≡ b3
     → LexTakes (cond b1 (continues in_tag) (cond b2 (whole_token mark) (cond b3 (continues (text_reference (c ∷ []) [] [])) (continues (in_text (c ∷ []) (c ∷ [])))))) r ts → WritesTokens ts (c ∷ r)
 begin_back o c r ts true b2 b3 e1 e2 e3 h = let p : c ≡ 60 = eqb-true c 60 e1 in rw p (from_tag r ts h)
-begin_back o c r ts false true b3 e1 e2 e3 h = subst (λ (s : List Token). WritesTokens s (c ∷ r)) (sym h.1) (mark_spelled c r h.0 (conj o (eqb c byte_order_mark) e2).1 h.2)
+begin_back o c r ts false true b3 e1 e2 e3 h = subst (λ (s : List Token). WritesTokens s (c ∷ r)) (sym h.1) (mark_writes c r h.0 (conj o (eqb c byte_order_mark) e2).1 h.2)
 begin_back o c r ts false false true e1 e2 e3 h =
     let p : c ≡ 38 = eqb-true c 38 e3 in
     subst (λ (s : ℕ). TextReferenceRest (s ∷ []) [] [] r ts → WritesTokens ts (s ∷ r)) (sym p) (λ (f : TextReferenceRest (38 ∷ []) [] [] r ts). whole_text f) h
@@ -206,7 +206,7 @@ text_back o raw y c r ts true b2 b3 e1 e2 e3 h =
     ([], [], c ∷ r, h.0, nothing, refl, rw e1 refl, h.1 ∙ rw (append-nil raw, append-nil y) refl, rw p (from_tag r h.0 h.2))
 text_back o raw y c r ts false true b3 e1 e2 e3 h =
     let p = conj o (eqb c byte_order_mark) (conj (o && eqb c byte_order_mark) (is_white raw) e2).0 in
-    ([], [], c ∷ r, mark ∷ h.0, nothing, refl, or_true (eqb c 60), h.1 ∙ rw (append-nil raw, append-nil y) refl, mark_spelled c r h.0 p.1 h.2)
+    ([], [], c ∷ r, mark ∷ h.0, nothing, refl, or_true (eqb c 60), h.1 ∙ rw (append-nil raw, append-nil y) refl, mark_writes c r h.0 p.1 h.2)
 text_back o raw y c r ts false false true e1 e2 e3 h =
     let p : c ≡ 38 = eqb-true c 38 e3 in
     subst (λ (s : ℕ). TextReferenceRest (raw ++ s ∷ []) y [] r ts → TextRest raw y (s ∷ r) ts) (sym p) (λ (f : TextReferenceRest (raw ++ 38 ∷ []) y [] r ts). text_reference_next raw y r ts f) h

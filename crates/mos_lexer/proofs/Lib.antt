@@ -4,7 +4,6 @@ pub mod Forward
 pub mod Places
 pub mod References
 pub mod Whole
-pub mod Messages
 pub mod UnitReads
 pub mod UnitAccepts
 pub mod UnitLaws

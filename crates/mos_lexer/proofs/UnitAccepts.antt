@@ -1,6 +1,6 @@
 -- An encoding of a message is read to its end, code unit after code unit.
-use Rattle.std.proofs.Common.{◌≡◌, ℕ, ◌+◌, ◌-◌, ◌*◌, ◌/◌, ◌%◌, ◌<◌, ◌≤◌, ◌⊎◌, inl, inr, Bool, true, false, cond, List, [], ◌∷◌, ◌++◌, length, Option, Some, None, refl, sym, ap, subst, ◌∙◌, append_assoc, arith}
-use Rattle.std.specs.Prelude.{nat_le, nat_lt, ◌&&◌}
+use Rattle.std.proofs.Common.{◌≡◌, ℕ, ◌+◌, ◌-◌, ◌/◌, ◌%◌, ◌<◌, ◌≤◌, ◌⊎◌, inl, inr, true, false, List, [], ◌∷◌, ◌++◌, length, Option, Some, None, refl, sym, ap, subst, ◌∙◌, append_assoc, arith}
+use Rattle.std.specs.Prelude.{nat_le}
 use Rattle.std.specs.Char.Escape.{encode_utf16}
 use Rattle.std.proofs.lemmas.List.{append-nil, length-append}
 use Rattle.std.proofs.lemmas.Bool.{and_parts}
@@ -12,11 +12,10 @@ use Rattle.mos_grammar.specs.RecordMachine.{complete}
 use Rattle.mos_grammar.specs.Streams.{Position, inside}
 use Rattle.mos_grammar.specs.Tokens.{Token}
 use Rattle.mos_lexer.specs.Lexing.{WritesTokens}
-use Rattle.mos_lexer.specs.LexMachine.{begin}
-use Rattle.mos_lexer.specs.Encodings.{EncodesChars, Encodes}
-use Rattle.mos_lexer.specs.Units.{message_limit, Reader, start_reader, UnitStep, reads_on, completes, rejects, is_outside, read_char, unit_read, too_long, unit_step, UnitRun, completed, then_units, unit_run}
-use Rattle.mos_lexer.proofs.Chars.{Spot, char_of, then_spot, char_run, CharReads, CharTakes, opening_spot, whole_spot, run_back}
-use Rattle.mos_lexer.proofs.Whole.{char_run_append, message_run}
+use Rattle.mos_lexer.specs.Encodings.{Encodes}
+use Rattle.mos_lexer.specs.Units.{message_limit, Reader, start_reader, UnitStep, reads_on, completes, rejects, read_char, too_long, unit_step, completed, then_units, unit_run}
+use Rattle.mos_lexer.proofs.Chars.{Spot, char_of, then_spot, char_run, CharReads, CharTakes, whole_spot, run_back}
+use Rattle.mos_lexer.proofs.Whole.{message_run}
 use Rattle.mos_lexer.proofs.References.{reference_laws}
 use Rattle.mos_lexer.proofs.Places.{IsOpenAt, Agrees, read_agrees, OpenStep, read_open}
 

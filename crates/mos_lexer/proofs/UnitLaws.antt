@@ -1,10 +1,9 @@
 -- The laws of encodings and of reading them.
-use Rattle.std.proofs.Common.{◌≡◌, ℕ, Bool, true, List, [], ◌∷◌, ◌++◌, Option, Some, refl, sym, ap, subst, ◌∙◌, append_assoc, ◌+◌}
+use Rattle.std.proofs.Common.{◌≡◌, ℕ, List, [], ◌∷◌, ◌++◌, refl, sym, ap, subst, ◌∙◌, append_assoc, ◌+◌}
 use Rattle.std.proofs.lemmas.List.{append-nil}
 use Rattle.mos_tables.specs.Events.{Event}
-use Rattle.mos_lexer.specs.Encodings.{Encodes}
-use Rattle.mos_lexer.specs.Units.{Reader, start_reader, UnitStep, reads_on, completes, rejects, unit_step, UnitRun, still_reads, completed, rejected_at, then_units, unit_run, Found, StreamReader, StreamRun, reads_stream, rejects_stream, then_stream, stream_units}
-use Rattle.mos_lexer.specs.Laws.{are_units, run_on, EncodingsAreApart, EncodingsAreRead, OnlyEncodingsAreRead, PiecesAreOne, stream_on, StreamPiecesAreOne, behind_ready, HandedOutIsBehind}
+use Rattle.mos_lexer.specs.Units.{Reader, start_reader, UnitStep, reads_on, completes, rejects, unit_step, UnitRun, completed, then_units, unit_run, Found, StreamReader, then_stream, stream_units}
+use Rattle.mos_lexer.specs.Laws.{run_on, EncodingsAreApart, EncodingsAreRead, OnlyEncodingsAreRead, PiecesAreOne, stream_on, StreamPiecesAreOne, behind_ready, HandedOutIsBehind}
 use Rattle.mos_lexer.proofs.UnitReads.{start_reached, RunFacts, run_facts}
 use Rattle.mos_lexer.proofs.UnitAccepts.{encoding_read}
 

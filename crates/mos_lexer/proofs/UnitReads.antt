@@ -1,23 +1,19 @@
 -- The reader of code units reads exactly the encodings of messages.
-use Rattle.std.proofs.Common.{◌≡◌, ℕ, ◌+◌, ◌-◌, ◌*◌, ◌/◌, ◌%◌, ◌<◌, ◌≤◌, ◌⊎◌, inl, inr, Bool, true, false, cond, List, [], ◌∷◌, ◌++◌, length, Option, Some, None, refl, sym, ap, subst, ◌∙◌, append_assoc, arith}
+use Rattle.std.proofs.Common.{◌≡◌, ℕ, ◌+◌, ◌-◌, ◌<◌, ◌≤◌, Bool, true, false, List, [], ◌∷◌, ◌++◌, length, Option, Some, None, refl, sym, ap, subst, ◌∙◌, append_assoc, arith}
 use Rattle.std.specs.Prelude.{nat_le, nat_lt, ◌&&◌}
 use Rattle.std.specs.Char.Escape.{encode_utf16}
-use Rattle.std.specs.List.{flat_map, list_all}
 use Rattle.std.proofs.lemmas.Grind.{flat_map-append}
 use Rattle.std.proofs.lemmas.List.{append-nil, length-append}
 use Rattle.std.proofs.lemmas.List.Folds.{list_all-append}
 use Rattle.std.proofs.lemmas.Bool.Decides.{nat_tests}
 use Rattle.mos_fields.specs.Characters.{is_allowed, are_allowed, is_high, is_low, pair_char, units_of}
 use Rattle.mos_fields.proofs.CharacterLemmas.{one_unit}
-use Rattle.mos_tables.specs.Events.{Event}
-use Rattle.mos_grammar.specs.Streams.{inside}
-use Rattle.mos_lexer.specs.LexMachine.{lex_step}
-use Rattle.mos_lexer.specs.Encodings.{EncodesChars, Encodes}
+use Rattle.mos_lexer.specs.Encodings.{Encodes}
 use Rattle.mos_lexer.specs.Laws.{are_units}
-use Rattle.mos_lexer.specs.Units.{message_limit, Reader, start_reader, UnitStep, reads_on, completes, rejects, is_outside, read_char, unit_read, too_long, unit_step, UnitRun, still_reads, completed, rejected_at, then_units, unit_run}
+use Rattle.mos_lexer.specs.Units.{message_limit, Reader, start_reader, UnitStep, reads_on, completes, rejects, read_char, unit_read, too_long, unit_step, UnitRun, still_reads, completed, rejected_at, then_units, unit_run}
 use Rattle.mos_lexer.proofs.Chars.{Spot, char_of, then_spot, char_run, opening_spot, whole_spot, run_message}
 use Rattle.mos_lexer.proofs.Whole.{char_run_append}
-use Rattle.mos_lexer.proofs.Places.{SpotIs, Agrees, read_agrees}
+use Rattle.mos_lexer.proofs.Places.{Agrees, read_agrees}
 
 -- a high unit that waits
 abbrev pub waiting : Option ℕ → List ℕ

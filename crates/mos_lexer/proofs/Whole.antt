@@ -1,4 +1,4 @@
--- Exactly the spellings of a message are read to its end, and none begins another.
+-- Exactly the encodings of a message are read to its end, and none begins another.
 use Rattle.std.proofs.Common.{◌≡◌, ℕ, Bool, true, false, List, [], ◌∷◌, ◌++◌, Option, Some, None, Ok, refl, sym, ap, subst, ◌∙◌, append_assoc, inl, inr}
 use Rattle.std.specs.Prelude.{◌||◌, codes}
 use Rattle.std.proofs.lemmas.List.{append-nil}
@@ -110,16 +110,16 @@ lex_done (in_declaration b) ts h = absurd (go h.0 h.3 h.4)
 tag_none : (e : Bool) (n : Text) (g : List Attribute) (raw : Text) (x q : List ℕ) → WrittenTag e n g raw x → ◌≡◌ {A = List ℕ} [] (x ++ q) → ⊥
 tag_none e n g raw x q w i = no_cons 60 ((n ++ w.0) ++ q) (i ∙ ap (λ (z : List ℕ). z ++ q) w.3)
 
--- nothing spells no token but a tail
-none_spelled : (o : Bool) (ts : List Token) → Fitting o ts → WritesTokens ts [] → ts ≡ []
-none_spelled o [] f h = refl
-none_spelled o (open_tag n g raw ∷ us) f h = absurd (tag_none false n g raw h.0 h.1 h.2 h.4)
-none_spelled o (empty_tag n g raw ∷ us) f h = absurd (tag_none true n g raw h.0 h.1 h.2 h.4)
-none_spelled o (close_tag n ∷ us) f h = let w = h.2 in absurd (no_cons 60 ((47 ∷ (n ++ (w.0 ++ 62 ∷ []))) ++ h.1) (h.4 ∙ ap (λ (z : List ℕ). z ++ h.1) w.3))
-none_spelled o (text raw y ∷ us) f h = let w = h.2 in absurd (some_front h.0 h.1 w.0 h.4)
-none_spelled o (tail x ∷ us) f h = absurd f
-none_spelled o (mark ∷ us) f h = absurd (no_cons byte_order_mark h.1 (h.4 ∙ ap (λ (z : List ℕ). z ++ h.1) h.2))
-none_spelled o (declaration ∷ us) f h = let w = h.2 in absurd (no_cons 60 ((63 ∷ (codes "xml" ++ w.0 ∷ w.1)) ++ h.1) (h.4 ∙ ap (λ (z : List ℕ). z ++ h.1) w.4))
+-- no token but a tail is written as nothing
+none_written : (o : Bool) (ts : List Token) → Fitting o ts → WritesTokens ts [] → ts ≡ []
+none_written o [] f h = refl
+none_written o (open_tag n g raw ∷ us) f h = absurd (tag_none false n g raw h.0 h.1 h.2 h.4)
+none_written o (empty_tag n g raw ∷ us) f h = absurd (tag_none true n g raw h.0 h.1 h.2 h.4)
+none_written o (close_tag n ∷ us) f h = let w = h.2 in absurd (no_cons 60 ((47 ∷ (n ++ (w.0 ++ 62 ∷ []))) ++ h.1) (h.4 ∙ ap (λ (z : List ℕ). z ++ h.1) w.3))
+none_written o (text raw y ∷ us) f h = let w = h.2 in absurd (some_front h.0 h.1 w.0 h.4)
+none_written o (tail x ∷ us) f h = absurd f
+none_written o (mark ∷ us) f h = absurd (no_cons byte_order_mark h.1 (h.4 ∙ ap (λ (z : List ℕ). z ++ h.1) h.2))
+none_written o (declaration ∷ us) f h = let w = h.2 in absurd (no_cons 60 ((63 ∷ (codes "xml" ++ w.0 ∷ w.1)) ++ h.1) (h.4 ∙ ap (λ (z : List ℕ). z ++ h.1) w.4))
 
 no_message : {g : Stage} {v : List Event} {ts : List Token} → IsMessage g v ts → ts ≡ [] → ⊥
 no_message (Rattle.mos_grammar.specs.Streams.white_space w d) e = cc
@@ -138,7 +138,7 @@ spot_done p l v f h = go l (lex_done l h.0 h.1) f h.1
     go l e f k =
         let f2 : lex_at p ≡ begin = subst (λ (z : LexState). Fits (record { position = p; lex = z })) e f in
         let k2 : WritesTokens h.0 [] = subst (λ (z : LexState). LexRest z [] h.0) e k in
-        let n = none_spelled (is_outside p) h.0 (reads_fitting p h.0 v f2 h.2) k2 in
+        let n = none_written (is_outside p) h.0 (reads_fitting p h.0 v f2 h.2) k2 in
         (position_done p v (subst (λ (z : List Token). StillReads p z v) n h.2), e)
 
 char_done : (o : Option Spot) (v : List Event) → FitsOk o → CharTakes o [] v → o ≡ Some (whole_spot v)
@@ -164,11 +164,11 @@ char_run_append (c ∷ cs) ds s = go (λ u. char_run_append cs ds u) (char_of s.
     go g None = refl
 
 module _ (laws : ReferenceLaws) where
-  -- The spellings of a message are read to its end.
+  -- The encodings of a message are read to its end.
   pub message_run : (v : List Event) (c : List ℕ) → EncodesChars v c → char_run opening_spot c ≡ Some (whole_spot v)
   message_run v c m = char_done (char_run opening_spot c) v (run_fits c opening_spot refl) (message_run_whole laws v c m)
 
-  -- No spelling of a message begins another, and none spells two values.
+  -- No encoding of a message begins another, and none encodes two values.
   pub one_message : (v w : List Event) (c more : List ℕ) → EncodesChars v c → EncodesChars w (c ++ more) → (more ≡ []) × (v ≡ w)
   one_message v w c more a b =
       let e : char_run opening_spot (c ++ more) ≡ char_run (whole_spot v) more = char_run_append c more opening_spot ∙ ap (λ (o : Option Spot). then_spot o (λ u. char_run u more)) (message_run v c a) in

@@ -1,9 +1,9 @@
 -- What holds of the encodings of messages and of reading them.
-use Rattle.std.specs.Prelude.{◌≡◌, ℕ, Bool, true, List, [], ◌∷◌, ◌++◌, nat_lt}
+use Rattle.std.specs.Prelude.{◌≡◌, ℕ, Bool, true, List, [], ◌++◌, nat_lt}
 use Rattle.std.specs.List.{list_all}
 use Rattle.mos_tables.specs.Events.{Event}
 use Rattle.mos_lexer.specs.Encodings.{Encodes}
-use Rattle.mos_lexer.specs.Units.{Reader, start_reader, UnitStep, reads_on, completes, rejects, UnitRun, still_reads, completed, rejected_at, unit_run, Found, StreamReader, StreamRun, reads_stream, rejects_stream, stream_units}
+use Rattle.mos_lexer.specs.Units.{Reader, start_reader, UnitRun, still_reads, completed, rejected_at, unit_run, Found, StreamReader, StreamRun, reads_stream, rejects_stream, stream_units}
 
 -- the numbers are code units
 abbrev pub are_units : List ℕ → Bool

@@ -1,9 +1,8 @@
 -- How tokens are written, character by character.
-use Rattle.std.specs.Prelude.{◌≡◌, ℕ, zero, suc, Bool, true, false, cond, List, [], ◌∷◌, ◌++◌, length, Option, Some, None, codes, ◌==◌, ◌&&◌, ◌||◌, not, nat_le, nat_lt, ◌+◌, ◌-◌, ◌*◌}
-use Rattle.std.specs.List.{list_all}
+use Rattle.std.specs.Prelude.{◌≡◌, ℕ, Bool, true, false, cond, List, [], ◌∷◌, ◌++◌, Some, codes, ◌==◌, ◌&&◌, ◌||◌}
 use Rattle.mos_fields.specs.Characters.{Text}
 use Rattle.mos_fields.specs.Names.{named, is_empty}
-use Rattle.mos_fields.specs.References.{reference_of, is_digit, number_in}
+use Rattle.mos_fields.specs.References.{reference_of}
 use Rattle.mos_fields.specs.Raw.{is_plain, is_quote, is_space}
 use Rattle.mos_fields.specs.Forms.{is_white, behind_white}
 use Rattle.mos_tables.specs.Events.{Attribute}
@@ -17,7 +16,7 @@ byte_order_mark = 65279
 
 -- ---- texts
 
--- D2: which text the characters write, where `<` and `&` don't stand for themselves
+-- which text the characters write, where `<` and `&` do not stand for themselves
 pub data Writes : Text → List ℕ → Type 0 where
   nothing : Writes [] []
   itself : {c : ℕ} {y : Text} {x : List ℕ} → is_plain c ≡ true → Writes y x → Writes (c ∷ y) (c ∷ x)
@@ -90,7 +89,7 @@ abbrev pub Ends : Token → List Token → List ℕ → Type 0
 Ends (text raw y) ts r = (begins_with 60 r || begins_mark ts) ≡ true
 Ends t ts r = Unit {0}
 
--- the characters spell the tokens
+-- the characters write the tokens one after another
 abbrev pub WritesTokens : List Token → List ℕ → Type 0
 WritesTokens [] c = c ≡ []
 WritesTokens (t ∷ ts) c = (x : List ℕ) × (r : List ℕ) × Written t x × Ends t ts r × (c ≡ x ++ r) × WritesTokens ts r

@@ -1,6 +1,6 @@
 -- Reading one message code unit after code unit. Places count code units from the end of the message before.
 use Rattle.std.specs.Prelude.{ℕ, Bool, true, false, cond, List, [], ◌∷◌, ◌++◌, Option, Some, None, Result, Ok, Err, nat_le, ◌+◌, ◌-◌, ◌&&◌}
-use Rattle.mos_fields.specs.Characters.{Text, is_allowed, is_high, is_low, pair_char}
+use Rattle.mos_fields.specs.Characters.{is_allowed, is_high, is_low, pair_char}
 use Rattle.mos_fields.specs.Forms.{is_white}
 use Rattle.mos_tables.specs.Events.{Event}
 use Rattle.mos_grammar.specs.Tokens.{text, mark}

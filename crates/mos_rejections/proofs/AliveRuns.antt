@@ -1,19 +1,18 @@
 -- Characters that are alive are read by the machine.
-use Rattle.std.proofs.Common.{◌≡◌, ℕ, ◌+◌, ◌<◌, ◌≤◌, Bool, true, false, cond, List, [], ◌∷◌, ◌++◌, length, Option, Some, None, Result, Ok, Err, refl, sym, ap, subst, ◌∙◌, append_assoc, arith, codes, ◌⊎◌, inl, inr}
+use Rattle.std.proofs.Common.{◌≡◌, ℕ, ◌<◌, Bool, true, false, cond, List, [], ◌∷◌, ◌++◌, length, Some, Result, Ok, Err, refl, sym, ap, subst, ◌∙◌, append_assoc, arith, codes, ◌⊎◌, inl, inr}
 use Rattle.std.specs.Prelude.{◌||◌, not}
 use Rattle.std.proofs.lemmas.List.{append-nil, length-append}
 use Rattle.mos_fields.specs.Characters.{Text}
-use Rattle.mos_fields.specs.Names.{is_empty, named, may_grow}
+use Rattle.mos_fields.specs.Names.{is_empty, may_grow}
 use Rattle.mos_fields.specs.Raw.{is_tail, end_text}
-use Rattle.mos_tables.specs.Events.{Event, Attribute}
 use Rattle.mos_grammar.specs.Tokens.{Token, open_tag, empty_tag, close_tag, text, tail, mark, declaration}
 use Rattle.mos_grammar.specs.declared.fault.Fault.{Fault}
-use Rattle.mos_grammar.specs.RecordMachine.{Frame, State, with_child, opening, at, complete, between, in_field, behind_text, in_raw, step}
-use Rattle.mos_grammar.specs.Streams.{Stage, before_prolog, Position, before_message, inside, may_mark, may_declare, behind_mark, behind_declaration, bare_fault, mos_name, inside_of, message_step, then_position, message_run, IsMessage, BeginsMessage}
+use Rattle.mos_grammar.specs.RecordMachine.{State, with_child, opening, at, complete, between, in_field, behind_text, in_raw, step}
+use Rattle.mos_grammar.specs.Streams.{Stage, before_prolog, Position, before_message, inside, may_mark, may_declare, behind_mark, behind_declaration, bare_fault, mos_name, inside_of, message_step, then_position, message_run, BeginsMessage}
 use Rattle.mos_grammar.proofs.Complete.{end_is_tail}
 use Rattle.mos_grammar.proofs.StreamProofs.{message_runs_begin, message_begins_run, message_run_append}
 use Rattle.mos_lexer.specs.Lexing.{begins_mark, begins_with, meets_mark, WritesTokens, Written, Ends, Writes, nothing, itself, reference, ends_start}
-use Rattle.mos_lexer.specs.LexMachine.{begin, in_tag}
+use Rattle.mos_lexer.specs.LexMachine.{begin}
 use Rattle.mos_lexer.specs.Units.{is_outside, lex_at}
 use Rattle.mos_lexer.proofs.Lexer.{LexRest, from_tag}
 use Rattle.mos_lexer.proofs.Forward.{Fitting, NotTail}
@@ -24,7 +23,7 @@ use Rattle.mos_tables.specs.declared.table.Table.TheVariants.{Envelope}
 use Rattle.mos_grammar.specs.declared.fault.Fault.TheVariants.{Tag as misplaced}
 use Rattle.mos_grammar.specs.Records.{raw_events, end_fault}
 use Rattle.mos_rejections.proofs.Shape.{some_behind, still_no_mark}
-use Rattle.mos_rejections.specs.Alive.{IsOpenMessage, Fronts, is_before_mos, IsNoRaw, MayFollow, is_text, BeginsToken, IsAlive}
+use Rattle.mos_rejections.specs.Alive.{Fronts, is_before_mos, IsNoRaw, MayFollow, is_text, BeginsToken, IsAlive}
 use Rattle.mos_rejections.proofs.Running.{Last, Unfinished, going, tail_inside, raw_tail, tail_rest, first_read, run_nothing}
 
 -- ---- what stands behind tokens that are read

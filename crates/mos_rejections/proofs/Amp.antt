@@ -1,6 +1,6 @@
 -- Behind an `&` that is alive, and the beginning of a reference, no tag is open.
-use Rattle.std.proofs.Common.{◌≡◌, ℕ, ◌+◌, ◌<◌, ◌≤◌, Bool, true, false, cond, eqb, List, [], ◌∷◌, ◌++◌, length, Option, Some, None, Result, Ok, Err, refl, sym, ap, subst, ◌∙◌, append_assoc, arith, codes, ◌⊎◌, inl, inr}
-use Rattle.std.specs.Prelude.{◌&&◌, ◌||◌, not, nat_le, nat_lt}
+use Rattle.std.proofs.Common.{◌≡◌, ℕ, Bool, true, false, cond, eqb, List, [], ◌∷◌, ◌++◌, Option, Some, None, refl, sym, ap, subst, ◌∙◌, append_assoc, arith, ◌⊎◌, inl, inr}
+use Rattle.std.specs.Prelude.{◌&&◌, not, nat_le}
 use Rattle.std.specs.List.{list_all}
 use Rattle.std.proofs.lemmas.Bool.{eqb-true}
 use Rattle.std.proofs.lemmas.Bool.Decides.{nat_tests}
@@ -10,17 +10,14 @@ use Rattle.mos_fields.specs.Characters.{Text}
 use Rattle.mos_fields.specs.Fields.{same}
 use Rattle.mos_fields.specs.Names.{is_empty, may_grow}
 use Rattle.mos_fields.specs.References.{is_digit, number_in, is_hex, hex_from, of_number, numeric, or_numeric, named_references, reference_of, begins_reference}
-use Rattle.mos_fields.specs.Raw.{end_text, ends_with, is_space, is_quote}
-use Rattle.mos_fields.specs.Forms.{is_white}
-use Rattle.mos_grammar.specs.declared.fault.Fault.{Fault}
+use Rattle.mos_fields.specs.Raw.{end_text, ends_with, is_quote}
 use Rattle.mos_grammar.proofs.Sound.{same-is}
-use Rattle.mos_lexer.specs.Lexing.{byte_order_mark}
 use Rattle.mos_lexer.specs.LexMachine.{Tag, LexState, begin, in_text, text_reference, in_tag, start_name, in_start, attribute_name, before_equals, before_value, in_value, value_reference, before_close, end_name, end_white, in_tail, in_question, in_declaration, LexStep, continues, whole_token, text_before, text_before_mark, no_token, no_reference, continues_if, referred, reference_step, start_step, equals_step, lex_step}
 use Rattle.mos_lexer.specs.Units.{is_outside}
-use Rattle.mos_lexer.proofs.References.{DigitsOf, of_number_digits, reference_laws}
+use Rattle.mos_lexer.proofs.References.{of_number_digits, reference_laws}
 use Rattle.mos_lexer.proofs.Chars.{Spot, taken, char_of, then_spot, char_run}
 use Rattle.mos_rejections.proofs.Shape.{Sound, has_no_amp, IsTagState}
-use Rattle.mos_rejections.proofs.Witness.{Completion, completion}
+use Rattle.mos_rejections.proofs.Witness.{completion}
 
 no_both : {A : Type 0} (b : Bool) → b ≡ true → b ≡ false → A
 no_both true h k = absurd cc

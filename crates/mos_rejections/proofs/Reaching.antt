@@ -1,34 +1,31 @@
 -- Where the machine stands, the characters are alive.
-use Rattle.std.proofs.Common.{◌≡◌, ℕ, ◌+◌, ◌<◌, ◌≤◌, Bool, true, false, cond, eqb, List, [], ◌∷◌, ◌++◌, length, Option, Some, None, Result, Ok, Err, refl, sym, ap, subst, ◌∙◌, append_assoc, arith, codes, ◌⊎◌, inl, inr}
-use Rattle.std.specs.Prelude.{◌&&◌, ◌||◌, not}
-use Rattle.std.proofs.lemmas.List.{append-nil, length-append, append_cancel_right}
-use Rattle.std.proofs.lemmas.Bool.{eqb-true}
+use Rattle.std.proofs.Common.{◌≡◌, ℕ, Bool, true, false, cond, List, [], ◌∷◌, ◌++◌, Some, Ok, refl, sym, ap, subst, ◌∙◌, append_assoc, codes, inl}
+use Rattle.std.specs.Prelude.{◌||◌, not}
+use Rattle.std.proofs.lemmas.List.{append-nil, append_cancel_right}
 use Rattle.mos_fields.specs.Characters.{Text}
 use Rattle.mos_fields.specs.Fields.{same}
 use Rattle.mos_grammar.proofs.Complete.{ends_itself}
-use Rattle.mos_fields.specs.Names.{is_empty, named, may_grow}
-use Rattle.mos_fields.specs.References.{reference_of}
-use Rattle.mos_fields.specs.Raw.{is_tail, end_text, ends_with, tail_from, is_quote}
+use Rattle.mos_fields.specs.Names.{is_empty, may_grow}
+use Rattle.mos_fields.specs.Raw.{is_tail, end_text, ends_with, tail_from}
 use Rattle.mos_fields.specs.Forms.{is_white}
-use Rattle.mos_tables.specs.Events.{Event, Attribute}
+use Rattle.mos_tables.specs.Events.{Event}
 use Rattle.mos_grammar.specs.Tokens.{Token, open_tag, empty_tag, close_tag, text, tail, mark, declaration}
-use Rattle.mos_grammar.specs.declared.fault.Fault.{Fault}
-use Rattle.mos_grammar.specs.RecordMachine.{Frame, State, with_child, at, complete, between, in_field, behind_text, in_raw, step}
+use Rattle.mos_grammar.specs.RecordMachine.{with_child, at, complete, between, in_field, behind_text, in_raw, step}
 use Rattle.mos_grammar.specs.Records.{raw_events}
-use Rattle.mos_grammar.specs.Streams.{Stage, before_prolog, Position, before_message, inside, message_step, then_position, message_run, IsMessage, BeginsMessage}
+use Rattle.mos_grammar.specs.Streams.{before_prolog, Position, before_message, inside, message_step, message_run}
 use Rattle.mos_grammar.proofs.StreamProofs.{SaneAtOk, StillReads, StillTakes, message_run_back, message_sane_run, position_reads, message_runs_begin}
-use Rattle.mos_lexer.specs.Lexing.{begins_mark, begins_with, meets_mark, WritesTokens, Written, Ends, WritesTag, ends_start, ends_empty, tag_space, attribute, WritesEquals, equals_space, equals, WritesQuoted, quoted_space, quote, WritesValue, value_ends, value_itself, value_reference, Writes, nothing, itself, reference}
+use Rattle.mos_lexer.specs.Lexing.{meets_mark, WritesTokens, Written, ends_start, equals, quote, value_ends, nothing}
 use Rattle.mos_lexer.specs.LexMachine.{Tag, LexState, begin, in_text, text_reference, in_tag, start_name, in_start, attribute_name, before_equals, before_value, in_value, value_reference as value_reference_state, before_close, end_name, end_white, in_tail, in_question, in_declaration}
 use Rattle.mos_lexer.specs.Units.{is_outside, lex_at}
 use Rattle.mos_lexer.proofs.Lexer.{LexRest}
 use Rattle.mos_lexer.proofs.Chars.{char_run, opening_spot}
 use Rattle.mos_lexer.proofs.Places.{IsOpenAt}
 use Rattle.mos_lexer.proofs.Whole.{position_done}
-use Rattle.mos_rejections.specs.Alive.{IsOpenMessage, Fronts, is_before_mos, IsNoRaw, MayFollow, is_text, BeginsToken, IsAlive}
-use Rattle.mos_rejections.proofs.Shape.{InReference, Sound, IsTailFront, IsNotTail, IsTagState, meets_same, not_white}
+use Rattle.mos_rejections.specs.Alive.{IsOpenMessage, Fronts, IsNoRaw, MayFollow, is_text, BeginsToken, IsAlive}
+use Rattle.mos_rejections.proofs.Shape.{Sound, IsNotTail, IsTagState, meets_same, not_white}
 use Rattle.mos_rejections.proofs.Running.{tail_inside}
 use Rattle.mos_rejections.proofs.AliveRuns.{a_tag, a_is, a_written, tail_read, outside_from, push_run}
-use Rattle.mos_rejections.proofs.Witness.{Completion, completion}
+use Rattle.mos_rejections.proofs.Witness.{completion}
 
 -- ---- how a state goes on to a whole token
 

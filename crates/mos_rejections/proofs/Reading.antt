@@ -1,12 +1,12 @@
 -- Reading characters, with the places of rejections.
-use Rattle.std.proofs.Common.{◌≡◌, ℕ, ◌+◌, ◌-◌, ◌<◌, ◌≤◌, Bool, true, false, cond, eqb, List, [], ◌∷◌, ◌++◌, length, Option, Some, None, Result, Ok, Err, refl, sym, ap, subst, ◌∙◌, append_assoc, arith, codes, ◌⊎◌, inl, inr}
-use Rattle.std.specs.Prelude.{◌&&◌, ◌||◌, not, nat_lt}
+use Rattle.std.proofs.Common.{◌≡◌, ℕ, ◌+◌, ◌-◌, ◌<◌, Bool, true, false, List, [], ◌∷◌, ◌++◌, length, Option, Some, None, Result, Ok, Err, refl, sym, ap, subst, ◌∙◌, append_assoc, arith, ◌⊎◌, inl, inr}
+use Rattle.std.specs.Prelude.{◌&&◌}
 use Rattle.std.specs.Char.Escape.{encode_utf16}
-use Rattle.std.specs.List.{flat_map, list_all}
+use Rattle.std.specs.List.{list_all}
 use Rattle.std.proofs.lemmas.Grind.{flat_map-append}
 use Rattle.std.proofs.lemmas.List.{append-nil, length-append}
 use Rattle.std.proofs.lemmas.Bool.Decides.{nat_tests}
-use Rattle.mos_fields.specs.Characters.{Text, is_allowed, units_of}
+use Rattle.mos_fields.specs.Characters.{Text, units_of}
 use Rattle.mos_fields.specs.References.{reference_of, begins_reference}
 use Rattle.mos_fields.proofs.CharacterLemmas.{one_unit}
 use Rattle.mos_tables.specs.Events.{Event}
@@ -14,24 +14,19 @@ use Rattle.mos_grammar.specs.Tokens.{Token, text, mark}
 use Rattle.mos_grammar.specs.declared.fault.Fault.{Fault}
 use Rattle.mos_grammar.specs.RecordMachine.{at, complete, step}
 use Rattle.mos_grammar.specs.Streams.{before_prolog, Position, before_message, inside, message_step, message_run}
-use Rattle.mos_lexer.specs.declared.kind.Kind.{Kind}
-use Rattle.mos_lexer.specs.declared.kind.Kind.TheVariants as kinds
 use Rattle.mos_lexer.specs.LexMachine.{LexState, begin, in_tag, LexStep, continues, whole_token, text_before, text_before_mark, no_token, no_reference, lex_step}
-use Rattle.mos_lexer.specs.Units.{is_outside, lex_at, kind_of, Reader, UnitStep, reads_on, completes, rejects, behind, at_token, opened_by, rests as rests_at, lexed, read_char}
+use Rattle.mos_lexer.specs.Units.{is_outside, lex_at, Reader, UnitStep, reads_on, completes, rejects, behind, at_token, opened_by, rests as rests_at, lexed}
 use Rattle.mos_lexer.specs.Encodings.{EncodesChars}
 use Rattle.mos_lexer.proofs.References.{reference_laws}
-use Rattle.mos_lexer.proofs.Chars.{Spot, behind_token, rests, taken, char_of, then_spot, char_run, opening_spot, whole_spot}
+use Rattle.mos_lexer.proofs.Chars.{Spot, behind_token, rests, taken, char_of, then_spot, char_run, opening_spot}
 use Rattle.mos_lexer.proofs.Whole.{char_run_append, message_run as message_runs_whole}
-use Rattle.mos_lexer.proofs.UnitReads.{run_push}
-use Rattle.mos_lexer.proofs.Places.{IsOpenAt, text_open}
+use Rattle.mos_lexer.proofs.Places.{IsOpenAt}
 use Rattle.mos_rejections.specs.Alive.{IsAlive}
-use Rattle.mos_rejections.specs.Rejections.{BreaksReference, Shows, no_token as shows_no_token, RejectsChar}
-use Rattle.mos_rejections.proofs.Shape.{Sound, IsTagState, StepSound, step_sound, BreaksReference as PartBreaks}
-use Rattle.mos_rejections.proofs.Running.{sound_at}
+use Rattle.mos_rejections.specs.Rejections.{BreaksReference, Shows, no_token as shows_no_token}
+use Rattle.mos_rejections.proofs.Shape.{Sound, IsTagState, StepSound, step_sound}
 use Rattle.mos_rejections.proofs.AliveRuns.{alive_runs}
-use Rattle.mos_rejections.proofs.Witness.{completion}
-use Rattle.mos_rejections.proofs.Reaching.{TailAt, Reached, alive_at}
-use Rattle.mos_rejections.proofs.Stepping.{goes_on, goes_over, goes_to_tag, goes_over_mark, tail_rests}
+use Rattle.mos_rejections.proofs.Reaching.{Reached}
+use Rattle.mos_rejections.proofs.Stepping.{goes_on, goes_over, goes_to_tag, goes_over_mark}
 use Rattle.mos_rejections.proofs.Amp.{is_part, begun_parts, amp_no_tag}
 use Rattle.mos_rejections.proofs.Rejecting.{stands, whole_shows, text_shows, mark_text_shows, mark_shows, reference_shows, begins_no_token, tag_no_text}
 

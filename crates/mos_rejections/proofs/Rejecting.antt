@@ -1,31 +1,27 @@
 -- What a character shows that the machine rejects.
-use Rattle.std.proofs.Common.{◌≡◌, ℕ, ◌+◌, ◌-◌, ◌<◌, ◌≤◌, Bool, true, false, cond, eqb, List, [], ◌∷◌, ◌++◌, length, Option, Some, None, Result, Ok, Err, refl, sym, ap, subst, ◌∙◌, append_assoc, arith, codes, ◌⊎◌, inl, inr}
-use Rattle.std.specs.Prelude.{◌&&◌, ◌||◌, not}
-use Rattle.std.proofs.lemmas.List.{append-nil, length-append}
+use Rattle.std.proofs.Common.{◌≡◌, ℕ, Bool, true, false, List, [], ◌∷◌, ◌++◌, Option, Some, Result, Ok, Err, refl, sym, ap, subst, ◌∙◌, append_assoc, codes, inl, inr}
+use Rattle.std.specs.Prelude.{◌||◌}
 use Rattle.mos_fields.specs.Characters.{Text}
-use Rattle.mos_fields.specs.Names.{is_empty, may_grow}
-use Rattle.mos_fields.specs.References.{reference_of, begins_reference}
+use Rattle.mos_fields.specs.Names.{is_empty}
 use Rattle.mos_fields.specs.Raw.{is_plain, is_tail}
 use Rattle.mos_fields.specs.Forms.{is_white}
-use Rattle.mos_tables.specs.Events.{Event}
 use Rattle.mos_grammar.specs.Tokens.{Token, open_tag, empty_tag, close_tag, text, tail, mark, declaration}
 use Rattle.mos_grammar.specs.declared.fault.Fault.{Fault}
-use Rattle.mos_grammar.specs.Streams.{before_prolog, Position, before_message, inside, message_step, message_run, BeginsMessage}
+use Rattle.mos_grammar.specs.Streams.{before_prolog, Position, before_message, message_step, message_run}
 use Rattle.mos_grammar.proofs.StreamProofs.{message_runs_begin}
-use Rattle.mos_lexer.specs.declared.kind.Kind.{Kind}
 use Rattle.mos_lexer.specs.declared.kind.Kind.TheVariants as kinds
-use Rattle.mos_lexer.specs.Lexing.{byte_order_mark, begins_with, meets_mark, WritesTokens, Written, Writes, nothing, itself, reference}
-use Rattle.mos_lexer.specs.LexMachine.{LexState, begin, in_text, text_reference, in_tag, start_name, in_start, attribute_name, before_equals, before_value, in_value, value_reference, before_close, end_name, end_white, in_tail, in_question, in_declaration, LexStep, continues, whole_token, text_before, text_before_mark, no_token, no_reference, lex_step}
+use Rattle.mos_lexer.specs.Lexing.{byte_order_mark, meets_mark, WritesTokens, Written, Writes, nothing, itself, reference}
+use Rattle.mos_lexer.specs.LexMachine.{LexState, begin, in_text, text_reference, in_tag, start_name, in_start, attribute_name, before_equals, before_value, in_value, value_reference, before_close, end_name, end_white, in_tail, in_question, in_declaration, LexStep, whole_token, text_before, text_before_mark, no_token, lex_step}
 use Rattle.mos_lexer.specs.Units.{is_outside, lex_at, kind_of}
 use Rattle.mos_lexer.proofs.Lexer.{LexRest, LexTakes}
 use Rattle.mos_lexer.proofs.Forward.{lex_forward}
 use Rattle.mos_lexer.proofs.References.{reference_laws}
-use Rattle.mos_lexer.proofs.Chars.{Fits, Spot, char_run, opening_spot}
-use Rattle.mos_rejections.specs.Alive.{IsOpenMessage, Fronts, is_before_mos, IsNoRaw, MayFollow, is_text, BeginsToken, IsAlive}
-use Rattle.mos_rejections.specs.Rejections.{BreaksReference, StandsAt, EndsText, BeginsNoToken, Shows, entity, misfit, misfit_text, misfit_mark, no_token as shows_no_token}
-use Rattle.mos_rejections.proofs.Shape.{Sound, IsTailOf, IsNotTail, IsTagState, WholeSound, StepSound, step_sound, BreaksReference as PartBreaks}
-use Rattle.mos_rejections.proofs.Running.{Gone, going, fitting_at}
-use Rattle.mos_rejections.proofs.AliveRuns.{outside_from, push_run, fronts_write, Ending, ending}
+use Rattle.mos_lexer.proofs.Chars.{Fits, Spot}
+use Rattle.mos_rejections.specs.Alive.{IsNoRaw, MayFollow, is_text, BeginsToken}
+use Rattle.mos_rejections.specs.Rejections.{StandsAt, BeginsNoToken, Shows, entity, misfit, misfit_text, misfit_mark}
+use Rattle.mos_rejections.proofs.Shape.{IsTailOf, IsNotTail, IsTagState, WholeSound, BreaksReference as PartBreaks}
+use Rattle.mos_rejections.proofs.Running.{going, fitting_at}
+use Rattle.mos_rejections.proofs.AliveRuns.{outside_from, push_run, fronts_write, ending}
 use Rattle.mos_rejections.proofs.Reaching.{TailAt, lex_begins, Reached, begins_no_raw, open_message, tail_comes, Finish, by_tag, by_text, by_tail, IsTag, finish, one_written}
 use Rattle.mos_rejections.proofs.Stepping.{fronts_more, token_written, text_written, mark_written}
 

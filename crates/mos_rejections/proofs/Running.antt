@@ -1,28 +1,24 @@
 -- Characters that are alive are read.
-use Rattle.std.proofs.Common.{◌≡◌, ℕ, ◌+◌, ◌<◌, ◌≤◌, Bool, true, false, cond, List, [], ◌∷◌, ◌++◌, length, Option, Some, None, Result, Ok, Err, refl, sym, ap, subst, ◌∙◌, append_assoc, arith, ◌⊎◌, inl, inr, codes}
-use Rattle.std.specs.Prelude.{◌||◌, not}
-use Rattle.std.proofs.lemmas.List.{append-nil, length-append}
+use Rattle.std.proofs.Common.{◌≡◌, ℕ, ◌<◌, Bool, true, false, cond, List, [], ◌∷◌, ◌++◌, length, Option, Some, Result, Ok, Err, refl, sym, ap, subst, ◌∙◌, arith}
+use Rattle.std.proofs.lemmas.List.{length-append}
 use Rattle.mos_fields.specs.Characters.{Text}
-use Rattle.mos_fields.specs.Names.{is_empty, named}
-use Rattle.mos_fields.specs.Raw.{is_tail, tail_from}
+use Rattle.mos_fields.specs.Raw.{is_tail}
 use Rattle.mos_fields.specs.Forms.{is_white}
-use Rattle.mos_tables.specs.Events.{Event}
 use Rattle.mos_grammar.specs.Tokens.{Token, open_tag, empty_tag, close_tag, text, tail, mark, declaration}
 use Rattle.mos_grammar.specs.declared.fault.Fault.{Fault}
 use Rattle.mos_grammar.specs.declared.fault.Fault.TheVariants.{Tag as misplaced}
 use Rattle.mos_grammar.specs.RecordMachine.{Frame, State, with_child, at, complete, between, in_field, behind_text, in_raw, step}
-use Rattle.mos_grammar.specs.Streams.{Stage, before_prolog, Position, before_message, inside, inside_of, message_step, then_position, message_run, IsMessage, BeginsMessage}
-use Rattle.mos_lexer.specs.Lexing.{begins_mark, meets_mark, WritesTokens, Written, Ends, begins_with, WritesTag, ends_start, Writes, nothing}
+use Rattle.mos_grammar.specs.Streams.{Position, before_message, inside, inside_of, message_step, then_position, message_run}
+use Rattle.mos_lexer.specs.Lexing.{begins_mark, WritesTokens}
 use Rattle.mos_lexer.specs.LexMachine.{LexState, begin, in_text, in_tag, in_tail, LexStep, continues, whole_token, text_before, text_before_mark, no_token, no_reference, lex_step}
 use Rattle.mos_lexer.specs.Units.{is_outside, lex_at}
 use Rattle.mos_lexer.proofs.Lexer.{LexRest, LexTakes}
 use Rattle.mos_lexer.proofs.Forward.{Fitting, FittingAt, NotTail, lex_forward}
 use Rattle.mos_lexer.proofs.References.{reference_laws}
-use Rattle.mos_lexer.proofs.Chars.{Fits, FitsOk, char_fits, fits_rest, Spot, behind_token, rests, taken, char_of, then_spot, char_run, opening_spot, step_mark, step_tail, text_begins, white_meets_none}
+use Rattle.mos_lexer.proofs.Chars.{Fits, FitsOk, char_fits, fits_rest, Spot, behind_token, rests, taken, then_spot, char_run, step_mark, step_tail, text_begins, white_meets_none}
 use Rattle.mos_fields.specs.declared.field.Field.{Field}
 use Rattle.mos_grammar.specs.Records.{raw_events}
 use Rattle.mos_rejections.proofs.Shape.{Sound, StepSound, step_sound}
-use Rattle.mos_rejections.specs.Alive.{Fronts, is_text, MayFollow, BeginsToken, IsAlive}
 
 -- ---- what is accepted
 

@@ -1,25 +1,22 @@
 -- One more character, from where the machine stands.
-use Rattle.std.proofs.Common.{◌≡◌, ℕ, ◌+◌, ◌<◌, ◌≤◌, Bool, true, false, cond, eqb, List, [], ◌∷◌, ◌++◌, length, Option, Some, None, Result, Ok, Err, refl, sym, ap, subst, ◌∙◌, append_assoc, arith, codes, ◌⊎◌, inl, inr}
-use Rattle.std.specs.Prelude.{◌&&◌, ◌||◌, not}
-use Rattle.std.proofs.lemmas.List.{append-nil, length-append, append_cancel_right}
+use Rattle.std.proofs.Common.{◌≡◌, ℕ, Bool, true, false, eqb, List, [], ◌∷◌, ◌++◌, Some, Result, Ok, refl, sym, ap, subst, ◌∙◌, append_assoc, codes, inl}
+use Rattle.std.specs.Prelude.{◌||◌}
+use Rattle.std.proofs.lemmas.List.{append-nil, append_cancel_right}
 use Rattle.mos_fields.specs.Characters.{Text}
-use Rattle.mos_fields.specs.Names.{is_empty, may_grow}
-use Rattle.mos_fields.specs.References.{reference_of, begins_reference}
-use Rattle.mos_fields.specs.Forms.{is_white}
-use Rattle.mos_tables.specs.Events.{Event}
-use Rattle.mos_grammar.specs.Tokens.{Token, open_tag, empty_tag, close_tag, text, tail, mark, declaration}
+use Rattle.mos_fields.specs.Names.{may_grow}
+use Rattle.mos_grammar.specs.Tokens.{Token, text, mark}
 use Rattle.mos_grammar.specs.declared.fault.Fault.{Fault}
-use Rattle.mos_grammar.specs.RecordMachine.{State, at, complete, between, in_field, behind_text, in_raw}
+use Rattle.mos_grammar.specs.RecordMachine.{at, complete, between, in_field, behind_text, in_raw}
 use Rattle.mos_grammar.specs.Streams.{before_prolog, Position, before_message, inside, message_step, message_run}
-use Rattle.mos_lexer.specs.Lexing.{byte_order_mark, begins_mark, begins_with, WritesTokens, Written, Ends, ends_start}
-use Rattle.mos_lexer.specs.LexMachine.{LexState, begin, in_text, text_reference, in_tag, start_name, in_start, attribute_name, before_equals, before_value, in_value, value_reference, before_close, end_name, end_white, in_tail, in_question, in_declaration, LexStep, continues, whole_token, text_before, text_before_mark, no_token, no_reference, lex_step}
+use Rattle.mos_lexer.specs.Lexing.{byte_order_mark, begins_with, WritesTokens, Written, Ends, ends_start}
+use Rattle.mos_lexer.specs.LexMachine.{LexState, begin, in_text, text_reference, in_tag, start_name, in_start, attribute_name, before_equals, before_value, in_value, value_reference, before_close, end_name, end_white, in_tail, in_question, in_declaration, LexStep, continues, whole_token, text_before, text_before_mark, lex_step}
 use Rattle.mos_lexer.specs.Units.{is_outside, lex_at}
-use Rattle.mos_lexer.proofs.Lexer.{LexRest, LexTakes, lex_back, from_tag}
+use Rattle.mos_lexer.proofs.Lexer.{LexTakes, lex_back, from_tag}
 use Rattle.mos_lexer.proofs.Chars.{text_begins, next_back, behind_token, rests, taken}
 use Rattle.mos_lexer.proofs.UnitReads.{run_push}
 use Rattle.mos_lexer.proofs.Places.{IsOpenAt, text_open}
-use Rattle.mos_rejections.specs.Alive.{Fronts, is_text, IsAlive}
-use Rattle.mos_rejections.proofs.Shape.{Sound, IsTailOf, KeepsTail, StepSound, step_sound}
+use Rattle.mos_rejections.specs.Alive.{Fronts}
+use Rattle.mos_rejections.proofs.Shape.{Sound, IsTailOf, KeepsTail}
 use Rattle.mos_rejections.proofs.Running.{sound_at}
 use Rattle.mos_rejections.proofs.AliveRuns.{a_tag, a_is, ends_more, push_run}
 use Rattle.mos_rejections.proofs.Reaching.{TailAt, lex_begins, Reached}

@@ -1,24 +1,21 @@
 -- Reading code units, with the places of rejections.
-use Rattle.std.proofs.Common.{◌≡◌, ℕ, ◌+◌, ◌-◌, ◌<◌, ◌≤◌, Bool, true, false, cond, List, [], ◌∷◌, ◌++◌, length, Option, Some, None, refl, sym, ap, subst, ◌∙◌, append_assoc, arith, ◌⊎◌, inl, inr}
+use Rattle.std.proofs.Common.{◌≡◌, ℕ, ◌+◌, ◌-◌, ◌<◌, ◌≤◌, Bool, true, false, List, [], ◌∷◌, ◌++◌, length, Option, Some, None, refl, sym, ap, subst, ◌∙◌, append_assoc, arith, inl, inr}
 use Rattle.std.specs.Prelude.{nat_le, nat_lt, ◌&&◌}
 use Rattle.std.specs.Char.Escape.{encode_utf16}
-use Rattle.std.specs.List.{list_all}
 use Rattle.std.proofs.lemmas.List.{append-nil, length-append, map-append}
 use Rattle.std.proofs.lemmas.Bool.Decides.{nat_tests}
 use Rattle.mos_fields.specs.Characters.{is_allowed, are_allowed, is_high, is_low, pair_char, units_of}
 use Rattle.mos_fields.proofs.CharacterLemmas.{one_unit}
 use Rattle.mos_tables.specs.Events.{Event}
-use Rattle.mos_lexer.specs.declared.kind.Kind.{Kind}
 use Rattle.mos_lexer.specs.declared.kind.Kind.TheVariants as kinds
 use Rattle.mos_lexer.specs.LexMachine.{lex_step}
 use Rattle.mos_lexer.specs.Encodings.{EncodesChars, Encodes, AreEncodings}
 use Rattle.mos_lexer.specs.Laws.{are_units}
-use Rattle.mos_lexer.specs.Units.{message_limit, is_outside, Reader, start_reader, UnitStep, reads_on, completes, rejects, lexed, read_char, unit_read, too_long, unit_step, UnitRun, still_reads, completed, rejected_at, then_units, unit_run, Found, StreamReader, start_stream, StreamRun, reads_stream, rejects_stream, then_stream, stream_units}
-use Rattle.mos_lexer.proofs.Chars.{Spot, char_of, char_run, opening_spot, whole_spot, run_message}
-use Rattle.mos_lexer.proofs.Places.{SpotIs, Agrees, read_agrees}
+use Rattle.mos_lexer.specs.Units.{message_limit, is_outside, Reader, start_reader, UnitStep, reads_on, completes, rejects, lexed, read_char, unit_read, too_long, unit_step, UnitRun, still_reads, completed, rejected_at, then_units, unit_run, Found, StreamReader, start_stream, then_stream, stream_units}
+use Rattle.mos_lexer.proofs.Chars.{Spot, char_of, char_run, opening_spot, run_message}
+use Rattle.mos_lexer.proofs.Places.{Agrees, read_agrees}
 use Rattle.mos_lexer.proofs.UnitReads.{pair_units, push_allowed, push_units, run_push}
-use Rattle.mos_rejections.specs.Alive.{IsAlive}
-use Rattle.mos_rejections.specs.Rejections.{Shows, RejectsChar, waiting, IsWaiting, AreAlive, AreMessage, IsOpen, ShowsUnit, lone_low, lone_high, forbidden, wrong_char, too_many, IsRejection}
+use Rattle.mos_rejections.specs.Rejections.{waiting, IsWaiting, AreAlive, ShowsUnit, lone_low, lone_high, forbidden, wrong_char, too_many, IsRejection}
 use Rattle.mos_rejections.specs.Laws.{RunIsExact, RunsAreExact, values, StreamIsExact, StreamsAreExact}
 use Rattle.mos_rejections.proofs.Reaching.{Reached, alive_at}
 use Rattle.mos_rejections.proofs.Reading.{start_reached, width_of, width_one, ReaderAt, CharFacts, lexed_facts, dead_at, no_message_at}

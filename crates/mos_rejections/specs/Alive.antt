@@ -3,7 +3,7 @@ use Rattle.std.specs.Prelude.{◌≡◌, ℕ, Bool, true, false, List, [], ◌�
 use Rattle.mos_fields.specs.Names.{is_empty}
 use Rattle.mos_fields.specs.Characters.{Text}
 use Rattle.mos_tables.specs.Events.{Event}
-use Rattle.mos_grammar.specs.Tokens.{Token, open_tag, empty_tag, close_tag, text, tail, mark, declaration}
+use Rattle.mos_grammar.specs.Tokens.{Token, open_tag, text, tail, mark}
 use Rattle.mos_grammar.specs.Streams.{before_prolog, IsMessage, BeginsMessage}
 use Rattle.mos_lexer.specs.Lexing.{Written, Ends, meets_mark}
 

@@ -1,9 +1,8 @@
 -- What holds of reading code units.
-use Rattle.std.specs.Prelude.{◌≡◌, ℕ, true, List, [], ◌∷◌, ◌++◌, length, ◌+◌, map}
+use Rattle.std.specs.Prelude.{◌≡◌, ℕ, true, List, ◌++◌, length, ◌+◌, map}
 use Rattle.mos_tables.specs.Events.{Event}
-use Rattle.mos_lexer.specs.declared.kind.Kind.{Kind}
 use Rattle.mos_lexer.specs.Encodings.{Encodes, AreEncodings}
-use Rattle.mos_lexer.specs.Units.{Reader, start_reader, UnitRun, still_reads, completed, rejected_at, unit_run, Found, StreamReader, start_stream, StreamRun, reads_stream, rejects_stream, stream_units}
+use Rattle.mos_lexer.specs.Units.{start_reader, UnitRun, still_reads, completed, rejected_at, unit_run, Found, start_stream, StreamRun, reads_stream, rejects_stream, stream_units}
 use Rattle.mos_lexer.specs.Laws.{are_units}
 use Rattle.mos_rejections.specs.Rejections.{IsOpen, IsRejection}
 

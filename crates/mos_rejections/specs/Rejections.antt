@@ -1,8 +1,8 @@
 -- Which code units show that a stream is rejected, where, and as what. All is stated of one message, from the end of the
 -- message before; a place counts code units from there.
-use Rattle.std.specs.Prelude.{◌≡◌, ℕ, Bool, true, false, List, [], ◌∷◌, ◌++◌, length, Option, Some, None, Ok, Err, ◌⊎◌, ◌≤◌}
+use Rattle.std.specs.Prelude.{◌≡◌, ℕ, true, false, List, [], ◌∷◌, ◌++◌, length, Option, Some, None, Ok, Err, ◌⊎◌, ◌≤◌}
 use Rattle.std.specs.Char.Escape.{encode_utf16}
-use Rattle.mos_fields.specs.Characters.{Text, is_allowed, are_allowed, is_high, is_low, pair_char, units_of}
+use Rattle.mos_fields.specs.Characters.{Text, is_allowed, are_allowed, is_high, is_low, units_of}
 use Rattle.mos_fields.specs.References.{reference_of, begins_reference}
 use Rattle.mos_fields.specs.Forms.{is_white}
 use Rattle.mos_tables.specs.Events.{Event}

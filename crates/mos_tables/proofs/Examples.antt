@@ -1,5 +1,5 @@
 -- Worked examples of the definitions.
-use Rattle.std.specs.Prelude.{◌≡◌, List, [], ◌∷◌, Some, None, codes, refl}
+use Rattle.std.specs.Prelude.{◌≡◌, [], ◌∷◌, Some, None, codes, refl}
 use Rattle.mos_fields.specs.declared.field.Field.TheVariants as fields
 use Rattle.mos_fields.specs.declared.operation.Operation.TheVariants.{Insert, Swap}
 use Rattle.mos_tables.specs.declared.table.Table.TheVariants.{Heartbeat, Action}
@@ -9,7 +9,7 @@ use Rattle.mos_tables.specs.Canonical.{canonical}
 
 -- an envelope with a heartbeat
 heartbeat_text : canonical (opens (codes "mos") [] ∷ leaf (codes "mosID") [] (codes "A&B") ∷ leaf (codes "ncsID") [] [] ∷ opens (codes "heartbeat") []
-        ∷ leaf (codes "time") [] (codes "2026-03-04T12:30:00") ∷ closes (codes "heartbeat") ∷ closes (codes "mos") ∷ [])
+    ∷ leaf (codes "time") [] (codes "2026-03-04T12:30:00") ∷ closes (codes "heartbeat") ∷ closes (codes "mos") ∷ [])
     ≡ codes "<mos><mosID>A&amp;B</mosID><ncsID></ncsID><heartbeat><time>2026-03-04T12:30:00</time></heartbeat></mos>"
 unfolding canonical
 heartbeat_text = refl
