@@ -20,9 +20,9 @@ use Rattle.mos_tables.specs.declared.others.Others.{Others}
 use Rattle.mos_tables.specs.declared.others.Others.TheVariants.{Kept, Dropped, Refused}
 use Rattle.mos_fields.specs.Characters.{Text}
 use Rattle.mos_fields.specs.Fields.{name_of, same_field, same}
-use Rattle.mos_grammar.specs.Records.{times, Child, seen_behind, seen_of, least_count, is_single, is_full, is_optional, is_named, column_of, before_column, any_seen, lacks, lack_of, lacking, repeated, or_else, field_fault, wanted, end_fault, value_fault, values_of, attribute_fault, first_value, given_of, OpenField, Role, out_of_place, leaf_role, raw_role, record_role, message_of, aim_of, with_aim, message_role, role_at, other_role, role_by, role, leaf_event, field_events, text_fault, earlier, role_fault, inside_fault, if_field, outside_fault, Admission, not_admitted, admitted_leaf, admitted_raw, admitted_record, admitted, admission, empty_admission, keys, arranged, nested, raw_events, Content, ends, white_space, field, empty_leaf, empty_leaf_tag, raw_element, raw_tag, record_element, record_tag, IsRecord, BeginsRecord}
 use Rattle.mos_fields.specs.Raw.{end_text, ends_with, tail_from, is_tail}
 use Rattle.mos_fields.specs.Forms.{is_white, is_trimmed, reads}
+use Rattle.mos_grammar.specs.Records.{times, Child, seen_behind, seen_of, least_count, is_single, is_full, is_optional, is_named, column_of, before_column, any_seen, lacks, lack_of, lacking, repeated, or_else, field_fault, wanted, end_fault, value_fault, values_of, attribute_fault, first_value, given_of, OpenField, Role, out_of_place, leaf_role, raw_role, record_role, message_of, aim_of, with_aim, message_role, role_at, other_role, role_by, role, leaf_event, field_events, text_fault, earlier, role_fault, inside_fault, if_field, outside_fault, Admission, not_admitted, admitted_leaf, admitted_raw, admitted_record, admitted, admission, empty_admission, keys, arranged, nested, raw_events, Content, ends, white_space, field, empty_leaf, empty_leaf_tag, raw_element, raw_tag, record_element, record_tag, IsRecord, BeginsRecord}
 use Rattle.mos_tables.specs.Tables.{columns, others, is_ack, ack_columns, group_columns, attribute_of_table, attribute_of_form, words_of}
 use Rattle.mos_tables.specs.Events.{Attribute, Event, leaf, raw}
 use Rattle.mos_grammar.specs.Tokens.{Token, open_tag, empty_tag, close_tag, text, tail, mark, declaration}

@@ -8,8 +8,8 @@ use Rattle.mos_tables.specs.declared.column.Column.{Column}
 use Rattle.mos_tables.specs.declared.table.Table.{Table}
 use Rattle.mos_fields.specs.Characters.{Text}
 use Rattle.mos_fields.specs.Fields.{name_of, same_field}
-use Rattle.mos_grammar.specs.Records.{times, Child, seen_of, is_single, is_named, column_of, before_column, any_seen, lacks, lack_of, lacking, repeated, or_else, field_fault, end_fault, values_of, value_fault, attribute_fault, OpenField, Role, out_of_place, leaf_role, raw_role, record_role, role, field_events, text_fault, order_of, earlier, role_fault, inside_fault, if_field, outside_fault, admitted, admission, empty_admission}
 use Rattle.mos_fields.specs.Forms.{among}
+use Rattle.mos_grammar.specs.Records.{times, Child, seen_of, is_single, is_named, column_of, before_column, any_seen, lacks, lack_of, lacking, repeated, or_else, field_fault, end_fault, values_of, value_fault, attribute_fault, OpenField, Role, out_of_place, leaf_role, raw_role, record_role, role, field_events, text_fault, order_of, earlier, role_fault, inside_fault, if_field, outside_fault, admitted, admission, empty_admission}
 use Rattle.mos_tables.specs.Tables.{columns, attribute_of_table, attribute_of_form, words_of}
 use Rattle.mos_tables.specs.Events.{Attribute, Event}
 use Rattle.mos_grammar.specs.declared.fault.Fault.{Fault}

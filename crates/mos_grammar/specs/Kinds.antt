@@ -5,8 +5,8 @@ use Rattle.mos_tables.specs.declared.column.Column.{Column}
 use Rattle.mos_tables.specs.declared.table.Table.{Table}
 use Rattle.mos_fields.specs.Characters.{Text}
 use Rattle.mos_fields.specs.Fields.{name_of}
-use Rattle.mos_grammar.specs.Records.{times, Child, seen_of, is_single, is_named, column_of, before_column, any_seen, lacking, end_fault, values_of, Role, out_of_place, leaf_role, raw_role, record_role, role, field_events, order_of, Admission, not_admitted, admitted_leaf, admitted_raw, admitted_record}
 use Rattle.mos_fields.specs.Forms.{among}
+use Rattle.mos_grammar.specs.Records.{times, Child, seen_of, is_single, is_named, column_of, before_column, any_seen, lacking, end_fault, values_of, Role, out_of_place, leaf_role, raw_role, record_role, role, field_events, order_of, Admission, not_admitted, admitted_leaf, admitted_raw, admitted_record}
 use Rattle.mos_tables.specs.Tables.{columns, attribute_of_table, attribute_of_form, words_of}
 use Rattle.mos_tables.specs.Events.{Attribute}
 use Rattle.mos_grammar.specs.declared.fault.Fault.{Fault}

@@ -8,14 +8,14 @@ use Rattle.mos_grammar.specs.declared.fault.Fault.TheVariants.{Tag as misplaced}
 use Rattle.mos_fields.specs.Characters.{Text}
 use Rattle.mos_fields.specs.Raw.{tail_from, is_tail}
 use Rattle.mos_fields.specs.Forms.{is_white}
+use Rattle.mos_lexer.specs.Lexing.{begins_mark, WritesTokens}
+use Rattle.mos_lexer.specs.LexMachine.{LexState, begin, in_text, text_reference, in_tag, start_name, in_start, attribute_name, before_equals, before_value, in_value, value_reference, before_close, end_name, end_white, in_tail, in_question, in_declaration, LexStep, continues, whole_token, text_before, text_before_mark, no_token, no_reference, lex_step}
+use Rattle.mos_lexer.specs.Units.{is_outside, lex_at}
 use Rattle.mos_grammar.specs.Records.{field_events}
 use Rattle.mos_grammar.specs.RecordMachine.{State, at, complete, between, in_field, behind_text, in_raw, after_text, step}
 use Rattle.mos_grammar.specs.Streams.{Stage, before_prolog, IsMessage, Position, before_message, inside, inside_of, message_step}
 use Rattle.mos_grammar.proofs.Sound.{Reads, Takes, forward}
 use Rattle.mos_grammar.proofs.StreamProofs.{StillReads, StillTakes, message_forward, message_back}
-use Rattle.mos_lexer.specs.Lexing.{begins_mark, WritesTokens}
-use Rattle.mos_lexer.specs.LexMachine.{LexState, begin, in_text, text_reference, in_tag, start_name, in_start, attribute_name, before_equals, before_value, in_value, value_reference, before_close, end_name, end_white, in_tail, in_question, in_declaration, LexStep, continues, whole_token, text_before, text_before_mark, no_token, no_reference, lex_step}
-use Rattle.mos_lexer.specs.Units.{is_outside, lex_at}
 use Rattle.mos_lexer.proofs.Lexer.{LexRest, LexTakes, lex_back}
 use Rattle.mos_lexer.proofs.Forward.{ReferenceLaws, NotTail, Fitting, FittingAt, lex_forward}
 

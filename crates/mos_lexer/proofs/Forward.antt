@@ -4,12 +4,14 @@ use Rattle.std.specs.Prelude.{not, ◌&&◌, ◌||◌}
 use Rattle.std.proofs.lemmas.Bool.{eqb-true}
 use Rattle.std.proofs.lemmas.List.{append-nil}
 use Rattle.mos_fields.specs.Characters.{Text}
-use Rattle.mos_fields.specs.Raw.{is_empty, end_text, ends_with, tail_from}
-use Rattle.mos_fields.specs.Forms.{is_space, is_white}
+use Rattle.mos_fields.specs.Names.{is_empty, may_grow, named}
+use Rattle.mos_fields.specs.Raw.{end_text, ends_with, tail_from, is_space, is_plain, is_quote}
+use Rattle.mos_fields.specs.Forms.{is_white}
+use Rattle.mos_lexer.specs.Lexing.{byte_order_mark, Writes, nothing, itself, reference, WritesValue, value_ends, value_itself, value_reference, WritesQuoted, quoted_space, quote, WritesEquals, equals_space, equals, WritesTag, ends_start, ends_empty, tag_space, attribute, declaration_from, begins_with, tag_token, WrittenTag, Written, begins_mark, WritesTokens}
+use Rattle.mos_fields.specs.References.{reference_of, begins_reference}
+use Rattle.mos_lexer.specs.LexMachine.{Tag, LexState, begin, in_text, text_reference, in_tag, start_name, in_start, attribute_name, before_equals, before_value, in_value, value_reference as value_reference_state, before_close, end_name, end_white, in_tail, in_question, in_declaration, continues, whole_token, text_before, text_before_mark, no_token, continues_if, more_attributes, reference_step, start_step, equals_step, lex_step}
 use Rattle.mos_tables.specs.Events.{Attribute}
 use Rattle.mos_grammar.specs.Tokens.{Token, open_tag, empty_tag, close_tag, text, tail, mark, declaration}
-use Rattle.mos_lexer.specs.Lexing.{byte_order_mark, may_grow, named, is_plain, reference_of, begins_reference, Writes, nothing, itself, reference, is_quote, WritesValue, value_ends, value_itself, value_reference, WritesQuoted, quoted_space, quote, WritesEquals, equals_space, equals, WritesTag, ends_start, ends_empty, tag_space, attribute, declaration_from, begins_with, tag_token, WrittenTag, Written, begins_mark, WritesTokens}
-use Rattle.mos_lexer.specs.LexMachine.{Tag, LexState, begin, in_text, text_reference, in_tag, start_name, in_start, attribute_name, before_equals, before_value, in_value, value_reference as value_reference_state, before_close, end_name, end_white, in_tail, in_question, in_declaration, continues, whole_token, text_before, text_before_mark, no_token, continues_if, more_attributes, reference_step, start_step, equals_step, lex_step}
 use Rattle.mos_lexer.proofs.Lexer.{Finishes, StartRest, NameRest, ValueReferenceRest, TextReferenceRest, EndRest, EndWhiteRest, DeclarationRest, QuestionRest, TailRest, CloseRest, InTagRest, LexRest, LexTakes, parts_of, true_from, finishes_next}
 
 -- what is asked of references: none is the front of another, and a front of one may become one
@@ -44,11 +46,9 @@ apart : (c d : ℕ) (f : ℕ → Bool) → f c ≡ true → f d ≡ false → eq
 apart c d f h k = not_true (eqb c d) (λ e. (let p : c ≡ d = eqb-true c d e in no_both (f d) (subst (λ (z : ℕ). f z ≡ true) p h) k))
 
 plain_60 : (c : ℕ) → is_plain c ≡ true → eqb c 60 ≡ false
-unfolding is_plain
 plain_60 c h = apart c 60 is_plain h refl
 
 plain_38 : (c : ℕ) → is_plain c ≡ true → eqb c 38 ≡ false
-unfolding is_plain
 plain_38 c h = apart c 38 is_plain h refl
 
 -- what ends a name

@@ -4,12 +4,14 @@ use Rattle.std.specs.Prelude.{not, ◌&&◌, ◌||◌}
 use Rattle.std.proofs.lemmas.Bool.{eqb-true}
 use Rattle.std.proofs.lemmas.List.{append-nil}
 use Rattle.mos_fields.specs.Characters.{Text}
-use Rattle.mos_fields.specs.Raw.{is_empty, end_text, ends_with, tail_from}
-use Rattle.mos_fields.specs.Forms.{is_space, is_white}
+use Rattle.mos_fields.specs.Names.{is_empty, may_grow, named}
+use Rattle.mos_fields.specs.Raw.{end_text, ends_with, tail_from, is_space, is_plain, is_quote}
+use Rattle.mos_fields.specs.Forms.{is_white}
+use Rattle.mos_lexer.specs.Lexing.{byte_order_mark, Writes, nothing, itself, reference, WritesValue, value_ends, value_itself, value_reference, WritesQuoted, quoted_space, quote, WritesEquals, equals_space, equals, WritesTag, ends_start, ends_empty, tag_space, attribute, declaration_from, begins_with, tag_token, begins_mark, WritesTokens}
+use Rattle.mos_fields.specs.References.{reference_of, begins_reference}
+use Rattle.mos_lexer.specs.LexMachine.{Tag, LexState, begin, in_text, text_reference, in_tag, start_name, in_start, attribute_name, before_equals, before_value, in_value, value_reference as value_reference_state, before_close, end_name, end_white, in_tail, in_question, in_declaration, LexStep, continues, whole_token, text_before, text_before_mark, no_token, no_reference, continues_if, more_attributes, referred, reference_step, start_step, equals_step, lex_step}
 use Rattle.mos_tables.specs.Events.{Attribute}
 use Rattle.mos_grammar.specs.Tokens.{Token, open_tag, empty_tag, close_tag, text, tail, mark, declaration}
-use Rattle.mos_lexer.specs.Lexing.{byte_order_mark, may_grow, named, is_plain, reference_of, begins_reference, Writes, nothing, itself, reference, is_quote, WritesValue, value_ends, value_itself, value_reference, WritesQuoted, quoted_space, quote, WritesEquals, equals_space, equals, WritesTag, ends_start, ends_empty, tag_space, attribute, declaration_from, begins_with, tag_token, begins_mark, WritesTokens}
-use Rattle.mos_lexer.specs.LexMachine.{Tag, LexState, begin, in_text, text_reference, in_tag, start_name, in_start, attribute_name, before_equals, before_value, in_value, value_reference as value_reference_state, before_close, end_name, end_white, in_tail, in_question, in_declaration, LexStep, continues, whole_token, text_before, text_before_mark, no_token, no_reference, continues_if, more_attributes, referred, reference_step, start_step, equals_step, lex_step}
 
 -- ---- what is still read
 
@@ -169,7 +171,6 @@ not_empty : (n : Text) → is_empty n ≡ false → not (is_empty n) ≡ true
 not_empty n h = rw h refl
 
 pub plain_from : (c : ℕ) → eqb c 60 ≡ false → eqb c 38 ≡ false → is_plain c ≡ true
-unfolding is_plain
 plain_from c h k = rw (h, k) refl
 
 -- two facts that stand for a test each

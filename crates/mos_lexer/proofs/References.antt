@@ -6,10 +6,9 @@ use Rattle.std.proofs.lemmas.Bool.{eqb-true, leb-true, le-leb}
 use Rattle.std.proofs.lemmas.List.{append-nil, length-append}
 use Rattle.mos_fields.specs.Characters.{Text, is_allowed}
 use Rattle.mos_fields.specs.Fields.{same}
-use Rattle.mos_fields.specs.Raw.{is_empty}
-use Rattle.mos_fields.specs.Forms.{is_digit, number_from, number_in}
+use Rattle.mos_fields.specs.Names.{is_empty}
+use Rattle.mos_fields.specs.References.{is_digit, number_from, number_in, is_hex, hex_value, hex_from, named_references, of_number, numeric, or_numeric, reference_of, is_front, begins_named, has_allowed, may_end, may_number, begins_numeric, begins_number, begins_reference}
 use Rattle.mos_grammar.proofs.Sound.{same-is}
-use Rattle.mos_lexer.specs.Lexing.{is_hex, hex_value, hex_from, named_references, of_number, numeric, or_numeric, reference_of, is_front, begins_named, has_allowed, may_end, may_number, begins_numeric, begins_number, begins_reference}
 use Rattle.mos_lexer.proofs.Forward.{ReferenceLaws, no_both}
 
 conj : (a b : Bool) → (a && b) ≡ true → (a ≡ true) × (b ≡ true)

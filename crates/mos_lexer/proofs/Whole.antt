@@ -5,14 +5,15 @@ use Rattle.std.proofs.lemmas.List.{append-nil}
 use Rattle.mos_tables.specs.Events.{Event, Attribute}
 use Rattle.mos_grammar.specs.Tokens.{Token, open_tag, empty_tag, close_tag, text, tail, mark, declaration}
 use Rattle.mos_fields.specs.Characters.{Text}
-use Rattle.mos_fields.specs.Raw.{is_empty, tail_from}
+use Rattle.mos_fields.specs.Names.{is_empty}
+use Rattle.mos_fields.specs.Raw.{tail_from}
+use Rattle.mos_lexer.specs.Lexing.{byte_order_mark, declaration_from, begins_with, begins_mark, WritesTag, ends_start, ends_empty, tag_space, attribute, WritesEquals, equals_space, equals, WritesQuoted, quoted_space, quote, WritesValue, value_ends, value_itself, value_reference, WritesTokens, WrittenTag, Writes, nothing, itself, reference}
+use Rattle.mos_lexer.specs.LexMachine.{LexState, begin, in_text, text_reference, in_tag, start_name, in_start, attribute_name, before_equals, before_value, in_value, value_reference as value_reference_state, before_close, end_name, end_white, in_tail, in_question, in_declaration}
+use Rattle.mos_lexer.specs.Units.{is_outside, lex_at}
 use Rattle.mos_grammar.specs.RecordMachine.{complete}
 use Rattle.mos_grammar.specs.Streams.{Stage, before_prolog, IsMessage, Position, before_message, inside}
 use Rattle.mos_grammar.proofs.Sound.{done_is}
 use Rattle.mos_grammar.proofs.StreamProofs.{StillReads}
-use Rattle.mos_lexer.specs.Lexing.{byte_order_mark, declaration_from, begins_with, begins_mark, WritesTag, ends_start, ends_empty, tag_space, attribute, WritesEquals, equals_space, equals, WritesQuoted, quoted_space, quote, WritesValue, value_ends, value_itself, value_reference, WritesTokens, WrittenTag, Writes, nothing, itself, reference}
-use Rattle.mos_lexer.specs.LexMachine.{LexState, begin, in_text, text_reference, in_tag, start_name, in_start, attribute_name, before_equals, before_value, in_value, value_reference as value_reference_state, before_close, end_name, end_white, in_tail, in_question, in_declaration}
-use Rattle.mos_lexer.specs.Units.{is_outside, lex_at}
 use Rattle.mos_lexer.proofs.Lexer.{StartRest, LexRest}
 use Rattle.mos_lexer.proofs.Forward.{ReferenceLaws, Fitting}
 use Rattle.mos_lexer.proofs.Chars.{Spot, char_of, then_spot, char_run, reads_fitting, CharReads, CharTakes, Fits, FitsOk, char_fits, MessageChars, opening_spot, whole_spot, run_back, message_run_whole}

@@ -1,11 +1,13 @@
 -- Reading a token character after character.
 use Rattle.std.specs.Prelude.{ℕ, Bool, true, false, cond, List, [], ◌∷◌, ◌++◌, length, Option, Some, None, codes, ◌==◌, ◌&&◌, not}
 use Rattle.mos_fields.specs.Characters.{Text}
-use Rattle.mos_fields.specs.Raw.{is_empty, end_text, ends_with}
-use Rattle.mos_fields.specs.Forms.{is_space, is_white}
+use Rattle.mos_fields.specs.Names.{is_empty, may_grow}
+use Rattle.mos_fields.specs.Raw.{end_text, ends_with, is_space, is_quote}
+use Rattle.mos_fields.specs.Forms.{is_white}
+use Rattle.mos_lexer.specs.Lexing.{byte_order_mark}
+use Rattle.mos_fields.specs.References.{reference_of, begins_reference}
 use Rattle.mos_tables.specs.Events.{Attribute}
 use Rattle.mos_grammar.specs.Tokens.{Token, open_tag, empty_tag, close_tag, tail, mark, declaration}
-use Rattle.mos_lexer.specs.Lexing.{byte_order_mark, may_grow, reference_of, begins_reference, is_quote}
 
 -- an open tag: its name and the attributes so far
 pub record Tag : Type 0 where
