@@ -1,0 +1,3 @@
+pub mod Parts
+pub mod ScannerView
+pub mod References
