@@ -1,5 +1,5 @@
 //! The scanner.
-ghost use Rattle.std.specs.Prelude.{◌≡◌, ◌≤◌, ℕ, List, [], length, IfOk};
+ghost use Rattle.std.specs.Prelude.{◌≡◌, ◌≤◌, ◌++◌, ℕ, List, [], length, IfOk};
 ghost use Rattle.mos_grammar.specs.Tokens.{text};
 ghost use Rattle.mos_lexer.specs.LexMachine.{lex_step, begin, in_tail, in_tag};
 ghost use Rattle.mos_tokens.specs.TokenView.{token_of, IsSound as IsSoundToken};
@@ -182,5 +182,13 @@ impl Scanner {
             &held[self.start..here],
             self.resolved_units(held, self.start, here),
         )
+    }
+
+    /// What was read stays the same where more is held. It does nothing.
+    pub fn stays_read(&self, held: &[u16], more: &[u16], here: usize)
+        requires { IsSound self.now held.now here }
+        ensures state { lex_of self.now (held.now ++ more.now) here ≡ lex_of self.now held.now here }
+        ensures sound { IsSound self.now (held.now ++ more.now) here }
+    {
     }
 }
