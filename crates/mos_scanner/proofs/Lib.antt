@@ -8,3 +8,5 @@ pub mod ReferenceLemmas
 pub mod NamedLemmas
 pub mod NumberLemmas
 pub mod HeldLemmas
+pub mod RunLemmas
+pub mod RunSteps

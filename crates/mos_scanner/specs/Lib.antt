@@ -1,3 +1,4 @@
 pub mod Parts
 pub mod ScannerView
 pub mod References
+pub mod Runs
