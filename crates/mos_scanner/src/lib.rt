@@ -4,6 +4,7 @@
 //! that is being read stand, and what references stand for.
 #![tactic(auto)]
 
+mod character;
 mod chars;
 mod declaration;
 mod end;
@@ -20,5 +21,6 @@ mod tail;
 mod text;
 mod value;
 
+pub use character::{Character, character_at};
 pub use scanned::{Kind, Scanned};
 pub use scanner::Scanner;

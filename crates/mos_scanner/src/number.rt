@@ -7,7 +7,7 @@ ghost use Rattle.mos_scanner.specs.References.{IsDigits, IsReferred, IsShort, en
 use crate::reference::{Reference, Referred};
 
 /// XML 1.0 allows the character.
-fn is_allowed(c: char) -> bool
+pub fn is_allowed(c: char) -> bool
     ensures { result ≡ is_allowed_of c }
 {
     matches!(c, '\t' | '\n' | '\r' | ' '..='\u{D7FF}' | '\u{E000}'..='\u{FFFD}' | '\u{10000}'..='\u{10FFFF}')
