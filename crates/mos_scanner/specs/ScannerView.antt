@@ -7,7 +7,7 @@ use Rattle.mos_fields.specs.Raw.{is_quote}
 use Rattle.mos_tables.specs.Events.{Attribute}
 use Rattle.mos_grammar.specs.Tokens.{Token, open_tag, empty_tag, close_tag, tail, mark, declaration}
 use Rattle.mos_lexer.specs.LexMachine.{Tag, LexState, begin, in_text, text_reference, in_tag, start_name, in_start, attribute_name, before_equals, before_value, in_value, value_reference, before_close, end_name, end_white, in_tail, in_question, in_declaration, LexStep, continues, whole_token, text_before, text_before_mark, no_token, no_reference, lex_step}
-use Rattle.mos_scanner.specs.Parts.{part}
+use Rattle.mos_scanner.specs.Parts.{part, IsCharacter}
 use Rattle.mos_scanner.specs.References.{is_ascii, IsAt, IsBounded}
 use Rattle.mos_scanner.specs.declared.reference.Reference.{Reference}
 use Rattle.mos_scanner.specs.declared.mode.Mode.{Mode}
@@ -225,11 +225,16 @@ IsWhole Declaration s held next = ⊤
 abbrev pub IsWholeText : Scanner → List ℕ → ℕ → Type 0
 IsWholeText s held here = IsInText held s.start here (resolved_units s held s.start here)
 
+-- a text is whole where a `<` stands, which begins a tag
+pub record IsTextBefore (s : Scanner) (held : List ℕ) (here next : ℕ) : Type 0 where
+  pub whole : IsWholeText s held here
+  pub tag : IsCharacter held here next 60
+
 -- what holds behind a character
 abbrev pub IsSoundAfter : Scanned → Scanner → List ℕ → ℕ → ℕ → Type 0
 IsSoundAfter More s held here next = IsSound s held next
 IsSoundAfter (Whole k) s held here next = IsWhole k s held next
-IsSoundAfter TextBefore s held here next = IsWholeText s held here
+IsSoundAfter TextBefore s held here next = IsTextBefore s held here next
 IsSoundAfter TextBeforeMark s held here next = IsWholeText s held here
 IsSoundAfter NoToken s held here next = ⊤
 IsSoundAfter (NoReference k) s held here next = ⊤

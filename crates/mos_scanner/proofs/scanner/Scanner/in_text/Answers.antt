@@ -1,4 +1,5 @@
-use Rattle.std.proofs.Common.{sym, ◌∙◌, eq-eqb, ne_eqb}
+use Rattle.std.proofs.Common.{sym, ◌∙◌, subst, eq-eqb, ne_eqb}
+use Rattle.mos_scanner.specs.Parts.{IsCharacter}
 use Rattle.mos_scanner.specs.ScannerView.{raw_of, resolved}
 use Rattle.mos_scanner.proofs.TextLemmas.{text_reference_step, text_step}
 use Rattle.mos_scanner.proofs.LexSteps.{text_tag, text_mark}
@@ -7,7 +8,7 @@ use Rattle.mos_scanner.proofs.scanner.Scanner.in_text.Goals as goal
 pub returns-then-c-eq60 : goal.returns-then-c-eq60
 returns-then-c-eq60 c = record {
   same = text_tag c.args.outside c.args.c (raw_of c.args.self.now c.args.held.now c.args.here) (resolved c.args.self.now c.args.held.now c.args.self.now.start c.args.here) (eq-eqb c.args.c 60 c.if-c-eq60.true);
-  sound = c.requires.sound;
+  sound = record { whole = c.requires.sound; tag = subst (IsCharacter c.args.held.now c.args.here c.args.next) c.if-c-eq60.true c.requires.character };
 }
 
 pub returns-then-is_mark_behind_white : goal.returns-then-is_mark_behind_white
