@@ -1,0 +1,6 @@
+pub mod Sound
+pub mod Seen
+pub mod Complete
+pub mod StreamProofs
+pub mod FirstFault
+pub mod Fresh

@@ -1,0 +1,5 @@
+pub mod Tokens
+pub mod Records
+pub mod Kinds
+pub mod RecordMachine
+pub mod Streams

@@ -1,0 +1,2 @@
+//! How tokens are written.
+#![tactic(auto)]
