@@ -1,1 +1,3 @@
 pub mod CharacterLemmas
+pub mod FaultLemmas
+pub mod NameLemmas

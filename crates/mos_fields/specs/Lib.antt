@@ -1,4 +1,5 @@
 pub mod Characters
+pub mod Units
 pub mod Fields
 pub mod Names
 pub mod References

@@ -5,6 +5,7 @@
 #![tactic(auto)]
 
 pub mod air;
+mod checks;
 pub mod fault;
 pub mod field;
 pub mod form;
@@ -18,9 +19,11 @@ pub mod opt_id;
 pub mod opt_ids;
 pub mod rev;
 pub mod samples;
+mod scan;
 pub mod slug;
 pub mod text;
 pub mod time;
+mod units;
 pub mod unread;
 
 pub use air::Air;
