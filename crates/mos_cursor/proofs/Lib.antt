@@ -1,0 +1,3 @@
+pub mod RawElements
+pub mod Forms
+pub mod Roles

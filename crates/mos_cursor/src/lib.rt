@@ -1,0 +1,3 @@
+//! The parts of a record's value.
+#![tactic(auto)]
+
