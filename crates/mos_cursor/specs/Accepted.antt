@@ -92,8 +92,9 @@ pub record MessageFits (n : Text) (p : RecordPart) : Type 0 where
   pub operation : Operation
   pub table : Table
   pub named : table_of_name n (messages operation) ≡ Some table
+  pub taken : List Text
   pub given : IsGivenTo table p.given
-  pub accepted : IsAccepted table [] p.inner
+  pub accepted : IsAccepted table taken p.inner
 
 -- what a column of the table holds
 abbrev pub FitsAs : Table → Shape → Often → Part → Type 0
