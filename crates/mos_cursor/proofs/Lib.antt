@@ -3,3 +3,5 @@ pub mod Forms
 pub mod Roles
 pub mod Columns
 pub mod Children
+pub mod Counts
+pub mod Collect

@@ -62,8 +62,8 @@ first_text es = []
 
 -- the records whose IDs have to be apart: the stories of a body, the items of a story
 abbrev pub is_keyed : Table → Table → Bool
-is_keyed tables.Body u = true
-is_keyed tables.Story u = true
+is_keyed tables.Body tables.Story = true
+is_keyed tables.Story tables.Item = true
 is_keyed t u = false
 
 -- no such first text came before
