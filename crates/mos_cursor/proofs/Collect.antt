@@ -26,7 +26,7 @@ use Rattle.mos_grammar.specs.Records.{Child, times, least_count, is_optional, fo
 use Rattle.mos_cursor.specs.Parts.{LeafPart, RecordPart, Part, absent, one_leaf, leaves, one_raw, raws, one_record, records, message, leaf_event, record_events, part_events, parts_events, kept_column, places}
 use Rattle.mos_cursor.specs.Accepted.{IsAccepted, IsGiven, IsGivenTo, LeafFits, first_text, is_keyed, IsFresh, FreshIf, RecordFits, RecordsFit, MessageFits, Fits, FitsAs, AllFit}
 use Rattle.mos_cursor.proofs.Forms.{reads_again, key_is_fresh}
-use Rattle.mos_cursor.proofs.Columns.{column_with, column_with-same, table_facts, all_known, distinct_columns, AllKnown, same_field-same}
+use Rattle.mos_cursor.proofs.Columns.{column_with, column_with-same, table_facts, all_known, distinct_columns, AllKnown, same_field-same, MessageOnce, IsOnce}
 use Rattle.mos_cursor.proofs.Children.{LeafItem, leaf_lacks, leaf_some, RawItem, raw_item, RecordItem, record_item, MessageItem, message_raw, message_item, ItemOf, ChildFits, of_column, of_kept, of_dropped, AllChildren, each}
 use Rattle.mos_cursor.proofs.Counts.{fields_of, Most, IsBounded, bounded, IsPresent, present}
 
@@ -221,3 +221,160 @@ record_list t taken before (d ∷ cs) c u earlier kc s w a =
         → RecordList t c u earlier (cond b d.1 [] ++ found c.field cs) (cond b (times c.field (fields_of cs) + 1) (times c.field (fields_of cs)))
     go true e ih = with_item d.1 refl (subst (λ (x : Shape). ItemOf t before taken c x d.1) s (of_this t before taken d.0 d.1 c a.0 kc e)) ih
     go false e ih = ih earlier wider
+
+-- ---- messages
+
+record MessageList (t : Table) (c : Column) (es : List Event) (k : ℕ) : Type 0 where
+  parts : List Part
+  events : es ≡ flat_map (part_events c.field) parts
+  fit : AllByRecursion (FitsAs t Message (Count 1)) parts
+  exactly : length parts ≡ k
+
+message_list : (t : Table) (taken : List Text) (before cs : List Child) (c : Column) → column_with (columns t) c.field ≡ Some c → c.shape ≡ Message
+    → AllChildren t taken before cs → MessageList t c (found c.field cs) (times c.field (fields_of cs))
+message_list t taken before [] c kc s a = record { parts = []; events = refl; fit = tt; exactly = refl }
+message_list t taken before (d ∷ cs) c kc s a = go (same_field c.field d.0) refl (message_list t taken (before ++ d ∷ []) cs c kc s a.1)
+  where
+    with_item : (es : List Event) → MessageItem c es → MessageList t c (found c.field cs) (times c.field (fields_of cs)) → MessageList t c (es ++ found c.field cs) (times c.field (fields_of cs) + 1)
+    with_item es (message_raw x h) l = record { parts = one_raw x ∷ l.parts; events = ap (λ (z : List Event). raw c.field x ∷ z) l.events; fit = (h, l.fit); exactly = omega (arith, l.exactly) }
+    with_item es (message_item n p h) l = record { parts = message n p ∷ l.parts; events = ap (λ (z : List Event). record_events n p ++ z) l.events; fit = (h, l.fit); exactly = omega (arith, l.exactly) }
+    go : (b : Bool) → same_field c.field d.0 ≡ b → MessageList t c (found c.field cs) (times c.field (fields_of cs)) → MessageList t c (cond b d.1 [] ++ found c.field cs) (cond b (times c.field (fields_of cs) + 1) (times c.field (fields_of cs)))
+    go true e l = with_item d.1 (subst (λ (x : Shape). ItemOf t before taken c x d.1) s (of_this t before taken d.0 d.1 c a.0 kc e)) l
+    go false e l = l
+
+-- ---- the part of a column
+
+leaf_fits : (form : Form) (taken : List Text) (ps : List LeafPart) → AllByRecursion (TakenFits form taken) ps → AllByRecursion (LeafFits form) ps
+leaf_fits form taken [] a = tt
+leaf_fits form taken (p ∷ ps) a = (record { given = a.0.given; canonical = reads_again form taken a.0.read_from p.text a.0.reads_as }, leaf_fits form taken ps a.1)
+
+record PartOf (t : Table) (f : Field) (s : Shape) (o : Often) (es : List Event) : Type 0 where
+  part : Part
+  fit : FitsAs t s o part
+  events : es ≡ part_events f part
+
+leaf_part : (t : Table) (taken : List Text) (c : Column) (form : Form) (o : Often) (es : List Event) (k : ℕ) → c.often ≡ o → Most o k → least_count o ≤ k → LeafList taken c form es k → PartOf t c.field (Leaf form) o es
+leaf_part t taken c form One es k q m n l = go l.parts l.events l.fit (l.exactly (rw q refl))
+  where
+    go : (ps : List LeafPart) → es ≡ map (leaf_event (name_of c.field)) ps → AllByRecursion (TakenFits form taken) ps → length ps ≡ k → PartOf t c.field (Leaf form) One es
+    go [] e a x = absurd (omega (arith, x, n))
+    go (p ∷ []) e a x = record { part = one_leaf p; fit = (leaf_fits form taken (p ∷ []) a).0; events = e }
+    go (p ∷ r ∷ ps) e a x = absurd (omega (arith, x, m))
+leaf_part t taken c form Optional es k q m n l = go l.parts l.events l.fit l.few
+  where
+    go : (ps : List LeafPart) → es ≡ map (leaf_event (name_of c.field)) ps → AllByRecursion (TakenFits form taken) ps → length ps ≤ k → PartOf t c.field (Leaf form) Optional es
+    go [] e a x = record { part = absent; fit = tt; events = e }
+    go (p ∷ []) e a x = record { part = one_leaf p; fit = (leaf_fits form taken (p ∷ []) a).0; events = e }
+    go (p ∷ r ∷ ps) e a x = absurd (omega (arith, x, m))
+leaf_part t taken c form Any es k q m n l = record { part = leaves l.parts; fit = leaf_fits form taken l.parts l.fit; events = l.events }
+leaf_part t taken c form Many es k q m n l = record { part = leaves l.parts; fit = (leaf_fits form taken l.parts l.fit, omega (arith, l.exactly (rw q refl), n)); events = l.events }
+leaf_part t taken c form (Count j) es k q m n l = record { part = leaves l.parts; fit = (leaf_fits form taken l.parts l.fit, omega (arith, l.exactly (rw q refl), n, m)); events = l.events }
+
+raw_part : (t : Table) (f : Field) (o : Often) (es : List Event) (k : ℕ) → Most o k → least_count o ≤ k → RawList f es k → PartOf t f Raw o es
+raw_part t f One es k m n l = go l.parts l.events l.fit l.exactly
+  where
+    go : (xs : List Text) → es ≡ map (raw f) xs → AllByRecursion IsRawElement xs → length xs ≡ k → PartOf t f Raw One es
+    go [] e a x = absurd (omega (arith, x, n))
+    go (p ∷ []) e a x = record { part = one_raw p; fit = a.0; events = e }
+    go (p ∷ r ∷ ps) e a x = absurd (omega (arith, x, m))
+raw_part t f Optional es k m n l = go l.parts l.events l.fit l.exactly
+  where
+    go : (xs : List Text) → es ≡ map (raw f) xs → AllByRecursion IsRawElement xs → length xs ≡ k → PartOf t f Raw Optional es
+    go [] e a x = record { part = absent; fit = tt; events = e }
+    go (p ∷ []) e a x = record { part = one_raw p; fit = a.0; events = e }
+    go (p ∷ r ∷ ps) e a x = absurd (omega (arith, x, m))
+raw_part t f Any es k m n l = record { part = raws l.parts; fit = l.fit; events = l.events }
+raw_part t f Many es k m n l = record { part = raws l.parts; fit = (l.fit, omega (arith, l.exactly, n)); events = l.events }
+raw_part t f (Count j) es k m n l = record { part = raws l.parts; fit = (l.fit, omega (arith, l.exactly, n, m)); events = l.events }
+
+record_part : (t : Table) (c : Column) (u : Table) (o : Often) (es : List Event) (k : ℕ) → Most o k → least_count o ≤ k → RecordList t c u [] es k → PartOf t c.field (Record u) o es
+record_part t c u One es k m n l = go l.parts l.events l.fit l.exactly
+  where
+    go : (ps : List RecordPart) → es ≡ flat_map (record_events (name_of c.field)) ps → RecordsFit t u [] ps → length ps ≡ k → PartOf t c.field (Record u) One es
+    go [] e a x = absurd (omega (arith, x, n))
+    go (p ∷ []) e a x = record { part = one_record p; fit = a.0; events = e ∙ append-nil (record_events (name_of c.field) p) }
+    go (p ∷ r ∷ ps) e a x = absurd (omega (arith, x, m))
+record_part t c u Optional es k m n l = go l.parts l.events l.fit l.exactly
+  where
+    go : (ps : List RecordPart) → es ≡ flat_map (record_events (name_of c.field)) ps → RecordsFit t u [] ps → length ps ≡ k → PartOf t c.field (Record u) Optional es
+    go [] e a x = record { part = absent; fit = tt; events = e }
+    go (p ∷ []) e a x = record { part = one_record p; fit = a.0; events = e ∙ append-nil (record_events (name_of c.field) p) }
+    go (p ∷ r ∷ ps) e a x = absurd (omega (arith, x, m))
+record_part t c u Any es k m n l = record { part = records l.parts; fit = l.fit; events = l.events }
+record_part t c u Many es k m n l = record { part = records l.parts; fit = (l.fit, omega (arith, l.exactly, n)); events = l.events }
+record_part t c u (Count j) es k m n l = record { part = records l.parts; fit = (l.fit, omega (arith, l.exactly, n, m)); events = l.events }
+
+message_part : (t : Table) (c : Column) (o : Often) (es : List Event) (k : ℕ) → MessageOnce Message o → Most o k → least_count o ≤ k → MessageList t c es k → PartOf t c.field Message o es
+message_part t c One es k i m n l = absurd i
+message_part t c Optional es k i m n l = absurd i
+message_part t c Any es k i m n l = absurd i
+message_part t c Many es k i m n l = absurd i
+message_part t c (Count j) es k i m n l = go l.parts l.events l.fit l.exactly
+  where
+    as_one : (p : Part) → FitsAs t Message (Count 1) p → FitsAs t Message (Count j) p
+    as_one p h = subst (λ z. FitsAs t Message (Count z) p) (sym i) h
+    go : (ps : List Part) → es ≡ flat_map (part_events c.field) ps → AllByRecursion (FitsAs t Message (Count 1)) ps → length ps ≡ k → PartOf t c.field Message (Count j) es
+    go [] e a x = absurd (omega (arith, x, n, i))
+    go (p ∷ []) e a x = record { part = p; fit = as_one p a.0; events = e ∙ append-nil (part_events c.field p) }
+    go (p ∷ r ∷ ps) e a x = absurd (omega (arith, x, m, i))
+
+part_of_column : (t : Table) (taken : List Text) (all : List Child) (c : Column) → column_with (columns t) c.field ≡ Some c → IsOnce c → AllChildren t taken [] all → IsBounded t (fields_of all) → IsPresent (fields_of all) c
+    → PartOf t c.field c.shape c.often (found c.field all)
+part_of_column t taken all c kc i a b n = go c.shape refl
+  where
+    m : Most c.often (times c.field (fields_of all))
+    m = b c.field c kc
+    go : (s : Shape) → c.shape ≡ s → PartOf t c.field s c.often (found c.field all)
+    go (Leaf form) e = leaf_part t taken c form c.often (found c.field all) (times c.field (fields_of all)) refl m n (leaf_list t taken [] all c form kc e a)
+    go Raw e = raw_part t c.field c.often (found c.field all) (times c.field (fields_of all)) m n (raw_list t taken [] all c kc e a)
+    go (Record u) e = record_part t c u c.often (found c.field all) (times c.field (fields_of all)) m n (record_list t taken [] all c u [] kc e (λ h k x. absurd cc) a)
+    go Message e = message_part t c c.often (found c.field all) (times c.field (fields_of all)) (subst (λ (s : Shape). MessageOnce s c.often) e i) m n (message_list t taken [] all c kc e a)
+
+-- ---- all columns
+
+pub record PartsOf (t : Table) (cs : List Column) (es : List Event) : Type 0 where
+  pub parts : List Part
+  pub fit : AllFit t cs parts
+  pub events : es ≡ parts_events cs parts
+
+all_parts : (t : Table) (taken : List Text) (all : List Child) (cs : List Column) → AllKnown (columns t) cs → AllByRecursion IsOnce cs → AllByRecursion (IsPresent (fields_of all)) cs → AllChildren t taken [] all → IsBounded t (fields_of all)
+    → PartsOf t (places cs) (flat_map (λ (c : Column). column_events c.field all) cs)
+all_parts t taken all [] k i n a b = record { parts = []; fit = tt; events = refl }
+all_parts t taken all (c ∷ cs) k i n a b = go (same_field c.field fields.Metadata) (all_parts t taken all cs k.1 i.1 n.1 a b)
+  where
+    p : PartOf t c.field c.shape c.often (found c.field all)
+    p = part_of_column t taken all c k.0 i.0 a b n.0
+    q : RawList fields.Kept (found fields.Kept all) (times fields.Kept (fields_of all))
+    q = kept_list t taken [] all a
+    rest : List Event
+    rest = flat_map (λ (c : Column). column_events c.field all) cs
+    go : (b : Bool) → PartsOf t (places cs) rest → PartsOf t (cond b (c ∷ kept_column ∷ places cs) (c ∷ places cs)) ((found c.field all ++ cond b (found fields.Kept all) []) ++ rest)
+    go true r = record {
+        parts = p.part ∷ raws q.parts ∷ r.parts;
+        fit = (p.fit, (q.fit, r.fit));
+        events = append_assoc (found c.field all) (found fields.Kept all) rest ∙ ap (λ (z : List Event). z ++ (found fields.Kept all ++ rest)) p.events
+            ∙ ap (λ (z : List Event). part_events c.field p.part ++ (z ++ rest)) q.events ∙ ap (λ (z : List Event). part_events c.field p.part ++ (part_events fields.Kept (raws q.parts) ++ z)) r.events
+    }
+    go false r = record {
+        parts = p.part ∷ r.parts;
+        fit = (p.fit, r.fit);
+        events = append_assoc (found c.field all) [] rest ∙ ap (λ (z : List Event). z ++ rest) p.events ∙ ap (λ (z : List Event). part_events c.field p.part ++ z) r.events
+    }
+
+none_yet : (o : Often) → Most o 0
+none_yet One = omega arith
+none_yet Optional = omega arith
+none_yet Any = tt
+none_yet Many = tt
+none_yet (Count m) = omega arith
+
+nothing_yet : (t : Table) → IsBounded t []
+nothing_yet t f c h = none_yet c.often
+
+-- The events of an accepted record, which is no roAck, are those of parts that fit its columns.
+pub parts_of_record : (t : Table) (taken : List Text) (es : List Event) → is_ack t ≡ false → IsAccepted t taken es → PartsOf t (places (columns t)) es
+unfolding arranged
+parts_of_record t taken es k a =
+    let e : arranged t a.all ≡ flat_map (λ (c : Column). column_events c.field a.all) (columns t) = rw k refl in
+    subst (PartsOf t (places (columns t))) (sym (a.value ∙ e))
+        (all_parts t taken a.all (columns t) (all_known (columns t) (distinct_columns t)) (table_facts t).once (present k a.content) (each a.content a.written tt) (bounded k a.content (nothing_yet t)))

@@ -13,6 +13,8 @@ use Rattle.mos_tables.specs.declared.aim.Aim.TheVariants.{Nowhere, AtStory, AtIt
 use Rattle.mos_tables.specs.declared.column.Column.{Column}
 use Rattle.mos_tables.specs.declared.column.Shape.{Shape}
 use Rattle.mos_tables.specs.declared.column.Shape.TheVariants.{Leaf, Raw, Record, Message}
+use Rattle.mos_tables.specs.declared.column.Often.{Often}
+use Rattle.mos_tables.specs.declared.column.Often.TheVariants.{One, Optional, Any, Many, Count}
 use Rattle.mos_tables.specs.declared.table.Table.{Table}
 use Rattle.mos_tables.specs.declared.table.Table.TheVariants as tables
 use Rattle.mos_tables.specs.Tables.{columns, messages, table_of_name}
@@ -139,47 +141,57 @@ NoAction s = Unit {0}
 abbrev pub IsInner : Column → Type 0
 IsInner c = NoAction c.shape
 
--- No column is that of other elements, and none holds an action.
+-- a message's element stands once
+abbrev pub MessageOnce : Shape → Often → Type 0
+MessageOnce Message (Count k) = k ≡ 1
+MessageOnce Message o = ⊥
+MessageOnce s o = Unit {0}
+
+abbrev pub IsOnce : Column → Type 0
+IsOnce c = MessageOnce c.shape c.often
+
+-- No column is that of other elements, none holds an action, and a message's element stands once.
 pub record TableFacts (cs : List Column) : Type 0 where
   pub no_kept : column_with cs fields.Kept ≡ None
   pub no_dropped : column_with cs fields.Dropped ≡ None
   pub inner : AllByRecursion IsInner cs
+  pub once : AllByRecursion IsOnce cs
 
 pub table_facts : (t : Table) → TableFacts (columns t)
-table_facts tables.Envelope = record { no_kept = refl; no_dropped = refl; inner = (tt, (tt, (tt, (tt, tt)))) }
-table_facts tables.Body = record { no_kept = refl; no_dropped = refl; inner = (tt, (tt, (tt, (tt, (tt, (tt, (tt, (tt, (tt, (tt, tt)))))))))) }
-table_facts tables.HeaderPatch = record { no_kept = refl; no_dropped = refl; inner = (tt, (tt, (tt, (tt, (tt, (tt, (tt, (tt, (tt, tt))))))))) }
-table_facts tables.Story = record { no_kept = refl; no_dropped = refl; inner = (tt, (tt, (tt, (tt, (tt, tt))))) }
-table_facts tables.Item = record { no_kept = refl; no_dropped = refl; inner = (tt, (tt, (tt, (tt, (tt, (tt, (tt, (tt, (tt, (tt, (tt, (tt, (tt, (tt, tt)))))))))))))) }
-table_facts tables.MosObj = record { no_kept = refl; no_dropped = refl; inner = (tt, (tt, (tt, (tt, (tt, (tt, (tt, (tt, (tt, (tt, (tt, (tt, (tt, (tt, (tt, (tt, (tt, tt))))))))))))))))) }
-table_facts tables.Heartbeat = record { no_kept = refl; no_dropped = refl; inner = (tt, tt) }
-table_facts tables.NoFields = record { no_kept = refl; no_dropped = refl; inner = tt }
-table_facts tables.ListMachInfo = record { no_kept = refl; no_dropped = refl; inner = (tt, (tt, (tt, (tt, (tt, (tt, (tt, (tt, (tt, (tt, (tt, (tt, (tt, tt))))))))))))) }
-table_facts tables.SupportedProfiles = record { no_kept = refl; no_dropped = refl; inner = (tt, tt) }
-table_facts tables.MosAck = record { no_kept = refl; no_dropped = refl; inner = (tt, (tt, (tt, (tt, tt)))) }
-table_facts tables.MosReqObj = record { no_kept = refl; no_dropped = refl; inner = (tt, tt) }
-table_facts tables.MosReqAll = record { no_kept = refl; no_dropped = refl; inner = (tt, tt) }
-table_facts tables.MosListAll = record { no_kept = refl; no_dropped = refl; inner = (tt, tt) }
-table_facts tables.OneOrder = record { no_kept = refl; no_dropped = refl; inner = (tt, tt) }
-table_facts tables.RoListAll = record { no_kept = refl; no_dropped = refl; inner = (tt, tt) }
-table_facts tables.ElementStat = record { no_kept = refl; no_dropped = refl; inner = (tt, (tt, (tt, (tt, (tt, (tt, (tt, tt))))))) }
-table_facts tables.ReadyToAir = record { no_kept = refl; no_dropped = refl; inner = (tt, (tt, tt)) }
-table_facts tables.RoAck = record { no_kept = refl; no_dropped = refl; inner = (tt, (tt, (tt, (tt, (tt, (tt, (tt, tt))))))) }
-table_facts tables.StorySend = record { no_kept = refl; no_dropped = refl; inner = (tt, (tt, (tt, (tt, (tt, (tt, tt)))))) }
-table_facts (tables.Action o) = record { no_kept = refl; no_dropped = refl; inner = (tt, (tt, (tt, tt))) }
-table_facts (tables.Target o) = record { no_kept = refl; no_dropped = refl; inner = (tt, (tt, tt)) }
-table_facts (tables.Source Insert Nowhere) = record { no_kept = refl; no_dropped = refl; inner = (tt, tt) }
-table_facts (tables.Source Insert AtStory) = record { no_kept = refl; no_dropped = refl; inner = (tt, tt) }
-table_facts (tables.Source Insert AtItem) = record { no_kept = refl; no_dropped = refl; inner = (tt, tt) }
-table_facts (tables.Source Replace Nowhere) = record { no_kept = refl; no_dropped = refl; inner = (tt, tt) }
-table_facts (tables.Source Replace AtStory) = record { no_kept = refl; no_dropped = refl; inner = (tt, tt) }
-table_facts (tables.Source Replace AtItem) = record { no_kept = refl; no_dropped = refl; inner = (tt, tt) }
-table_facts (tables.Source Move Nowhere) = record { no_kept = refl; no_dropped = refl; inner = (tt, tt) }
-table_facts (tables.Source Move AtStory) = record { no_kept = refl; no_dropped = refl; inner = (tt, tt) }
-table_facts (tables.Source Move AtItem) = record { no_kept = refl; no_dropped = refl; inner = (tt, tt) }
-table_facts (tables.Source Delete Nowhere) = record { no_kept = refl; no_dropped = refl; inner = (tt, tt) }
-table_facts (tables.Source Delete AtStory) = record { no_kept = refl; no_dropped = refl; inner = (tt, tt) }
-table_facts (tables.Source Delete AtItem) = record { no_kept = refl; no_dropped = refl; inner = (tt, tt) }
-table_facts (tables.Source Swap Nowhere) = record { no_kept = refl; no_dropped = refl; inner = (tt, tt) }
-table_facts (tables.Source Swap AtStory) = record { no_kept = refl; no_dropped = refl; inner = (tt, tt) }
-table_facts (tables.Source Swap AtItem) = record { no_kept = refl; no_dropped = refl; inner = (tt, tt) }
+table_facts tables.Envelope = record { no_kept = refl; no_dropped = refl; inner = (tt, (tt, (tt, (tt, tt)))); once = (tt, (tt, (tt, (refl, tt)))) }
+table_facts tables.Body = record { no_kept = refl; no_dropped = refl; inner = (tt, (tt, (tt, (tt, (tt, (tt, (tt, (tt, (tt, (tt, tt)))))))))); once = (tt, (tt, (tt, (tt, (tt, (tt, (tt, (tt, (tt, (tt, tt)))))))))) }
+table_facts tables.HeaderPatch = record { no_kept = refl; no_dropped = refl; inner = (tt, (tt, (tt, (tt, (tt, (tt, (tt, (tt, (tt, tt))))))))); once = (tt, (tt, (tt, (tt, (tt, (tt, (tt, (tt, (tt, tt))))))))) }
+table_facts tables.Story = record { no_kept = refl; no_dropped = refl; inner = (tt, (tt, (tt, (tt, (tt, tt))))); once = (tt, (tt, (tt, (tt, (tt, tt))))) }
+table_facts tables.Item = record { no_kept = refl; no_dropped = refl; inner = (tt, (tt, (tt, (tt, (tt, (tt, (tt, (tt, (tt, (tt, (tt, (tt, (tt, (tt, tt)))))))))))))); once = (tt, (tt, (tt, (tt, (tt, (tt, (tt, (tt, (tt, (tt, (tt, (tt, (tt, (tt, tt)))))))))))))) }
+table_facts tables.MosObj = record { no_kept = refl; no_dropped = refl; inner = (tt, (tt, (tt, (tt, (tt, (tt, (tt, (tt, (tt, (tt, (tt, (tt, (tt, (tt, (tt, (tt, (tt, tt))))))))))))))))); once = (tt, (tt, (tt, (tt, (tt, (tt, (tt, (tt, (tt, (tt, (tt, (tt, (tt, (tt, (tt, (tt, (tt, tt))))))))))))))))) }
+table_facts tables.Heartbeat = record { no_kept = refl; no_dropped = refl; inner = (tt, tt); once = (tt, tt) }
+table_facts tables.NoFields = record { no_kept = refl; no_dropped = refl; inner = tt; once = tt }
+table_facts tables.ListMachInfo = record { no_kept = refl; no_dropped = refl; inner = (tt, (tt, (tt, (tt, (tt, (tt, (tt, (tt, (tt, (tt, (tt, (tt, (tt, tt))))))))))))); once = (tt, (tt, (tt, (tt, (tt, (tt, (tt, (tt, (tt, (tt, (tt, (tt, (tt, tt))))))))))))) }
+table_facts tables.SupportedProfiles = record { no_kept = refl; no_dropped = refl; inner = (tt, tt); once = (tt, tt) }
+table_facts tables.MosAck = record { no_kept = refl; no_dropped = refl; inner = (tt, (tt, (tt, (tt, tt)))); once = (tt, (tt, (tt, (tt, tt)))) }
+table_facts tables.MosReqObj = record { no_kept = refl; no_dropped = refl; inner = (tt, tt); once = (tt, tt) }
+table_facts tables.MosReqAll = record { no_kept = refl; no_dropped = refl; inner = (tt, tt); once = (tt, tt) }
+table_facts tables.MosListAll = record { no_kept = refl; no_dropped = refl; inner = (tt, tt); once = (tt, tt) }
+table_facts tables.OneOrder = record { no_kept = refl; no_dropped = refl; inner = (tt, tt); once = (tt, tt) }
+table_facts tables.RoListAll = record { no_kept = refl; no_dropped = refl; inner = (tt, tt); once = (tt, tt) }
+table_facts tables.ElementStat = record { no_kept = refl; no_dropped = refl; inner = (tt, (tt, (tt, (tt, (tt, (tt, (tt, tt))))))); once = (tt, (tt, (tt, (tt, (tt, (tt, (tt, tt))))))) }
+table_facts tables.ReadyToAir = record { no_kept = refl; no_dropped = refl; inner = (tt, (tt, tt)); once = (tt, (tt, tt)) }
+table_facts tables.RoAck = record { no_kept = refl; no_dropped = refl; inner = (tt, (tt, (tt, (tt, (tt, (tt, (tt, tt))))))); once = (tt, (tt, (tt, (tt, (tt, (tt, (tt, tt))))))) }
+table_facts tables.StorySend = record { no_kept = refl; no_dropped = refl; inner = (tt, (tt, (tt, (tt, (tt, (tt, tt)))))); once = (tt, (tt, (tt, (tt, (tt, (tt, tt)))))) }
+table_facts (tables.Action o) = record { no_kept = refl; no_dropped = refl; inner = (tt, (tt, (tt, tt))); once = (tt, (tt, (tt, tt))) }
+table_facts (tables.Target o) = record { no_kept = refl; no_dropped = refl; inner = (tt, (tt, tt)); once = (tt, (tt, tt)) }
+table_facts (tables.Source Insert Nowhere) = record { no_kept = refl; no_dropped = refl; inner = (tt, tt); once = (tt, tt) }
+table_facts (tables.Source Insert AtStory) = record { no_kept = refl; no_dropped = refl; inner = (tt, tt); once = (tt, tt) }
+table_facts (tables.Source Insert AtItem) = record { no_kept = refl; no_dropped = refl; inner = (tt, tt); once = (tt, tt) }
+table_facts (tables.Source Replace Nowhere) = record { no_kept = refl; no_dropped = refl; inner = (tt, tt); once = (tt, tt) }
+table_facts (tables.Source Replace AtStory) = record { no_kept = refl; no_dropped = refl; inner = (tt, tt); once = (tt, tt) }
+table_facts (tables.Source Replace AtItem) = record { no_kept = refl; no_dropped = refl; inner = (tt, tt); once = (tt, tt) }
+table_facts (tables.Source Move Nowhere) = record { no_kept = refl; no_dropped = refl; inner = (tt, tt); once = (tt, tt) }
+table_facts (tables.Source Move AtStory) = record { no_kept = refl; no_dropped = refl; inner = (tt, tt); once = (tt, tt) }
+table_facts (tables.Source Move AtItem) = record { no_kept = refl; no_dropped = refl; inner = (tt, tt); once = (tt, tt) }
+table_facts (tables.Source Delete Nowhere) = record { no_kept = refl; no_dropped = refl; inner = (tt, tt); once = (tt, tt) }
+table_facts (tables.Source Delete AtStory) = record { no_kept = refl; no_dropped = refl; inner = (tt, tt); once = (tt, tt) }
+table_facts (tables.Source Delete AtItem) = record { no_kept = refl; no_dropped = refl; inner = (tt, tt); once = (tt, tt) }
+table_facts (tables.Source Swap Nowhere) = record { no_kept = refl; no_dropped = refl; inner = (tt, tt); once = (tt, tt) }
+table_facts (tables.Source Swap AtStory) = record { no_kept = refl; no_dropped = refl; inner = (tt, tt); once = (tt, tt) }
+table_facts (tables.Source Swap AtItem) = record { no_kept = refl; no_dropped = refl; inner = (tt, tt); once = (tt, tt) }
