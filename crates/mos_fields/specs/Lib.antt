@@ -5,8 +5,10 @@ pub mod Names
 pub mod References
 pub mod Raw
 pub mod Forms
+pub mod Numbers
 pub mod Escapes
 pub mod Limits
 pub mod Zones
+pub mod Times
 pub mod Values
 pub mod Faults

@@ -5,6 +5,7 @@
 #![tactic(auto)]
 
 pub mod air;
+mod append;
 mod checks;
 pub mod fault;
 pub mod field;
@@ -23,6 +24,7 @@ mod scan;
 pub mod slug;
 pub mod text;
 pub mod time;
+mod time_reader;
 mod units;
 pub mod unread;
 

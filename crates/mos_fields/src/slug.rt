@@ -1,5 +1,5 @@
 //! Slugs.
-ghost use Rattle.std.specs.Prelude.{◌≡◌, ◌≤◌, ℕ, List, IfOk, length};
+ghost use Rattle.std.specs.Prelude.{◌≡◌, ◌++◌, OnOk, OnErr, ◌≤◌, ℕ, List, IfOk, length};
 ghost use Rattle.mos_fields.specs.Faults.{AnswersFault, AnswersOnlyFault, slug_fault, length_fault};
 ghost use Rattle.mos_fields.specs.Characters.{units_of};
 ghost use Rattle.mos_fields.specs.Limits.{slug_limit};
@@ -77,6 +77,14 @@ impl Slug {
         ensures sized { length self.now ≤ slug_limit }
     {
         self.text.units()
+    }
+
+    /// Appends the characters; without memory nothing is appended.
+    pub fn push_to(&self, out: &mut Vec<char>) -> Result<(), NoMemory>
+        ensures ok { OnOk result (out.new.items ≡ out.old.items ++ self.now) }
+        ensures err { OnErr result (out.new.items ≡ out.old.items) }
+    {
+        self.text.push_to(out)
     }
 
     /// The same value again, in memory of its own.

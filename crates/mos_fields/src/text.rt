@@ -1,11 +1,11 @@
 //! Texts.
-ghost use Rattle.std.specs.Prelude.{◌≡◌, ℕ, List, [], true, IfOk, length, ◌==◌};
+ghost use Rattle.std.specs.Prelude.{◌≡◌, ◌++◌, OnOk, OnErr, ℕ, List, [], true, IfOk, length, ◌==◌};
 ghost use Rattle.mos_fields.specs.Faults.{AnswersFault, text_fault};
 ghost use Rattle.mos_fields.specs.Characters.{IsUtf16, are_allowed, chars_of, units_of};
 
 use crate::checks::find_text_fault;
 use crate::fault::{FieldFault, NoMemory};
-use crate::units::{count_chars, encoded};
+use crate::units::{count_chars, encoded, push_chars};
 use std::alloc::Global;
 use std::marker::Model;
 
@@ -91,6 +91,14 @@ impl Text {
         ensures well_formed { IsUtf16 result.now }
     {
         &self.units
+    }
+
+    /// Appends the characters; without memory nothing is appended.
+    pub fn push_to(&self, out: &mut Vec<char>) -> Result<(), NoMemory>
+        ensures ok { OnOk result (out.new.items ≡ out.old.items ++ self.now) }
+        ensures err { OnErr result (out.new.items ≡ out.old.items) }
+    {
+        push_chars(&self.units, out)
     }
 
     /// The same text again, in memory of its own.

@@ -1,5 +1,5 @@
 //! Raw elements.
-ghost use Rattle.std.specs.Prelude.{◌≡◌, ℕ, List, IfOk};
+ghost use Rattle.std.specs.Prelude.{◌≡◌, ◌++◌, OnOk, OnErr, ℕ, List, IfOk};
 ghost use Rattle.mos_fields.specs.Characters.{units_of};
 ghost use Rattle.mos_fields.specs.Raw.{IsRawElement};
 
@@ -44,6 +44,14 @@ impl Unread {
         ensures element { IsRawElement self.now }
     {
         self.text.units()
+    }
+
+    /// Appends the characters; without memory nothing is appended.
+    pub fn push_to(&self, out: &mut Vec<char>) -> Result<(), NoMemory>
+        ensures ok { OnOk result (out.new.items ≡ out.old.items ++ self.now) }
+        ensures err { OnErr result (out.new.items ≡ out.old.items) }
+    {
+        self.text.push_to(out)
     }
 
     /// The same value again, in memory of its own.
