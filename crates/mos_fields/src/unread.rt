@@ -23,6 +23,14 @@ impl Model for Unread {
 }
 
 impl Unread {
+    /// The raw element of a text that is known to be one. The text is not looked at again.
+    pub fn from_raw(text: Text) -> Self
+        requires { IsRawElement text }
+        ensures { result ≡ text }
+    {
+        Unread { text }
+    }
+
     /// The text.
     pub fn text(&self) -> &Text
         ensures value { result.now ≡ self.now }
