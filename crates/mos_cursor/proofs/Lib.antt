@@ -5,3 +5,4 @@ pub mod Columns
 pub mod Children
 pub mod Counts
 pub mod Collect
+pub mod Balanced

@@ -1,3 +1,8 @@
 //! The parts of a record's value.
 #![tactic(auto)]
 
+mod cursor;
+mod slot;
+
+pub use cursor::Cursor;
+pub use slot::{LeafText, Nested, Slot};
