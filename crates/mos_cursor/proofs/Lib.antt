@@ -6,3 +6,5 @@ pub mod Children
 pub mod Counts
 pub mod Collect
 pub mod Balanced
+pub mod EventLists
+pub mod Taken
