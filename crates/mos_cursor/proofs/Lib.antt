@@ -8,3 +8,5 @@ pub mod Collect
 pub mod Balanced
 pub mod EventLists
 pub mod Taken
+pub mod Names
+pub mod Lengths

@@ -1,5 +1,5 @@
 -- Parts in memory.
-use Rattle.std.specs.Prelude.{List, [], ◌∷◌, map}
+use Rattle.std.specs.Prelude.{List, [], ◌∷◌, map, Option, Some, None}
 use Rattle.mos_events.specs.EventView.{attributes_of, element_text}
 use Rattle.mos_cursor.specs.Parts.{LeafPart, RecordPart, Part, absent, one_leaf, leaves, one_raw, raws, one_record, records, message}
 use Rattle.mos_cursor.specs.declared.slot.LeafText.{LeafText}
@@ -25,3 +25,8 @@ part_of (slots.Message n r) = message (element_text n) (record_of r)
 
 abbrev pub parts_of : List Slot → List Part
 parts_of ss = map part_of ss
+
+-- a record, if there is one
+abbrev pub nested_part : Option Nested → Part
+nested_part None = absent
+nested_part (Some r) = one_record (record_of r)

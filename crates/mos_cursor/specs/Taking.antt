@@ -160,3 +160,22 @@ TakesAll [] es [] r = r ≡ es
 TakesAll [] es (p ∷ ps) r = ⊥
 TakesAll (c ∷ cs) es [] r = ⊥
 TakesAll (c ∷ cs) es (p ∷ ps) r = (m : List Event) × Takes c es p m × TakesAll cs m ps r
+
+-- ---- what the events begin with
+
+abbrev pub begins_leaf : Text → List Event → Bool
+begins_leaf n (leaf m g x ∷ es) = same m n
+begins_leaf n es = false
+
+abbrev pub begins_raw : Field → List Event → Bool
+begins_raw f (raw h x ∷ es) = same_field h f
+begins_raw f es = false
+
+abbrev pub begins_record : Text → List Event → Bool
+begins_record n (opens m g ∷ es) = same m n
+begins_record n es = false
+
+abbrev pub begins_message : List Event → Bool
+begins_message (raw h x ∷ es) = true
+begins_message (opens m g ∷ es) = true
+begins_message es = false

@@ -3,6 +3,7 @@
 
 mod cursor;
 mod slot;
+mod take;
 
 pub use cursor::Cursor;
 pub use slot::{LeafText, Nested, Slot};
