@@ -6,3 +6,4 @@ pub mod NumberLemmas
 pub mod WordLemmas
 pub mod TimeLemmas
 pub mod DateLemmas
+pub mod AppendLemmas

@@ -11,4 +11,5 @@ pub mod Limits
 pub mod Zones
 pub mod Times
 pub mod Values
+pub mod TimesRead
 pub mod Faults

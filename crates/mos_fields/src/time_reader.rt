@@ -3,7 +3,7 @@ ghost use Rattle.std.specs.Prelude.{◌≡◌, ◌+◌, ◌<◌, ◌≤◌, true
 ghost use Rattle.mos_fields.specs.Forms.{behind_thousandths as behind, fits as fits_pattern, is_zone, number_at};
 ghost use Rattle.mos_fields.specs.Limits.{are_millis, is_day as day_exists, is_time_of_day as time_exists};
 ghost use Rattle.mos_fields.specs.Numbers.{number_value};
-ghost use Rattle.mos_fields.specs.Times.{millis_of as millis, zone_of as zone};
+ghost use Rattle.mos_fields.specs.Times.{begins_as_time, millis_of as millis, zone_of as zone};
 
 use jiff::civil::Date;
 
@@ -39,6 +39,22 @@ pub fn front(chars: &[char], count: usize) -> &[char]
     } else {
         &chars[..count]
     }
+}
+
+/// Whether the characters begin with a date and a time of day: any digits stand for the zeros.
+#[tactic(auto, unfolding(crate::specs::Times::begins_as_time))]
+pub fn has_front(chars: &[char]) -> bool
+    ensures { result ≡ begins_as_time chars.now }
+{
+    fits(b"0000-00-00T00:00:00", front(chars, 19))
+}
+
+/// What follows the date and the time of day.
+pub fn behind_front(chars: &[char]) -> &[char]
+    requires { 19 ≤ length chars.now }
+    ensures { result.now ≡ drop 19 chars.now }
+{
+    &chars[19..]
 }
 
 /// The number that so many digits write from a place on.
