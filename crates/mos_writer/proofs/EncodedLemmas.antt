@@ -12,19 +12,19 @@ use Rattle.mos_values.specs.Pieces.{piece_events, pieces_events}
 use Rattle.std.proofs.lemmas.Fmt.{decimal_digit, decimal_step}
 use Rattle.mos_fields.specs.Values.{day_text, clock_text, millis_text, zone_text, time_text}
 use Rattle.mos_fields.specs.declared.time.MosTime.{MosTime}
-use Rattle.mos_values.proofs.Simple.{are_simple, simple_is}
+use Rattle.mos_values.proofs.Simple.{are_simple, simple_is, escaped_simple, units_of_simple}
 use Rattle.mos_fields.specs.Characters.{Text, unit_bytes, bytes_of, units_of}
 use Rattle.mos_fields.specs.Escapes.{escaped_char, escaped}
 use Rattle.mos_fields.specs.Raw.{end_text}
 use Rattle.mos_fields.specs.declared.field.Field.{Field}
 use Rattle.mos_fields.specs.Fields.{name_of}
 use Rattle.mos_tables.specs.Events.{Event, leaf, raw, opens, closes}
-use Rattle.mos_tables.specs.Canonical.{canonical}
-use Rattle.mos_values.specs.Parts.{must, must_raw, raws, element}
+use Rattle.mos_tables.specs.Canonical.{canonical, event_text, start_text}
+use Rattle.mos_values.specs.Parts.{must, must_raw, raws, attribute, element, element_with}
 use Rattle.mos_values.specs.Units.{canonical_units}
-use Rattle.mos_values.proofs.Encoding.{canonical_units-append, canonical_units-nil, leaf_is, element_is, raw_is, units_of_name}
+use Rattle.mos_values.proofs.Encoding.{canonical_units-append, canonical_units-nil, canonical_units-cons, units_of-append, end_units, leaf_is, element_is, raw_is, units_of_name}
 use Rattle.mos_values.proofs.Counts.{flat_map_step}
-use Rattle.mos_writer.specs.Encoded.{encoded, in_bytes, start_bytes, end_bytes, word_bytes}
+use Rattle.mos_writer.specs.Encoded.{encoded, in_bytes, start_bytes, end_bytes, word_bytes, start_with_bytes}
 
 pub in_bytes-append : (xs ys : List ℕ) → in_bytes (xs ++ ys) ≡ in_bytes xs ++ in_bytes ys
 unfolding in_bytes
@@ -184,3 +184,82 @@ pub pieces_step : (ps : List Piece) (i : ℕ) (p : Piece) (a l w : List ℕ) →
     → l ≡ a ++ encoded (pieces_events (take i ps)) → w ≡ l ++ encoded (piece_events p) → w ≡ a ++ encoded (pieces_events (take (i + 1) ps))
 unfolding pieces_events
 pieces_step ps i p a l w lt is before after = events_step piece_events ps i p a l w lt is before after
+
+-- ---- elements
+
+-- tags round what stands in them
+pub element_bytes : (n : Text) (es : List Event) → units_of n ≡ n → (start_bytes n ++ encoded es) ++ end_bytes n ≡ encoded (element n es)
+unfolding start_bytes end_bytes encoded canonical_units
+element_bytes n es e = sym (ap bytes_of (element_is n es e) ∙ flat_map-append unit_bytes (60 ∷ (n ++ 62 ∷ [])) (units_of (canonical es) ++ (60 ∷ 47 ∷ (n ++ 62 ∷ []))) ∙ ap (λ (ys : List ℕ). bytes_of (60 ∷ (n ++ 62 ∷ [])) ++ ys) (flat_map-append unit_bytes (units_of (canonical es)) (60 ∷ 47 ∷ (n ++ 62 ∷ [])))
+    ∙ sym (append_assoc (bytes_of (60 ∷ (n ++ 62 ∷ []))) (bytes_of (units_of (canonical es))) (bytes_of (60 ∷ 47 ∷ (n ++ 62 ∷ [])))))
+
+pub element_written : (n : Text) (es fs : List Event) (a w1 w2 w3 : List ℕ) → units_of n ≡ n → es ≡ fs → w1 ≡ a ++ start_bytes n → w2 ≡ w1 ++ encoded es → w3 ≡ w2 ++ end_bytes n → w3 ≡ a ++ encoded (element n fs)
+element_written n es fs a w1 w2 w3 h same p q r =
+    three a w1 w2 w3 (start_bytes n) (encoded es) (end_bytes n) p q r ∙ ap (λ (ys : List ℕ). a ++ ys) (element_bytes n es h ∙ ap (λ xs. encoded (element n xs)) same)
+
+-- the element of a field
+pub field_written : (f : Field) (es fs : List Event) (a w1 w2 w3 : List ℕ) → es ≡ fs → w1 ≡ a ++ start_bytes (name_of f) → w2 ≡ w1 ++ encoded es → w3 ≡ w2 ++ end_bytes (name_of f) → w3 ≡ a ++ encoded (element (name_of f) fs)
+field_written f es fs a w1 w2 w3 same p q r = element_written (name_of f) es fs a w1 w2 w3 (units_of_name f) same p q r
+
+-- two parts of a value
+pub both_written : (es fs gs : List Event) (a w1 w2 : List ℕ) → gs ≡ es ++ fs → w1 ≡ a ++ encoded es → w2 ≡ w1 ++ encoded fs → w2 ≡ a ++ encoded gs
+both_written es fs gs a w1 w2 e p q = two a w1 w2 (encoded es) (encoded fs) p q ∙ ap (λ (ys : List ℕ). a ++ ys) (sym (ap encoded e ∙ encoded-append es fs))
+
+pub joined_events : {a b x y : List Event} → a ≡ b → x ≡ y → a ++ x ≡ b ++ y
+joined_events p q = cc
+
+-- ---- attributes
+
+pub three_written : (es fs gs hs : List Event) (a w1 w2 w3 : List ℕ) → hs ≡ es ++ fs ++ gs → w1 ≡ a ++ encoded es → w2 ≡ w1 ++ encoded fs → w3 ≡ w2 ++ encoded gs → w3 ≡ a ++ encoded hs
+three_written es fs gs hs a w1 w2 w3 e p q r = both_written (es ++ fs) gs hs a w2 w3 e (both_written es fs (es ++ fs) a w1 w2 refl p q) r
+
+-- `<` and a name
+pub opens_is : (n : List ℕ) → in_bytes (60 ∷ []) ++ in_bytes n ≡ in_bytes (60 ∷ n)
+unfolding in_bytes
+opens_is n = refl
+
+pub attribute_is : (a : List ℕ) → (in_bytes (32 ∷ []) ++ in_bytes a) ++ in_bytes (61 ∷ 34 ∷ []) ≡ in_bytes (32 ∷ (a ++ 61 ∷ 34 ∷ []))
+attribute_is a = ap (λ (ys : List ℕ). ys ++ in_bytes (61 ∷ 34 ∷ [])) (sym (in_bytes-append (32 ∷ []) a)) ∙ sym (in_bytes-append (32 ∷ a) (61 ∷ 34 ∷ []))
+
+abbrev start_with : Text → Text → Text → Text
+start_with n a y = 60 ∷ (n ++ ((32 ∷ (a ++ 61 ∷ 34 ∷ (y ++ 34 ∷ []))) ++ []) ++ 62 ∷ [])
+
+shape : (n a x : Text) → start_with n a x ≡ ((60 ∷ n) ++ (32 ∷ (a ++ 61 ∷ 34 ∷ []))) ++ (x ++ (34 ∷ 62 ∷ []))
+shape n a x = simp (append_assoc, append-nil)
+
+attributed_text : (n a x : Text) → escaped x ≡ x → start_text n (record { name = a; value = x } ∷ []) ≡ ((60 ∷ n) ++ (32 ∷ (a ++ 61 ∷ 34 ∷ []))) ++ (x ++ (34 ∷ 62 ∷ []))
+attributed_text n a x e = ap (λ (y : Text). start_with n a y) e ∙ shape n a x
+
+-- a start tag with an attribute
+pub attributed : (n x : Text) (f : Field) → units_of n ≡ n → are_simple x ≡ true → bytes_of (units_of (start_text n (attribute f x ∷ []))) ≡ start_with_bytes n (name_of f) x
+unfolding start_with_bytes in_bytes
+attributed n x f e h =
+    let a : Text = name_of f in
+    let text = attributed_text n a x (escaped_simple x h) in
+    let u1 : units_of (60 ∷ n) ≡ 60 ∷ n = ap (λ (us : Text). 60 ∷ us) e in
+    let u2 : units_of (32 ∷ (a ++ 61 ∷ 34 ∷ [])) ≡ 32 ∷ (a ++ 61 ∷ 34 ∷ []) = ap (λ (us : Text). 32 ∷ us) (units_of-append a (61 ∷ 34 ∷ []) ∙ ap (λ (us : Text). us ++ 61 ∷ 34 ∷ []) (units_of_name f)) in
+    let u3 : units_of x ≡ x = units_of_simple x h in
+    let front : units_of ((60 ∷ n) ++ (32 ∷ (a ++ 61 ∷ 34 ∷ []))) ≡ (60 ∷ n) ++ (32 ∷ (a ++ 61 ∷ 34 ∷ [])) = units_of-append (60 ∷ n) (32 ∷ (a ++ 61 ∷ 34 ∷ [])) ∙ joins u1 u2 in
+    let behind : units_of (x ++ (34 ∷ 62 ∷ [])) ≡ x ++ (34 ∷ 62 ∷ []) = units_of-append x (34 ∷ 62 ∷ []) ∙ ap (λ (us : Text). us ++ (34 ∷ 62 ∷ [])) u3 in
+    let whole : units_of (start_text n (attribute f x ∷ [])) ≡ ((60 ∷ n) ++ (32 ∷ (a ++ 61 ∷ 34 ∷ []))) ++ (x ++ (34 ∷ 62 ∷ [])) = ap units_of text ∙ units_of-append ((60 ∷ n) ++ (32 ∷ (a ++ 61 ∷ 34 ∷ []))) (x ++ (34 ∷ 62 ∷ [])) ∙ joins front behind in
+    let b1 : bytes_of ((60 ∷ n) ++ (32 ∷ (a ++ 61 ∷ 34 ∷ []))) ≡ bytes_of (60 ∷ n) ++ bytes_of (32 ∷ (a ++ 61 ∷ 34 ∷ [])) = flat_map-append unit_bytes (60 ∷ n) (32 ∷ (a ++ 61 ∷ 34 ∷ [])) in
+    let b2 : bytes_of (x ++ (34 ∷ 62 ∷ [])) ≡ bytes_of x ++ bytes_of (34 ∷ 62 ∷ []) = flat_map-append unit_bytes x (34 ∷ 62 ∷ []) in
+    ap bytes_of whole ∙ flat_map-append unit_bytes ((60 ∷ n) ++ (32 ∷ (a ++ 61 ∷ 34 ∷ []))) (x ++ (34 ∷ 62 ∷ [])) ∙ joins b1 b2 ∙ sym (append_assoc (bytes_of (60 ∷ n) ++ bytes_of (32 ∷ (a ++ 61 ∷ 34 ∷ []))) (bytes_of x) (bytes_of (34 ∷ 62 ∷ [])))
+
+-- a first event, and the others
+pub encoded-cons : (e : Event) (es : List Event) → encoded (e ∷ es) ≡ bytes_of (units_of (event_text e)) ++ encoded es
+unfolding encoded canonical_units
+encoded-cons e es = ap bytes_of (canonical_units-cons e es) ∙ flat_map-append unit_bytes (units_of (event_text e)) (units_of (canonical es))
+
+pub closing : (n : Text) → units_of n ≡ n → encoded (closes n ∷ []) ≡ end_bytes n
+unfolding end_bytes
+closing n e = encoded-cons (closes n) [] ∙ joins (ap bytes_of (end_units n e)) encoded-nil ∙ append-nil (bytes_of (60 ∷ 47 ∷ (n ++ 62 ∷ [])))
+
+-- an element with an attribute round what stands in it
+pub element_with_written : (n x : Text) (f : Field) (es fs : List Event) (a w1 w2 w3 : List ℕ) → units_of n ≡ n → are_simple x ≡ true → es ≡ fs
+    → w1 ≡ a ++ start_with_bytes n (name_of f) x → w2 ≡ w1 ++ encoded es → w3 ≡ w2 ++ end_bytes n → w3 ≡ a ++ encoded (element_with n (attribute f x ∷ []) fs)
+element_with_written n x f es fs a w1 w2 w3 e h same p q r =
+    let whole : encoded (element_with n (attribute f x ∷ []) es) ≡ start_with_bytes n (name_of f) x ++ (encoded es ++ end_bytes n) =
+    encoded-cons (opens n (attribute f x ∷ [])) (es ++ closes n ∷ []) ∙ joins (attributed n x f e h) (encoded-append es (closes n ∷ []) ∙ ap (λ (ys : List ℕ). encoded es ++ ys) (closing n e)) in
+    three a w1 w2 w3 (start_with_bytes n (name_of f) x) (encoded es) (end_bytes n) p q r
+    ∙ ap (λ (ys : List ℕ). a ++ ys) (append_assoc (start_with_bytes n (name_of f) x) (encoded es) (end_bytes n) ∙ sym whole ∙ ap (λ xs. encoded (element_with n (attribute f x ∷ []) xs)) same)

@@ -23,3 +23,7 @@ end_bytes n = bytes_of (60 ∷ 47 ∷ (n ++ 62 ∷ []))
 -- a field with a word in ASCII
 unfoldable pub word_bytes : Text → Text → List ℕ
 word_bytes n x = (start_bytes n ++ in_bytes x) ++ end_bytes n
+
+-- a start tag with one attribute, whose value is in ASCII
+unfoldable pub start_with_bytes : Text → Text → Text → List ℕ
+start_with_bytes n a x = ((in_bytes (60 ∷ n) ++ in_bytes (32 ∷ (a ++ 61 ∷ 34 ∷ []))) ++ in_bytes x) ++ in_bytes (34 ∷ 62 ∷ [])

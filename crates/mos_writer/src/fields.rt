@@ -1,5 +1,5 @@
 //! Fields with their tags.
-ghost use Rattle.std.specs.Prelude.{◌≡◌, ◌++◌, OnOk};
+ghost use Rattle.std.specs.Prelude.{◌≡◌, [], ◌∷◌, ◌++◌, OnOk};
 ghost use Rattle.std.specs.Fmt.{decimal};
 ghost use Rattle.mos_fields.specs.Characters.{units_of};
 ghost use Rattle.mos_fields.specs.Escapes.{escaped};
@@ -8,11 +8,11 @@ ghost use Rattle.mos_fields.specs.Values.{air_text, obj_type_text, time_text};
 ghost use Rattle.mos_values.specs.Parts.{maybe_as, must, raws};
 ghost use Rattle.mos_values.specs.Pieces.{piece_events, pieces_events};
 ghost use Rattle.mos_values.specs.Views.{ack_status_text};
-ghost use Rattle.mos_writer.specs.Encoded.{encoded, end_bytes, in_bytes, start_bytes, word_bytes};
+ghost use Rattle.mos_writer.specs.Encoded.{encoded, end_bytes, in_bytes, start_bytes, start_with_bytes, word_bytes};
 
 use crate::bytes::{push_ascii, push_escaped, push_units};
 use crate::values::{ack_status_word, air_word, obj_type_word, push_decimal, push_time};
-use mos_fields::{Air, Field, MosTime, NoMemory, ObjType, Text, Unread};
+use mos_fields::{Air, Field, Id, MosTime, NoMemory, ObjType, OptId, Slug, Text, Unread};
 use mos_values::{AckStatus, Piece};
 
 /// Appends the characters of a text in ASCII.
@@ -42,13 +42,48 @@ pub fn push_end(out: &mut Vec<u8>, name: &str) -> Result<(), NoMemory>
     Ok(())
 }
 
-fn open(out: &mut Vec<u8>, field: Field) -> Result<(), NoMemory>
+fn push_front(out: &mut Vec<u8>, name: &str) -> Result<(), NoMemory>
+    ensures { OnOk result (out.new.items ≡ out.old.items ++ in_bytes (60 ∷ name.now)) }
+{
+    push_ascii(out, b"<")?;
+    push_word(out, name)?;
+    Ok(())
+}
+
+fn push_attribute(out: &mut Vec<u8>, name: &str) -> Result<(), NoMemory>
+    ensures { OnOk result (out.new.items ≡ out.old.items ++ in_bytes (32 ∷ (name.now ++ 61 ∷ 34 ∷ []))) }
+{
+    push_ascii(out, b" ")?;
+    push_word(out, name)?;
+    push_ascii(out, b"=\"")?;
+    Ok(())
+}
+
+/// Appends a start tag with one attribute, whose value is in ASCII.
+pub fn push_start_with(
+    out: &mut Vec<u8>,
+    name: &str,
+    attribute: &str,
+    value: &str,
+) -> Result<(), NoMemory>
+    ensures { OnOk result (out.new.items ≡ out.old.items ++ start_with_bytes name.now attribute.now value.now) }
+{
+    push_front(out, name)?;
+    push_attribute(out, attribute)?;
+    push_word(out, value)?;
+    push_ascii(out, b"\">")?;
+    Ok(())
+}
+
+/// Appends the start tag of a field.
+pub fn open(out: &mut Vec<u8>, field: Field) -> Result<(), NoMemory>
     ensures { OnOk result (out.new.items ≡ out.old.items ++ start_bytes (name_of field)) }
 {
     push_start(out, field.name())
 }
 
-fn close(out: &mut Vec<u8>, field: Field) -> Result<(), NoMemory>
+/// Appends the end tag of a field.
+pub fn close(out: &mut Vec<u8>, field: Field) -> Result<(), NoMemory>
     ensures { OnOk result (out.new.items ≡ out.old.items ++ end_bytes (name_of field)) }
 {
     push_end(out, field.name())
@@ -68,6 +103,27 @@ pub fn write_text(out: &mut Vec<u8>, field: Field, text: &Text) -> Result<(), No
     push_text(out, text)?;
     close(out, field)?;
     Ok(())
+}
+
+/// Appends a field with an identifier.
+pub fn write_id(out: &mut Vec<u8>, field: Field, id: &Id) -> Result<(), NoMemory>
+    ensures { OnOk result (out.new.items ≡ out.old.items ++ encoded (must field id.now)) }
+{
+    write_text(out, field, id.text())
+}
+
+/// Appends a field with an identifier that may be empty.
+pub fn write_opt_id(out: &mut Vec<u8>, field: Field, id: &OptId) -> Result<(), NoMemory>
+    ensures { OnOk result (out.new.items ≡ out.old.items ++ encoded (must field id.now)) }
+{
+    write_text(out, field, id.text())
+}
+
+/// Appends a field with a slug.
+pub fn write_slug(out: &mut Vec<u8>, field: Field, slug: &Slug) -> Result<(), NoMemory>
+    ensures { OnOk result (out.new.items ≡ out.old.items ++ encoded (must field slug.now)) }
+{
+    write_text(out, field, slug.text())
 }
 
 /// Appends a field with a number.

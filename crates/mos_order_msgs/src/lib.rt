@@ -1,0 +1,4 @@
+//! The messages about running orders: Profiles 2 and 4 of MOS Protocol 2.8.5.
+#![tactic(auto)]
+
+mod records;
