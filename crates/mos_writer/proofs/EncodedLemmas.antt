@@ -263,3 +263,7 @@ element_with_written n x f es fs a w1 w2 w3 e h same p q r =
     encoded-cons (opens n (attribute f x ∷ [])) (es ++ closes n ∷ []) ∙ joins (attributed n x f e h) (encoded-append es (closes n ∷ []) ∙ ap (λ (ys : List ℕ). encoded es ++ ys) (closing n e)) in
     three a w1 w2 w3 (start_with_bytes n (name_of f) x) (encoded es) (end_bytes n) p q r
     ∙ ap (λ (ys : List ℕ). a ++ ys) (append_assoc (start_with_bytes n (name_of f) x) (encoded es) (end_bytes n) ∙ sym whole ∙ ap (λ xs. encoded (element_with n (attribute f x ∷ []) xs)) same)
+
+-- two parts, one behind the other
+pub both_parts : (es fs : List Event) (a w1 w2 : List ℕ) → w1 ≡ a ++ encoded es → w2 ≡ w1 ++ encoded fs → w2 ≡ a ++ encoded (es ++ fs)
+both_parts es fs a w1 w2 p q = both_written es fs (es ++ fs) a w1 w2 refl p q
