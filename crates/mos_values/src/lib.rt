@@ -16,14 +16,19 @@ mod mach_info;
 mod message;
 mod mos_ack;
 mod mos_obj;
+mod object_pieces;
 mod order_body;
+mod order_pieces;
+mod piece;
 mod profile;
 mod push_fault;
 mod ro_ack;
 mod sequence;
+mod sizes;
 mod story;
 mod story_send;
 mod try_clone;
+mod units;
 
 pub use ack_group::AckGroup;
 pub use action::Action;
@@ -37,11 +42,21 @@ pub use message::{Envelope, Message};
 pub use mos_ack::{AckStatus, MosAck};
 use mos_fields::Unread;
 pub use mos_obj::MosObj;
+pub use object_pieces::{mach_head_pieces, mach_rest_pieces, mos_ack_pieces, mos_obj_pieces};
 pub use order_body::OrderBody;
+pub use order_pieces::{
+    element_stat_pieces, group_pieces, header_pieces, item_pieces, patch_pieces, story_head_pieces,
+    story_send_pieces,
+};
+pub use piece::Piece;
 pub use profile::{DeviceType, Profile, SupportedProfiles};
 pub use push_fault::PushFault;
 pub use ro_ack::RoAck;
 pub use sequence::Sequence;
+pub use sizes::{
+    header_units, item_units, items_units, list_all_units, list_units, object_list_units,
+    object_units, stories_units, story_units,
+};
 pub use story::Story;
 pub use story_send::StorySend;
 pub use try_clone::TryClone;
