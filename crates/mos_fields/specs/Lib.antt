@@ -1,11 +1,15 @@
 pub mod Characters
+pub mod Units
 pub mod Fields
 pub mod Names
 pub mod References
 pub mod Raw
 pub mod Forms
+pub mod Numbers
 pub mod Escapes
 pub mod Limits
 pub mod Zones
+pub mod Times
 pub mod Values
+pub mod TimesRead
 pub mod Faults

@@ -5,6 +5,8 @@
 #![tactic(auto)]
 
 pub mod air;
+mod append;
+mod checks;
 pub mod fault;
 pub mod field;
 pub mod form;
@@ -18,12 +20,17 @@ pub mod opt_id;
 pub mod opt_ids;
 pub mod rev;
 pub mod samples;
+mod scan;
 pub mod slug;
 pub mod text;
 pub mod time;
+mod time_reader;
+mod time_writer;
+mod units;
 pub mod unread;
 
 pub use air::Air;
+pub use checks::is_allowed;
 pub use fault::{FieldFault, NoMemory};
 pub use field::Field;
 pub use form::Form;
@@ -40,4 +47,5 @@ pub use samples::Samples;
 pub use slug::Slug;
 pub use text::Text;
 pub use time::{MosTime, Zone};
+pub use units::{is_allowed_unit, is_high, is_low, lone, pair};
 pub use unread::Unread;

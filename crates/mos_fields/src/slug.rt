@@ -1,10 +1,13 @@
 //! Slugs.
-ghost use Rattle.std.specs.Prelude.{◌≡◌, ◌≤◌, ℕ, List, IfOk, length};
+ghost use Rattle.std.specs.Prelude.{◌≡◌, ◌++◌, OnOk, OnErr, ◌≤◌, ℕ, List, IfOk, length};
+ghost use Rattle.mos_fields.specs.Faults.{AnswersFault, AnswersOnlyFault, slug_fault, length_fault};
 ghost use Rattle.mos_fields.specs.Characters.{units_of};
 ghost use Rattle.mos_fields.specs.Limits.{slug_limit};
 
-use crate::fault::NoMemory;
+use crate::checks::{find_slug_fault, SLUG_LIMIT, find_length_fault};
+use crate::fault::{FieldFault, NoMemory};
 use crate::text::Text;
+use std::alloc::Global;
 use std::marker::Model;
 
 /// A slug, the short title of an order, a story or an item: 0 to 1,024 characters.
@@ -22,6 +25,37 @@ impl Model for Slug {
 }
 
 impl Slug {
+    /// The value of these characters.
+    ///
+    /// `BadChar` comes exactly at the first character that XML 1.0 forbids, else `TooLong` exactly above 1,024
+    /// characters.
+    #[tactic(auto, using(crate::proofs::FaultLemmas::slug_allowed, crate::proofs::FaultLemmas::slug_sized))]
+    pub fn try_new(alloc: Global, chars: &[char]) -> Result<Self, FieldFault>
+        ensures value { IfOk result (λ t. t ≡ chars.now) }
+        ensures fault { AnswersFault (slug_fault chars.now) result }
+    {
+        match find_slug_fault(chars) {
+            Some(fault) => Err(fault),
+            None => Ok(Slug {
+                text: Text::from_allowed(alloc, chars)?,
+            }),
+        }
+    }
+
+    /// The value of a text, which is dropped where it is none.
+    ///
+    /// `TooLong` comes exactly above 1,024 characters.
+    #[tactic(auto, using(crate::proofs::FaultLemmas::slug_sized_length))]
+    pub fn from_text(text: Text) -> Result<Self, FieldFault>
+        ensures value { IfOk result (λ t. t ≡ text) }
+        ensures fault { AnswersOnlyFault (length_fault slug_limit text) result }
+    {
+        match find_length_fault(SLUG_LIMIT, text.len()) {
+            Some(fault) => Err(fault),
+            None => Ok(Slug { text }),
+        }
+    }
+
     /// The text.
     pub fn text(&self) -> &Text
         ensures value { result.now ≡ self.now }
@@ -43,6 +77,14 @@ impl Slug {
         ensures sized { length self.now ≤ slug_limit }
     {
         self.text.units()
+    }
+
+    /// Appends the characters; without memory nothing is appended.
+    pub fn push_to(&self, out: &mut Vec<char>) -> Result<(), NoMemory>
+        ensures ok { OnOk result (out.new.items ≡ out.old.items ++ self.now) }
+        ensures err { OnErr result (out.new.items ≡ out.old.items) }
+    {
+        self.text.push_to(out)
     }
 
     /// The same value again, in memory of its own.

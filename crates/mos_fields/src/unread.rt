@@ -1,5 +1,5 @@
 //! Raw elements.
-ghost use Rattle.std.specs.Prelude.{◌≡◌, ℕ, List, IfOk};
+ghost use Rattle.std.specs.Prelude.{◌≡◌, ◌++◌, OnOk, OnErr, ℕ, List, IfOk};
 ghost use Rattle.mos_fields.specs.Characters.{units_of};
 ghost use Rattle.mos_fields.specs.Raw.{IsRawElement};
 
@@ -23,6 +23,14 @@ impl Model for Unread {
 }
 
 impl Unread {
+    /// The raw element of a text that is known to be one. The text is not looked at again.
+    pub fn from_raw(text: Text) -> Self
+        requires { IsRawElement text }
+        ensures { result ≡ text }
+    {
+        Unread { text }
+    }
+
     /// The text.
     pub fn text(&self) -> &Text
         ensures value { result.now ≡ self.now }
@@ -44,6 +52,14 @@ impl Unread {
         ensures element { IsRawElement self.now }
     {
         self.text.units()
+    }
+
+    /// Appends the characters; without memory nothing is appended.
+    pub fn push_to(&self, out: &mut Vec<char>) -> Result<(), NoMemory>
+        ensures ok { OnOk result (out.new.items ≡ out.old.items ++ self.now) }
+        ensures err { OnErr result (out.new.items ≡ out.old.items) }
+    {
+        self.text.push_to(out)
     }
 
     /// The same value again, in memory of its own.

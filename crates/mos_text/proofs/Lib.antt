@@ -1,0 +1,3 @@
+pub mod UnitLemmas
+pub mod EscapeLemmas
+pub mod ReadingLemmas
