@@ -1,7 +1,9 @@
 -- How often the fields of columns were seen, and what that shows.
-use Rattle.std.specs.Prelude.{◌≡◌, ℕ, Bool, true, false, cond, List, [], ◌∷◌, Option, Some, None, map, drop, nat_lt, ◌&&◌, not}
+use Rattle.std.specs.Prelude.{◌≡◌, ℕ, Bool, true, false, cond, List, [], ◌∷◌, Option, Some, None, map, drop, nat_lt, ◌&&◌, not, ◌+◌}
 use Rattle.mos_fields.specs.Characters.{Text}
+use Rattle.mos_fields.specs.Fields.{same_field}
 use Rattle.mos_fields.specs.declared.field.Field.{Field}
+use Rattle.mos_fields.specs.declared.field.Field.TheVariants as fields
 use Rattle.mos_tables.specs.declared.column.Column.{Column}
 use Rattle.mos_tables.specs.declared.table.Table.{Table}
 use Rattle.mos_tables.specs.Tables.{columns, is_ack, ack_columns}
@@ -43,3 +45,13 @@ tag_fault_by cs ks n = or_else (repeated_by cs ks n) (before_by cs ks n)
 -- what a record's end tag shows: of roAck the fields of a group are wanted where one of them was there
 abbrev pub end_fault_by : Table → List ℕ → Option Fault
 end_fault_by t ks = cond (is_ack t && not (any_counted (drop 2 ks))) (lacking_by ack_columns ks) (lacking_by (columns t) ks)
+
+-- one more field was seen
+abbrev pub bumped : List Column → List ℕ → Field → List ℕ
+bumped [] ks f = ks
+bumped (c ∷ cs) [] f = []
+bumped (c ∷ cs) (k ∷ ks) f = cond (same_field c.field f) (k + 1) k ∷ bumped cs ks f
+
+-- where a group of roAck ends, nothing but the record's own fields counts as seen
+abbrev pub after_group : List Column → List ℕ
+after_group cs = counts_of cs (fields.RoID ∷ fields.RoStatus ∷ [])

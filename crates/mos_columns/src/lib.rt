@@ -6,6 +6,7 @@
 
 mod counts;
 mod names;
+mod note;
 
 pub use counts::{find_column, find_end_fault, find_tag_fault};
 pub use names::is_name;
