@@ -9,8 +9,11 @@ use Rattle.mos_tables.specs.declared.table.Table.TheVariants.{Envelope, Body, He
 use Rattle.mos_tables.specs.Tables.{columns, is_ack, ack_columns, group_columns}
 use Rattle.mos_grammar.specs.declared.fault.Fault.{Fault}
 use Rattle.mos_grammar.specs.declared.fault.Fault.TheVariants.{Twice as twice, Order as out_of_order}
-use Rattle.mos_grammar.specs.Records.{times, least_count, is_single, is_named, lack_of, any_seen, lacking, repeated, before_column, or_else, field_fault, wanted}
-use Rattle.mos_columns.specs.Counts.{counts_of, any_counted, lacking_by, repeated_by, before_by, tag_fault_by, end_fault_by}
+use Rattle.mos_grammar.specs.Records.{times, least_count, is_single, is_named, lack_of, any_seen, lacking, repeated, before_column, or_else, field_fault, wanted, seen_behind}
+use Rattle.mos_fields.specs.Fields.{same_field}
+use Rattle.mos_fields.specs.declared.field.Field.TheVariants as fields
+use Rattle.mos_grammar.proofs.Seen.{times_push}
+use Rattle.mos_columns.specs.Counts.{counts_of, any_counted, lacking_by, repeated_by, before_by, tag_fault_by, end_fault_by, bumped, noted_by}
 
 pub any_is : (cs : List Column) (seen : List Field) → any_counted (counts_of cs seen) ≡ any_seen cs seen
 any_is [] seen = refl
@@ -72,3 +75,14 @@ end_fault_is t ks seen e = ap (end_fault_by t) e ∙ go (is_ack t) refl
     go : (b : Bool) → is_ack t ≡ b → end_fault_by t (counts_of (columns t) seen) ≡ lacking (wanted t seen) seen
     go true i = rw (i, groups_are t i, any_is group_columns seen) (two (any_seen group_columns seen))
     go false i = rw i (lacking_is (columns t) seen)
+
+pub bumped_is : (cs : List Column) (seen : List Field) (f : Field) → bumped cs (counts_of cs seen) f ≡ counts_of cs (seen ++ f ∷ [])
+bumped_is [] seen f = refl
+bumped_is (c ∷ cs) seen f = rw (times_push c.field f seen, bumped_is cs seen f) refl
+
+pub noted_is : (t : Table) (ks : List ℕ) (seen : List Field) (f : Field) → ks ≡ counts_of (columns t) seen → noted_by t ks f ≡ counts_of (columns t) (seen_behind t seen f)
+noted_is t ks seen f e = ap (λ (z : List ℕ). noted_by t z f) e ∙ go (is_ack t && same_field f fields.Status)
+  where
+    go : (b : Bool) → cond b (bumped (columns t) (bumped (columns t) (counts_of (columns t) []) fields.RoID) fields.RoStatus) (bumped (columns t) (counts_of (columns t) seen) f) ≡ counts_of (columns t) (cond b (fields.RoID ∷ fields.RoStatus ∷ []) (seen ++ f ∷ []))
+    go true = ap (λ (z : List ℕ). bumped (columns t) z fields.RoStatus) (bumped_is (columns t) [] fields.RoID) ∙ bumped_is (columns t) (fields.RoID ∷ []) fields.RoStatus
+    go false = bumped_is (columns t) seen f

@@ -52,6 +52,6 @@ bumped [] ks f = ks
 bumped (c ∷ cs) [] f = []
 bumped (c ∷ cs) (k ∷ ks) f = cond (same_field c.field f) (k + 1) k ∷ bumped cs ks f
 
--- where a group of roAck ends, nothing but the record's own fields counts as seen
-abbrev pub after_group : List Column → List ℕ
-after_group cs = counts_of cs (fields.RoID ∷ fields.RoStatus ∷ [])
+-- behind one more field: the status of a group of roAck ends the group, and then the record's own fields alone count
+abbrev pub noted_by : Table → List ℕ → Field → List ℕ
+noted_by t ks f = cond (is_ack t && same_field f fields.Status) (bumped (columns t) (bumped (columns t) (counts_of (columns t) []) fields.RoID) fields.RoStatus) (bumped (columns t) ks f)

@@ -5,8 +5,11 @@
 #![tactic(auto)]
 
 mod counts;
+mod messages;
 mod names;
-mod note;
+mod noting;
 
 pub use counts::{find_column, find_end_fault, find_tag_fault};
+pub use messages::{find_message, message_table};
 pub use names::is_name;
+pub use noting::{note, start_counts};
