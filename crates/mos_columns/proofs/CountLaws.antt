@@ -1,5 +1,5 @@
 -- What counts show is what the fields seen show.
-use Rattle.std.proofs.Common.{◌≡◌, ℕ, Bool, true, false, cond, List, [], ◌∷◌, ◌++◌, map, drop, take, Option, Some, None, refl, sym, ap, subst, ◌∙◌}
+use Rattle.std.proofs.Common.{◌≡◌, ℕ, Bool, true, false, cond, List, [], ◌∷◌, ◌++◌, Some, None, refl, ap, ◌∙◌}
 use Rattle.std.specs.Prelude.{nat_lt, ◌&&◌, not}
 use Rattle.mos_fields.specs.Characters.{Text}
 use Rattle.mos_fields.specs.declared.field.Field.{Field}
@@ -7,9 +7,7 @@ use Rattle.mos_tables.specs.declared.column.Column.{Column}
 use Rattle.mos_tables.specs.declared.table.Table.{Table}
 use Rattle.mos_tables.specs.declared.table.Table.TheVariants.{Envelope, Body, HeaderPatch, Story, Item, MosObj, Heartbeat, NoFields, ListMachInfo, SupportedProfiles, MosAck, MosReqObj, MosReqAll, MosListAll, OneOrder, RoListAll, ElementStat, Action, Target, Source, ReadyToAir, RoAck, StorySend}
 use Rattle.mos_tables.specs.Tables.{columns, is_ack, ack_columns, group_columns}
-use Rattle.mos_grammar.specs.declared.fault.Fault.{Fault}
-use Rattle.mos_grammar.specs.declared.fault.Fault.TheVariants.{Twice as twice, Order as out_of_order}
-use Rattle.mos_grammar.specs.Records.{times, least_count, is_single, is_named, lack_of, any_seen, lacking, repeated, before_column, or_else, field_fault, wanted, seen_behind}
+use Rattle.mos_grammar.specs.Records.{times, least_count, is_named, lack_of, any_seen, lacking, repeated, before_column, field_fault, wanted, seen_behind}
 use Rattle.mos_fields.specs.Fields.{same_field}
 use Rattle.mos_fields.specs.declared.field.Field.TheVariants as fields
 use Rattle.mos_grammar.proofs.Seen.{times_push}

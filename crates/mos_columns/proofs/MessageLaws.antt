@@ -1,9 +1,8 @@
 -- The messages found by name are those of the tables.
-use Rattle.std.proofs.Common.{◌≡◌, Bool, true, false, cond, List, [], ◌∷◌, map, Option, Some, None, refl, ◌∙◌}
+use Rattle.std.proofs.Common.{◌≡◌, Bool, true, false, cond, List, [], ◌∷◌, map, Some, refl}
 use Rattle.mos_fields.specs.Characters.{Text}
 use Rattle.mos_fields.specs.Fields.{same}
 use Rattle.mos_fields.specs.declared.operation.Operation.{Operation}
-use Rattle.mos_tables.specs.declared.table.Table.{Table}
 use Rattle.mos_tables.specs.Tables.{messages, table_of_name}
 use Rattle.mos_events.specs.EventView.{message_text}
 use Rattle.mos_events.specs.declared.message_name.MessageName.{MessageName}

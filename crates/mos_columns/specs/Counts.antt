@@ -1,5 +1,5 @@
 -- How often the fields of columns were seen, and what that shows.
-use Rattle.std.specs.Prelude.{◌≡◌, ℕ, Bool, true, false, cond, List, [], ◌∷◌, Option, Some, None, map, drop, nat_lt, ◌&&◌, not, ◌+◌}
+use Rattle.std.specs.Prelude.{ℕ, Bool, true, false, cond, List, [], ◌∷◌, Option, Some, None, map, drop, nat_lt, ◌&&◌, not, ◌+◌}
 use Rattle.mos_fields.specs.Characters.{Text}
 use Rattle.mos_fields.specs.Fields.{same_field}
 use Rattle.mos_fields.specs.declared.field.Field.{Field}

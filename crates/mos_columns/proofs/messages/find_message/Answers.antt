@@ -1,4 +1,4 @@
-use Rattle.std.proofs.Common.{◌≡◌, Option, sym, ap, ◌∙◌}
+use Rattle.std.proofs.Common.{Option, sym, ap, ◌∙◌}
 use Rattle.mos_events.specs.declared.message_name.MessageName.{MessageName}
 use Rattle.mos_columns.specs.Messages.{record_if}
 use Rattle.mos_columns.proofs.MessageLaws.{message_is}
