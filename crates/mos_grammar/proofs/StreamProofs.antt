@@ -192,7 +192,7 @@ unfolding message_run message_step step
 whole_stops v [] w e = (refl, cc)
 whole_stops v (t ∷ more) w e = absurd cc
 
-whole_takes_none : (w : List Event) (t : Token) (r : List Token) (q : Position) → message_run (inside (complete w)) (t ∷ r) ≡ Ok q → ⊥
+pub whole_takes_none : (w : List Event) (t : Token) (r : List Token) (q : Position) → message_run (inside (complete w)) (t ∷ r) ≡ Ok q → ⊥
 unfolding message_run message_step step
 whole_takes_none w t r q h = cc
 

@@ -34,12 +34,12 @@ width c = length (encode_utf16 c)
 low_unit : (c : ℕ) → c < 65536 → is_allowed c ≡ true → (is_high c ≡ false) × (is_low c ≡ false)
 low_unit c h a = (grind (arith, nat_tests), grind (arith, nat_tests))
 
-no_limit : (s : Reader) (x : UnitStep) → nat_le message_limit s.count ≡ false → too_long s x ≡ x
+pub no_limit : (s : Reader) (x : UnitStep) → nat_le message_limit s.count ≡ false → too_long s x ≡ x
 no_limit s (rejects p k) e = refl
 no_limit s (reads_on t) e = rw e refl
 no_limit s (completes began v) e = rw e refl
 
-below : (k : ℕ) → k < message_limit → nat_le message_limit k ≡ false
+pub below : (k : ℕ) → k < message_limit → nat_le message_limit k ≡ false
 below k h = grind (arith, nat_tests)
 
 high_unit : (c : ℕ) → 65536 ≤ c → c < 1114112 → is_high (55296 + (c - 65536) / 1024) ≡ true

@@ -8,3 +8,4 @@ mod Amp
 mod Rejecting
 mod Reading
 mod UnitReading
+mod OpenReads

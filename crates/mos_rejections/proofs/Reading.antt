@@ -96,7 +96,7 @@ complete_stays p l d v w is e = go (lex_step (is_outside p) l d) e
     go no_token e = absurd cc
     go (no_reference k) e = absurd cc
 
-complete_run : (ds : List ℕ) (s w : Spot) (v : List Event) → s.position ≡ inside (complete v) → char_run s ds ≡ Some w → w.position ≡ inside (complete v)
+pub complete_run : (ds : List ℕ) (s w : Spot) (v : List Event) → s.position ≡ inside (complete v) → char_run s ds ≡ Some w → w.position ≡ inside (complete v)
 unfolding char_run
 complete_run [] s w v is e = ap (λ (z : Spot). z.position) (sym (spot_is s w e)) ∙ is
 complete_run (d ∷ ds) s w v is e = go (λ u i j. complete_run ds u w v i j) (char_of s.position s.lex d) refl e
@@ -105,7 +105,7 @@ complete_run (d ∷ ds) s w v is e = go (λ u i j. complete_run ds u w v i j) (c
     go f (Some u) i j = f u (complete_stays s.position s.lex d v u is i) j
     go f None i j = absurd cc
 
-open_or_complete : (p : Position) → IsOpenAt p ⊎ ((v : List Event) × (p ≡ inside (complete v)))
+pub open_or_complete : (p : Position) → IsOpenAt p ⊎ ((v : List Event) × (p ≡ inside (complete v)))
 open_or_complete (before_message g) = inl tt
 open_or_complete (inside (at m f fs)) = inl tt
 open_or_complete (inside (complete v)) = inr (v, refl)

@@ -2,7 +2,7 @@
 use Rattle.std.specs.Prelude.{◌≡◌, ℕ, true, List, ◌++◌, length, ◌+◌, map}
 use Rattle.mos_tables.specs.Events.{Event}
 use Rattle.mos_lexer.specs.Encodings.{Encodes, AreEncodings}
-use Rattle.mos_lexer.specs.Units.{start_reader, UnitRun, still_reads, completed, rejected_at, unit_run, Found, start_stream, StreamRun, reads_stream, rejects_stream, stream_units}
+use Rattle.mos_lexer.specs.Units.{start_reader, UnitRun, still_reads, completed, rejected_at, unit_run, Found, start_stream, StreamRun, reads_stream, rejects_stream, stream_units, Reader}
 use Rattle.mos_lexer.specs.Laws.{are_units}
 use Rattle.mos_rejections.specs.Rejections.{IsOpen, IsRejection}
 
@@ -29,3 +29,7 @@ StreamIsExact us (rejects_stream s place k) = (x : List ℕ) × (r : List ℕ) �
 -- The same of a stream of messages, with places from its beginning.
 abbrev pub StreamsAreExact : Type 0
 StreamsAreExact = (us : List ℕ) → are_units us ≡ true → StreamIsExact us (stream_units start_stream us)
+
+-- Code units that begin a message, as far as they go, are read on. So the reading goes on exactly there.
+abbrev pub OpenIsRead : Type 0
+OpenIsRead = (us : List ℕ) → IsOpen us → (s : Reader) × (unit_run start_reader us ≡ still_reads s)
