@@ -1,25 +1,25 @@
 -- Code units that begin a message are read on.
-use Rattle.std.proofs.Common.{◌≡◌, ℕ, ◌+◌, ◌<◌, ◌≤◌, ◌⊎◌, inl, inr, Bool, true, false, cond, List, [], ◌∷◌, ◌++◌, length, Option, Some, None, Ok, refl, sym, ap, subst, ◌∙◌, append_assoc, arith}
-use Rattle.std.specs.Prelude.{nat_le, ◌&&◌}
+use Rattle.std.proofs.Common.{◌≡◌, ℕ, ◌+◌, ◌≤◌, ◌⊎◌, inl, inr, true, false, List, [], ◌∷◌, ◌++◌, length, Option, Some, None, Ok, refl, sym, ap, subst, ◌∙◌, append_assoc, arith}
+use Rattle.std.specs.Prelude.{nat_le}
 use Rattle.std.specs.Char.Escape.{encode_utf16}
-use Rattle.std.proofs.lemmas.List.{append-nil, length-append}
+use Rattle.std.proofs.lemmas.List.{length-append}
 use Rattle.std.proofs.lemmas.Bool.{and_parts}
-use Rattle.mos_fields.specs.Characters.{is_allowed, are_allowed, is_high, units_of}
+use Rattle.mos_fields.specs.Characters.{is_allowed, are_allowed, units_of}
 use Rattle.mos_tables.specs.Events.{Event}
 use Rattle.mos_grammar.specs.Tokens.{Token}
 use Rattle.mos_grammar.specs.RecordMachine.{complete}
-use Rattle.mos_grammar.specs.Streams.{before_prolog, Position, before_message, inside, message_run, IsMessage}
+use Rattle.mos_grammar.specs.Streams.{before_prolog, Position, before_message, inside, message_run}
 use Rattle.mos_grammar.proofs.StreamProofs.{message_begins_run, runs_message, one_form, whole_takes_none}
 use Rattle.mos_lexer.specs.LexMachine.{begin}
-use Rattle.mos_lexer.specs.Units.{message_limit, Reader, start_reader, UnitStep, reads_on, completes, rejects, read_char, too_long, unit_step, UnitRun, still_reads, then_units, unit_run}
+use Rattle.mos_lexer.specs.Units.{message_limit, Reader, start_reader, UnitStep, reads_on, completes, rejects, read_char, unit_step, still_reads, then_units, unit_run}
 use Rattle.mos_lexer.specs.Lexing.{WritesTokens}
 use Rattle.mos_lexer.proofs.Chars.{Spot, char_of, then_spot, char_run, opening_spot, whole_spot}
-use Rattle.mos_lexer.proofs.Places.{IsOpenAt, SpotIs, Agrees, read_agrees, OpenStep, read_open}
-use Rattle.mos_lexer.proofs.UnitAccepts.{width, char_units, no_limit, below}
+use Rattle.mos_lexer.proofs.Places.{IsOpenAt, Agrees, read_agrees, OpenStep, read_open}
+use Rattle.mos_lexer.proofs.UnitAccepts.{width, char_units, below}
 use Rattle.mos_rejections.specs.Alive.{IsOpenMessage, IsAlive}
-use Rattle.mos_rejections.specs.Rejections.{waiting, IsWaiting, AreAlive, IsOpen}
+use Rattle.mos_rejections.specs.Rejections.{waiting, IsWaiting, AreAlive}
 use Rattle.mos_rejections.specs.Laws.{OpenIsRead}
-use Rattle.mos_rejections.proofs.Running.{going, Gone, run_nothing}
+use Rattle.mos_rejections.proofs.Running.{going, run_nothing}
 use Rattle.mos_rejections.proofs.AliveRuns.{ending, fronts_write}
 use Rattle.mos_rejections.proofs.Reading.{complete_run, open_or_complete}
 
