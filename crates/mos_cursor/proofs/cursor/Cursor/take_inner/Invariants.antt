@@ -1,0 +1,11 @@
+use Rattle.std.proofs.Common.{◌≡◌, List, ◌++◌, ◌≤◌, length, reverse}
+use Rattle.mos_events.specs.EventView.{events_of}
+use Rattle.mos_cursor.specs.Taking.{inner_of, behind_of}
+use Rattle.mos_cursor.proofs.EventLists.{TakenSoFar}
+use Rattle.mos_cursor.proofs.cursor.Cursor.take_inner.Given as goal
+
+abbrev pub invariant-loop-event : goal.invariant-loop-event
+invariant-loop-event l = TakenSoFar l.initial.self-inside.rest.items l.self-inside.rest.items l.inner.items l.depth
+
+abbrev pub decreases-loop-event : goal.decreases-loop-event
+decreases-loop-event l = length l.self-inside.rest.items

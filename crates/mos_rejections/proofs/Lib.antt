@@ -1,0 +1,11 @@
+mod Shape
+mod Running
+mod AliveRuns
+mod Witness
+mod Reaching
+mod Stepping
+mod Amp
+mod Rejecting
+mod Reading
+mod UnitReading
+mod OpenReads

@@ -1,0 +1,18 @@
+//! Laws of rejections, for the crates above: each function does nothing, and its clause is the law.
+ghost use Rattle.mos_rejections.specs.Laws.{RunsAreExact, StreamsAreExact, OpenIsRead};
+
+/// The reading of a message goes on while the code units begin one, comes to its end, or comes to the first that shows
+/// a fault, with the place and the kind of that fault.
+pub fn runs_are_exact()
+    ensures { RunsAreExact }
+{}
+
+/// The same of a stream of messages, with places from its beginning.
+pub fn streams_are_exact()
+    ensures { StreamsAreExact }
+{}
+
+/// Code units that begin a message, as far as they go, are read on.
+pub fn open_is_read()
+    ensures { OpenIsRead }
+{}

@@ -1,0 +1,12 @@
+pub mod CharacterLemmas
+pub mod PartLemmas
+pub mod LexSteps
+pub mod TagLemmas
+pub mod TextLemmas
+pub mod EndLemmas
+pub mod ReferenceLemmas
+pub mod NamedLemmas
+pub mod NumberLemmas
+pub mod HeldLemmas
+pub mod RunLemmas
+pub mod RunSteps

@@ -1,0 +1,5 @@
+pub mod Parts
+pub mod ScannerView
+pub mod References
+pub mod Runs
+pub mod Character

@@ -1,0 +1,74 @@
+//! Runs of code units that stand for themselves.
+ghost use Rattle.std.specs.Prelude.{◌≡◌, ◌≤◌, ◌<◌, ◌+◌, ◌&&◌, not, ℕ, length, slice_index, true};
+ghost use Rattle.mos_fields.specs.Names.{is_further as is_further_of};
+ghost use Rattle.mos_scanner.specs.Runs.{is_plain_but};
+
+/// The unit is no allowed character by itself, or one of these three.
+#[inline(always)]
+fn is_special(u: u16, p: u16, q: u16, r: u16) -> bool
+    ensures { result ≡ not (is_plain_but p q r u) }
+{
+    u < 0x20 || u > 0xD7FF || u == p || u == q || u == r
+}
+
+/// None of the 16 units from `from` on is special: a sum with no branch, of which LLVM makes vectors.
+#[inline(always)]
+fn is_plain_block(s: &[u16], from: usize, p: u16, q: u16, r: u16) -> bool
+    requires { from + 16 ≤ length s.now }
+    ensures { result ≡ true → (k : ℕ) → from ≤ k → k < from + 16 → is_plain_but p q r (slice_index s.now k) ≡ true }
+{
+    let mut hits = 0u16;
+    for k in from..from + 16 {
+        hits += u16::from(is_special(s[k], p, q, r));
+    }
+    hits == 0
+}
+
+/// The end of a run of units from `from` on none of which is special.
+pub fn plain_end(s: &[u16], from: usize, p: u16, q: u16, r: u16) -> usize
+    requires { from ≤ length s.now }
+    ensures within { result ≤ length s.now }
+    ensures onward { from ≤ result }
+    ensures plain { (k : ℕ) → from ≤ k → k < result → is_plain_but p q r (slice_index s.now k) ≡ true }
+{
+    let mut n = from;
+    while s.len() - n >= 16 {
+        if !is_plain_block(s, n, p, q, r) {
+            break;
+        }
+        n += 16;
+    }
+    while n < s.len() {
+        if is_special(s[n], p, q, r) {
+            break;
+        }
+        n += 1;
+    }
+    n
+}
+
+/// The end of a run of units from `from` on that names go on with, at most so many.
+pub fn name_end(s: &[u16], from: usize, most: usize) -> usize
+    requires { from ≤ length s.now }
+    ensures within { result ≤ length s.now }
+    ensures onward { from ≤ result }
+    ensures few { result ≤ from + most }
+    ensures named { (k : ℕ) → from ≤ k → k < result → is_further_of (slice_index s.now k) ≡ true }
+{
+    let mut n = from;
+    while n < s.len() {
+        if n - from == most || !is_further_unit(s[n]) {
+            break;
+        }
+        n += 1;
+    }
+    n
+}
+
+/// What a name goes on with.
+#[inline(always)]
+fn is_further_unit(u: u16) -> bool
+    ensures { result ≡ is_further_of u }
+{
+    u >= 97 && u <= 122 || u >= 65 && u <= 90 || u == 95 || u >= 48 && u <= 58 || u == 45 || u == 46
+}

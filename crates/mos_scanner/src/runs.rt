@@ -1,0 +1,66 @@
+//! Reading runs of characters at once.
+ghost use Rattle.std.specs.Prelude.{◌≡◌, ◌≤◌, ◌-◌, length, IfOk, true};
+ghost use Rattle.mos_fields.specs.Raw.{is_quote as is_quote_of};
+ghost use Rattle.mos_scanner.specs.Runs.{IsRun};
+ghost use Rattle.mos_scanner.specs.ScannerView.{IsSound, IsSoundAt};
+
+use crate::mode::Mode;
+use crate::plain::{name_end, plain_end};
+use crate::scanner::Scanner;
+use mos_fields::NoMemory;
+
+/// The most characters of a name.
+const NAME_LIMIT: usize = 128;
+
+/// The code unit of a quote.
+#[inline(always)]
+fn quote_unit(quote: char) -> u16
+    requires { is_quote_of quote ≡ true }
+    ensures { result ≡ quote }
+{
+    if quote == '"' { 34 } else { 39 }
+}
+
+impl Scanner {
+    /// Reads characters of one unit, U+0020 to U+D7FF, behind each of which the token goes on, from `here` up to the
+    /// place that it gives. It is the same as a step for each of them. The character there may belong to the run too.
+    ///
+    /// # Errors
+    /// `NoMemory` where memory runs out. The scanner has to be given up then.
+    pub fn skip(&mut self, held: &[u16], here: usize) -> Result<usize, NoMemory>
+        requires within { here ≤ length held.now }
+        requires sound { IsSound self.old held.now here }
+        ensures { IfOk result (λ next. IsRun self.old self.new held.now here next) }
+    {
+        match self.mode {
+            Mode::InText => {
+                let next = plain_end(held, here, 60, 38, 38);
+                self.grow_resolved(held, here, next)?;
+                Ok(next)
+            }
+            Mode::InTail => Ok(plain_end(held, here, 62, 62, 62)),
+            Mode::InValue => {
+                let next = plain_end(held, here, quote_unit(self.quote), 38, 60);
+                self.grow_resolved(held, here, next)?;
+                Ok(next)
+            }
+            Mode::StartName => Ok(name_end(held, here, name_room(here - self.start - 1))),
+            Mode::EndName => {
+                if here - self.start > 2 {
+                    Ok(name_end(held, here, name_room(here - self.start - 2)))
+                } else {
+                    Ok(here)
+                }
+            }
+            _ => Ok(here),
+        }
+    }
+}
+
+/// How many characters may follow so many of a name.
+#[inline(always)]
+fn name_room(length_so_far: usize) -> usize
+    ensures { result ≡ 128 - length_so_far }
+{
+    NAME_LIMIT.saturating_sub(length_so_far)
+}

@@ -1,0 +1,5 @@
+pub mod Members
+pub mod Utf16
+pub mod Encoding
+pub mod Simple
+pub mod Counts

@@ -1,0 +1,4 @@
+use Rattle.mos_values.proofs.units.+decimal_len.Given as goal
+
+abbrev pub decreases-decimal_len : goal.decreases-decimal_len
+decreases-decimal_len l = l.n

@@ -1,0 +1,9 @@
+pub mod Distinct
+pub mod StoryValue
+pub mod OrderValue
+pub mod Headers
+pub mod Parts
+pub mod Views
+pub mod MessageViews
+pub mod Units
+pub mod Pieces

@@ -1,0 +1,269 @@
+-- The bytes of code units, part by part.
+use Rattle.std.proofs.Common.{Ok, Err, ◌≡◌, ℕ, ◌+◌, ◌*◌, ◌/◌, ◌%◌, ◌^◌, ◌<◌, ◌≤◌, true, List, [], ◌∷◌, ◌++◌, length, map, take, get_or, refl, sym, ap, subst, ◌∙◌, append_assoc, arith}
+use Rattle.std.specs.List.{flat_map}
+use Rattle.std.proofs.lemmas.List.{append-nil, take_more}
+use Rattle.std.proofs.lemmas.List.Concat.{flat_map-append, flat_map-cons}
+use Rattle.std.specs.Prelude.{Result, OnOk}
+use Rattle.std.specs.Fmt.{decimal}
+use Rattle.std.proofs.lemmas.List.{map-append}
+use Rattle.std.specs.declared.alloc.AllocError.{AllocError}
+use Rattle.mos_values.specs.declared.piece.Piece.{Piece}
+use Rattle.mos_values.specs.Pieces.{piece_events, pieces_events}
+use Rattle.std.proofs.lemmas.Fmt.{decimal_digit, decimal_step}
+use Rattle.mos_fields.specs.Values.{day_text, clock_text, millis_text, zone_text, time_text}
+use Rattle.mos_fields.specs.declared.time.MosTime.{MosTime}
+use Rattle.mos_values.proofs.Simple.{are_simple, simple_is, escaped_simple, units_of_simple}
+use Rattle.mos_fields.specs.Characters.{Text, unit_bytes, bytes_of, units_of}
+use Rattle.mos_fields.specs.Escapes.{escaped_char, escaped}
+use Rattle.mos_fields.specs.Raw.{end_text}
+use Rattle.mos_fields.specs.declared.field.Field.{Field}
+use Rattle.mos_fields.specs.Fields.{name_of}
+use Rattle.mos_tables.specs.Events.{Event, leaf, raw, opens, closes}
+use Rattle.mos_tables.specs.Canonical.{canonical, event_text, start_text}
+use Rattle.mos_values.specs.Parts.{must, must_raw, raws, attribute, element, element_with}
+use Rattle.mos_values.specs.Units.{canonical_units}
+use Rattle.mos_values.proofs.Encoding.{canonical_units-append, canonical_units-nil, canonical_units-cons, units_of-append, end_units, leaf_is, element_is, raw_is, units_of_name}
+use Rattle.mos_values.proofs.Counts.{flat_map_step}
+use Rattle.mos_writer.specs.Encoded.{encoded, in_bytes, start_bytes, end_bytes, word_bytes, start_with_bytes}
+
+pub in_bytes-append : (xs ys : List ℕ) → in_bytes (xs ++ ys) ≡ in_bytes xs ++ in_bytes ys
+unfolding in_bytes
+in_bytes-append xs ys = flat_map-append unit_bytes xs ys
+
+pub in_bytes-nil : in_bytes [] ≡ []
+unfolding in_bytes
+in_bytes-nil = refl
+
+pub joins : {a b x y : List ℕ} → a ≡ b → x ≡ y → a ++ x ≡ b ++ y
+joins p q = cc
+
+pub encoded_is : (es : List Event) → encoded es ≡ in_bytes (canonical_units es)
+unfolding encoded in_bytes canonical_units
+encoded_is es = refl
+
+pub encoded-append : (es fs : List Event) → encoded (es ++ fs) ≡ encoded es ++ encoded fs
+encoded-append es fs =
+    encoded_is (es ++ fs) ∙ ap in_bytes (canonical_units-append es fs) ∙ in_bytes-append (canonical_units es) (canonical_units fs) ∙ joins (sym (encoded_is es)) (sym (encoded_is fs))
+
+pub encoded-nil : encoded [] ≡ []
+encoded-nil = encoded_is [] ∙ ap in_bytes canonical_units-nil ∙ in_bytes-nil
+
+-- ---- loops
+
+-- one more of a list, behind what was written
+pub one_more : {X : Type 0} (g : X → List ℕ) (xs : List X) (i : ℕ) (x : X) (a l w : List ℕ) → i < length xs → x ≡ get_or xs i x
+    → l ≡ a ++ flat_map g (take i xs) → w ≡ l ++ g x → w ≡ a ++ flat_map g (take (i + 1) xs)
+one_more g xs i x a l w lt is before after =
+    after ∙ ap (λ (ys : List ℕ). ys ++ g x) before ∙ append_assoc a (flat_map g (take i xs)) (g x) ∙ ap (λ (ys : List ℕ). a ++ ys) (sym (flat_map_step g xs i x lt is))
+
+step_at : {X Y : Type 0} (g : X → List Y) (xs : List X) (i : ℕ) (d : X) → i < length xs → flat_map g (take (i + 1) xs) ≡ flat_map g (take i xs) ++ g (get_or xs i d)
+step_at g xs i d lt = ap (flat_map g) (take_more xs i d lt) ∙ flat_map-append g (take i xs) (get_or xs i d ∷ []) ∙ ap (λ ys. flat_map g (take i xs) ++ ys) (append-nil (g (get_or xs i d)))
+
+pub units_start : (a : List ℕ) → a ≡ a ++ in_bytes []
+units_start a = sym (ap (λ (ys : List ℕ). a ++ ys) in_bytes-nil ∙ append-nil a)
+
+-- one more code unit
+pub units_step : (us : List ℕ) (i : ℕ) (a l w : List ℕ) → i < length us → l ≡ a ++ in_bytes (take i us) → w ≡ l ++ unit_bytes (get_or us i 0) → w ≡ a ++ in_bytes (take (i + 1) us)
+unfolding in_bytes
+units_step us i a l w lt before after =
+    after ∙ ap (λ (ys : List ℕ). ys ++ unit_bytes (get_or us i 0)) before ∙ append_assoc a (flat_map unit_bytes (take i us)) (unit_bytes (get_or us i 0))
+    ∙ ap (λ (ys : List ℕ). a ++ ys) (sym (step_at unit_bytes us i 0 lt))
+
+pub escaped_start : (a : List ℕ) → a ≡ a ++ in_bytes (escaped [])
+escaped_start a = units_start a
+
+-- one more, escaped
+pub escaped_step : (us : List ℕ) (i : ℕ) (a l w : List ℕ) → i < length us → l ≡ a ++ in_bytes (escaped (take i us)) → w ≡ l ++ in_bytes (escaped_char (get_or us i 0)) → w ≡ a ++ in_bytes (escaped (take (i + 1) us))
+escaped_step us i a l w lt before after =
+    after ∙ ap (λ (ys : List ℕ). ys ++ in_bytes (escaped_char (get_or us i 0))) before ∙ append_assoc a (in_bytes (escaped (take i us))) (in_bytes (escaped_char (get_or us i 0)))
+    ∙ ap (λ (ys : List ℕ). a ++ ys) (sym (ap in_bytes (step_at escaped_char us i 0 lt) ∙ in_bytes-append (escaped (take i us)) (escaped_char (get_or us i 0))))
+
+-- nothing is appended
+pub append_none : (a : List ℕ) → a ≡ a ++ in_bytes []
+append_none a = units_start a
+
+-- ---- parts, one behind the other
+
+pub three : (a w1 w2 w3 x y z : List ℕ) → w1 ≡ a ++ x → w2 ≡ w1 ++ y → w3 ≡ w2 ++ z → w3 ≡ a ++ ((x ++ y) ++ z)
+three a w1 w2 w3 x y z p q r =
+    r ∙ ap (λ (ys : List ℕ). ys ++ z) (q ∙ ap (λ (ys : List ℕ). ys ++ y) p ∙ append_assoc a x y) ∙ append_assoc a (x ++ y) z
+
+pub two : (a w1 w2 x y : List ℕ) → w1 ≡ a ++ x → w2 ≡ w1 ++ y → w2 ≡ a ++ (x ++ y)
+two a w1 w2 x y p q = q ∙ ap (λ (ys : List ℕ). ys ++ y) p ∙ append_assoc a x y
+
+tag : (n front : List ℕ) → (in_bytes front ++ in_bytes n) ++ in_bytes (62 ∷ []) ≡ in_bytes (front ++ (n ++ 62 ∷ []))
+tag n front =
+    ap (λ (ys : List ℕ). ys ++ in_bytes (62 ∷ [])) (sym (in_bytes-append front n)) ∙ sym (in_bytes-append (front ++ n) (62 ∷ [])) ∙ ap in_bytes (append_assoc front n (62 ∷ []))
+
+pub start_is : (n : List ℕ) → (in_bytes (60 ∷ []) ++ in_bytes n) ++ in_bytes (62 ∷ []) ≡ start_bytes n
+unfolding start_bytes in_bytes
+start_is n = tag n (60 ∷ [])
+
+pub end_is : (n : List ℕ) → (in_bytes (60 ∷ 47 ∷ []) ++ in_bytes n) ++ in_bytes (62 ∷ []) ≡ end_bytes n
+unfolding end_bytes in_bytes
+end_is n = tag n (60 ∷ 47 ∷ [])
+
+-- a field with a text
+pub must_is : (f : Field) (x : Text) → (start_bytes (name_of f) ++ in_bytes (escaped (units_of x))) ++ end_bytes (name_of f) ≡ encoded (must f x)
+unfolding must start_bytes end_bytes in_bytes encoded canonical_units
+must_is f x = sym (ap bytes_of (leaf_is (name_of f) x (units_of_name f)) ∙ flat_map-append unit_bytes (60 ∷ (name_of f ++ 62 ∷ []) ++ escaped (units_of x)) (60 ∷ 47 ∷ (name_of f ++ 62 ∷ [])) ∙ ap (λ (ys : List ℕ). ys ++ bytes_of (60 ∷ 47 ∷ (name_of f ++ 62 ∷ []))) (flat_map-append unit_bytes (60 ∷ (name_of f ++ 62 ∷ [])) (escaped (units_of x))))
+
+-- with a text that is written as it is
+pub simple_is_written : (f : Field) (x : Text) → are_simple x ≡ true → word_bytes (name_of f) x ≡ encoded (must f x)
+unfolding word_bytes
+simple_is_written f x h = ap (λ (us : List ℕ). (start_bytes (name_of f) ++ in_bytes us) ++ end_bytes (name_of f)) (sym (simple_is x h)) ∙ must_is f x
+
+-- a number's digits
+pub decimal_more : (n : ℕ) → 10 ≤ n → n < 2 ^ 32 → in_bytes (decimal (n / 10)) ++ in_bytes ((48 + n % 10) ∷ []) ≡ in_bytes (decimal n)
+decimal_more n h lt = sym (in_bytes-append (decimal (n / 10)) ((48 + n % 10) ∷ [])) ∙ ap in_bytes (sym (decimal_step n h (omega arith)))
+
+pub decimal_one : (n : ℕ) → n < 10 → in_bytes ((48 + n) ∷ []) ≡ in_bytes (decimal n)
+decimal_one n h = ap in_bytes (sym (decimal_digit n h))
+
+five : (d t c m z : List ℕ) → (((in_bytes d ++ in_bytes t) ++ in_bytes c) ++ in_bytes m) ++ in_bytes z ≡ in_bytes (d ++ (t ++ (c ++ (m ++ z))))
+five d t c m z =
+    let e1 = in_bytes-append d t in
+    let e2 = in_bytes-append (d ++ t) c in
+    let e3 = in_bytes-append ((d ++ t) ++ c) m in
+    let e4 = in_bytes-append (((d ++ t) ++ c) ++ m) z in
+    let whole : (((d ++ t) ++ c) ++ m) ++ z ≡ d ++ (t ++ (c ++ (m ++ z))) = simp append_assoc in
+    let e5 : in_bytes ((((d ++ t) ++ c) ++ m) ++ z) ≡ in_bytes (d ++ (t ++ (c ++ (m ++ z)))) = ap in_bytes whole in
+    cc
+
+regroup : (x c m z : List ℕ) → x ++ ((c ++ m) ++ z) ≡ ((x ++ c) ++ m) ++ z
+regroup x c m z = simp append_assoc
+
+-- five parts, one behind the other
+pub five_parts : (a w1 w2 w3 w4 w5 d t c m z : List ℕ) → w1 ≡ a ++ in_bytes d → w2 ≡ w1 ++ in_bytes t → w3 ≡ w2 ++ in_bytes c → w4 ≡ w3 ++ in_bytes m → w5 ≡ w4 ++ in_bytes z
+    → w5 ≡ a ++ in_bytes (d ++ (t ++ (c ++ (m ++ z))))
+five_parts a w1 w2 w3 w4 w5 d t c m z p q r s e =
+    three w2 w3 w4 w5 (in_bytes c) (in_bytes m) (in_bytes z) r s e ∙ ap (λ (ys : List ℕ). ys ++ ((in_bytes c ++ in_bytes m) ++ in_bytes z)) (two a w1 w2 (in_bytes d) (in_bytes t) p q)
+    ∙ append_assoc a (in_bytes d ++ in_bytes t) ((in_bytes c ++ in_bytes m) ++ in_bytes z)
+    ∙ ap (λ (ys : List ℕ). a ++ ys) (regroup (in_bytes d ++ in_bytes t) (in_bytes c) (in_bytes m) (in_bytes z) ∙ five d t c m z)
+
+-- an absent field appends nothing
+pub appends_nothing : (a : List ℕ) → a ≡ a ++ encoded []
+appends_nothing a = sym (ap (λ (ys : List ℕ). a ++ ys) encoded-nil ∙ append-nil a)
+
+-- the same bytes under another name, where nothing failed
+pub on_ok_as : (r : Result (Unit {0}) AllocError) (w a x y : List ℕ) → x ≡ y → OnOk r (w ≡ a ++ x) → OnOk r (w ≡ a ++ y)
+on_ok_as (Ok u) w a x y e h = h ∙ ap (λ (ys : List ℕ). a ++ ys) e
+on_ok_as (Err f) w a x y e h = h
+
+-- a raw element
+pub must_raw_is : (f : Field) (x : Text) → in_bytes (units_of x) ≡ encoded (must_raw f x)
+unfolding must_raw
+must_raw_is f x = sym (encoded_is (raw f x ∷ []) ∙ ap in_bytes (raw_is f x))
+
+-- ---- lists of events
+
+-- one more of a list of records
+pub events_step : {X : Type 0} (g : X → List Event) (xs : List X) (i : ℕ) (x : X) (a l w : List ℕ) → i < length xs → x ≡ get_or xs i x
+    → l ≡ a ++ encoded (flat_map g (take i xs)) → w ≡ l ++ encoded (g x) → w ≡ a ++ encoded (flat_map g (take (i + 1) xs))
+events_step g xs i x a l w lt is before after =
+    two a l w (encoded (flat_map g (take i xs))) (encoded (g x)) before after
+    ∙ ap (λ (ys : List ℕ). a ++ ys) (sym (ap encoded (flat_map_step g xs i x lt is) ∙ encoded-append (flat_map g (take i xs)) (g x)))
+
+pub raws_start : (f : Field) (a : List ℕ) → a ≡ a ++ encoded (raws f [])
+unfolding raws
+raws_start f a = appends_nothing a
+
+pub raws_step : (f : Field) (xs : List Text) (i : ℕ) (x : Text) (a l w : List ℕ) → i < length xs → x ≡ get_or xs i x
+    → l ≡ a ++ encoded (raws f (take i xs)) → w ≡ l ++ in_bytes (units_of x) → w ≡ a ++ encoded (raws f (take (i + 1) xs))
+unfolding raws must_raw
+raws_step f xs i x a l w lt is before after =
+    let parts : raws f (take (i + 1) xs) ≡ raws f (take i xs) ++ raw f x ∷ [] = ap (raws f) (take_more xs i x lt) ∙ rw (← is) (map-append (raw f) (take i xs) (x ∷ [])) in
+    two a l w (encoded (raws f (take i xs))) (in_bytes (units_of x)) before after
+    ∙ ap (λ (ys : List ℕ). a ++ ys) (ap (λ (ys : List ℕ). encoded (raws f (take i xs)) ++ ys) (must_raw_is f x) ∙ sym (ap encoded parts ∙ encoded-append (raws f (take i xs)) (raw f x ∷ [])))
+
+pub pieces_start : (a : List ℕ) → a ≡ a ++ encoded (pieces_events [])
+unfolding pieces_events
+pieces_start a = appends_nothing a
+
+pub pieces_step : (ps : List Piece) (i : ℕ) (p : Piece) (a l w : List ℕ) → i < length ps → p ≡ get_or ps i p
+    → l ≡ a ++ encoded (pieces_events (take i ps)) → w ≡ l ++ encoded (piece_events p) → w ≡ a ++ encoded (pieces_events (take (i + 1) ps))
+unfolding pieces_events
+pieces_step ps i p a l w lt is before after = events_step piece_events ps i p a l w lt is before after
+
+-- ---- elements
+
+-- tags round what stands in them
+pub element_bytes : (n : Text) (es : List Event) → units_of n ≡ n → (start_bytes n ++ encoded es) ++ end_bytes n ≡ encoded (element n es)
+unfolding start_bytes end_bytes encoded canonical_units
+element_bytes n es e = sym (ap bytes_of (element_is n es e) ∙ flat_map-append unit_bytes (60 ∷ (n ++ 62 ∷ [])) (units_of (canonical es) ++ (60 ∷ 47 ∷ (n ++ 62 ∷ []))) ∙ ap (λ (ys : List ℕ). bytes_of (60 ∷ (n ++ 62 ∷ [])) ++ ys) (flat_map-append unit_bytes (units_of (canonical es)) (60 ∷ 47 ∷ (n ++ 62 ∷ [])))
+    ∙ sym (append_assoc (bytes_of (60 ∷ (n ++ 62 ∷ []))) (bytes_of (units_of (canonical es))) (bytes_of (60 ∷ 47 ∷ (n ++ 62 ∷ [])))))
+
+pub element_written : (n : Text) (es fs : List Event) (a w1 w2 w3 : List ℕ) → units_of n ≡ n → es ≡ fs → w1 ≡ a ++ start_bytes n → w2 ≡ w1 ++ encoded es → w3 ≡ w2 ++ end_bytes n → w3 ≡ a ++ encoded (element n fs)
+element_written n es fs a w1 w2 w3 h same p q r =
+    three a w1 w2 w3 (start_bytes n) (encoded es) (end_bytes n) p q r ∙ ap (λ (ys : List ℕ). a ++ ys) (element_bytes n es h ∙ ap (λ xs. encoded (element n xs)) same)
+
+-- the element of a field
+pub field_written : (f : Field) (es fs : List Event) (a w1 w2 w3 : List ℕ) → es ≡ fs → w1 ≡ a ++ start_bytes (name_of f) → w2 ≡ w1 ++ encoded es → w3 ≡ w2 ++ end_bytes (name_of f) → w3 ≡ a ++ encoded (element (name_of f) fs)
+field_written f es fs a w1 w2 w3 same p q r = element_written (name_of f) es fs a w1 w2 w3 (units_of_name f) same p q r
+
+-- two parts of a value
+pub both_written : (es fs gs : List Event) (a w1 w2 : List ℕ) → gs ≡ es ++ fs → w1 ≡ a ++ encoded es → w2 ≡ w1 ++ encoded fs → w2 ≡ a ++ encoded gs
+both_written es fs gs a w1 w2 e p q = two a w1 w2 (encoded es) (encoded fs) p q ∙ ap (λ (ys : List ℕ). a ++ ys) (sym (ap encoded e ∙ encoded-append es fs))
+
+pub joined_events : {a b x y : List Event} → a ≡ b → x ≡ y → a ++ x ≡ b ++ y
+joined_events p q = cc
+
+-- ---- attributes
+
+pub three_written : (es fs gs hs : List Event) (a w1 w2 w3 : List ℕ) → hs ≡ es ++ fs ++ gs → w1 ≡ a ++ encoded es → w2 ≡ w1 ++ encoded fs → w3 ≡ w2 ++ encoded gs → w3 ≡ a ++ encoded hs
+three_written es fs gs hs a w1 w2 w3 e p q r = both_written (es ++ fs) gs hs a w2 w3 e (both_written es fs (es ++ fs) a w1 w2 refl p q) r
+
+-- `<` and a name
+pub opens_is : (n : List ℕ) → in_bytes (60 ∷ []) ++ in_bytes n ≡ in_bytes (60 ∷ n)
+unfolding in_bytes
+opens_is n = refl
+
+pub attribute_is : (a : List ℕ) → (in_bytes (32 ∷ []) ++ in_bytes a) ++ in_bytes (61 ∷ 34 ∷ []) ≡ in_bytes (32 ∷ (a ++ 61 ∷ 34 ∷ []))
+attribute_is a = ap (λ (ys : List ℕ). ys ++ in_bytes (61 ∷ 34 ∷ [])) (sym (in_bytes-append (32 ∷ []) a)) ∙ sym (in_bytes-append (32 ∷ a) (61 ∷ 34 ∷ []))
+
+abbrev start_with : Text → Text → Text → Text
+start_with n a y = 60 ∷ (n ++ ((32 ∷ (a ++ 61 ∷ 34 ∷ (y ++ 34 ∷ []))) ++ []) ++ 62 ∷ [])
+
+shape : (n a x : Text) → start_with n a x ≡ ((60 ∷ n) ++ (32 ∷ (a ++ 61 ∷ 34 ∷ []))) ++ (x ++ (34 ∷ 62 ∷ []))
+shape n a x = simp (append_assoc, append-nil)
+
+attributed_text : (n a x : Text) → escaped x ≡ x → start_text n (record { name = a; value = x } ∷ []) ≡ ((60 ∷ n) ++ (32 ∷ (a ++ 61 ∷ 34 ∷ []))) ++ (x ++ (34 ∷ 62 ∷ []))
+attributed_text n a x e = ap (λ (y : Text). start_with n a y) e ∙ shape n a x
+
+-- a start tag with an attribute
+pub attributed : (n x : Text) (f : Field) → units_of n ≡ n → are_simple x ≡ true → bytes_of (units_of (start_text n (attribute f x ∷ []))) ≡ start_with_bytes n (name_of f) x
+unfolding start_with_bytes in_bytes
+attributed n x f e h =
+    let a : Text = name_of f in
+    let text = attributed_text n a x (escaped_simple x h) in
+    let u1 : units_of (60 ∷ n) ≡ 60 ∷ n = ap (λ (us : Text). 60 ∷ us) e in
+    let u2 : units_of (32 ∷ (a ++ 61 ∷ 34 ∷ [])) ≡ 32 ∷ (a ++ 61 ∷ 34 ∷ []) = ap (λ (us : Text). 32 ∷ us) (units_of-append a (61 ∷ 34 ∷ []) ∙ ap (λ (us : Text). us ++ 61 ∷ 34 ∷ []) (units_of_name f)) in
+    let u3 : units_of x ≡ x = units_of_simple x h in
+    let front : units_of ((60 ∷ n) ++ (32 ∷ (a ++ 61 ∷ 34 ∷ []))) ≡ (60 ∷ n) ++ (32 ∷ (a ++ 61 ∷ 34 ∷ [])) = units_of-append (60 ∷ n) (32 ∷ (a ++ 61 ∷ 34 ∷ [])) ∙ joins u1 u2 in
+    let behind : units_of (x ++ (34 ∷ 62 ∷ [])) ≡ x ++ (34 ∷ 62 ∷ []) = units_of-append x (34 ∷ 62 ∷ []) ∙ ap (λ (us : Text). us ++ (34 ∷ 62 ∷ [])) u3 in
+    let whole : units_of (start_text n (attribute f x ∷ [])) ≡ ((60 ∷ n) ++ (32 ∷ (a ++ 61 ∷ 34 ∷ []))) ++ (x ++ (34 ∷ 62 ∷ [])) = ap units_of text ∙ units_of-append ((60 ∷ n) ++ (32 ∷ (a ++ 61 ∷ 34 ∷ []))) (x ++ (34 ∷ 62 ∷ [])) ∙ joins front behind in
+    let b1 : bytes_of ((60 ∷ n) ++ (32 ∷ (a ++ 61 ∷ 34 ∷ []))) ≡ bytes_of (60 ∷ n) ++ bytes_of (32 ∷ (a ++ 61 ∷ 34 ∷ [])) = flat_map-append unit_bytes (60 ∷ n) (32 ∷ (a ++ 61 ∷ 34 ∷ [])) in
+    let b2 : bytes_of (x ++ (34 ∷ 62 ∷ [])) ≡ bytes_of x ++ bytes_of (34 ∷ 62 ∷ []) = flat_map-append unit_bytes x (34 ∷ 62 ∷ []) in
+    ap bytes_of whole ∙ flat_map-append unit_bytes ((60 ∷ n) ++ (32 ∷ (a ++ 61 ∷ 34 ∷ []))) (x ++ (34 ∷ 62 ∷ [])) ∙ joins b1 b2 ∙ sym (append_assoc (bytes_of (60 ∷ n) ++ bytes_of (32 ∷ (a ++ 61 ∷ 34 ∷ []))) (bytes_of x) (bytes_of (34 ∷ 62 ∷ [])))
+
+-- a first event, and the others
+pub encoded-cons : (e : Event) (es : List Event) → encoded (e ∷ es) ≡ bytes_of (units_of (event_text e)) ++ encoded es
+unfolding encoded canonical_units
+encoded-cons e es = ap bytes_of (canonical_units-cons e es) ∙ flat_map-append unit_bytes (units_of (event_text e)) (units_of (canonical es))
+
+pub closing : (n : Text) → units_of n ≡ n → encoded (closes n ∷ []) ≡ end_bytes n
+unfolding end_bytes
+closing n e = encoded-cons (closes n) [] ∙ joins (ap bytes_of (end_units n e)) encoded-nil ∙ append-nil (bytes_of (60 ∷ 47 ∷ (n ++ 62 ∷ [])))
+
+-- an element with an attribute round what stands in it
+pub element_with_written : (n x : Text) (f : Field) (es fs : List Event) (a w1 w2 w3 : List ℕ) → units_of n ≡ n → are_simple x ≡ true → es ≡ fs
+    → w1 ≡ a ++ start_with_bytes n (name_of f) x → w2 ≡ w1 ++ encoded es → w3 ≡ w2 ++ end_bytes n → w3 ≡ a ++ encoded (element_with n (attribute f x ∷ []) fs)
+element_with_written n x f es fs a w1 w2 w3 e h same p q r =
+    let whole : encoded (element_with n (attribute f x ∷ []) es) ≡ start_with_bytes n (name_of f) x ++ (encoded es ++ end_bytes n) =
+    encoded-cons (opens n (attribute f x ∷ [])) (es ++ closes n ∷ []) ∙ joins (attributed n x f e h) (encoded-append es (closes n ∷ []) ∙ ap (λ (ys : List ℕ). encoded es ++ ys) (closing n e)) in
+    three a w1 w2 w3 (start_with_bytes n (name_of f) x) (encoded es) (end_bytes n) p q r
+    ∙ ap (λ (ys : List ℕ). a ++ ys) (append_assoc (start_with_bytes n (name_of f) x) (encoded es) (end_bytes n) ∙ sym whole ∙ ap (λ xs. encoded (element_with n (attribute f x ∷ []) xs)) same)
+
+-- two parts, one behind the other
+pub both_parts : (es fs : List Event) (a w1 w2 : List ℕ) → w1 ≡ a ++ encoded es → w2 ≡ w1 ++ encoded fs → w2 ≡ a ++ encoded (es ++ fs)
+both_parts es fs a w1 w2 p q = both_written es fs (es ++ fs) a w1 w2 refl p q

@@ -1,0 +1,6 @@
+use Rattle.std.proofs.Common.{◌≡◌, ◌++◌, take}
+use Rattle.mos_writer.specs.Encoded.{in_bytes}
+use Rattle.mos_writer.proofs.bytes.push_units.Given as goal
+
+abbrev pub invariant-loop-unit : goal.invariant-loop-unit
+invariant-loop-unit l = l.out.items ≡ l.initial.out.items ++ in_bytes (take l.unit-index l.units)

@@ -1,0 +1,13 @@
+use Rattle.std.proofs.Common.{◌≡◌, ℕ, List, ◌++◌, ap, ◌∙◌}
+use Rattle.mos_fields.specs.Fields.{name_of}
+use Rattle.mos_fields.specs.Values.{obj_type_text}
+use Rattle.mos_values.proofs.Simple.{simple_obj_type}
+use Rattle.mos_values.specs.Parts.{must}
+use Rattle.mos_writer.specs.Encoded.{word_bytes, encoded}
+use Rattle.mos_writer.proofs.EncodedLemmas.{simple_is_written, on_ok_as}
+use Rattle.mos_writer.proofs.fields.write_obj_type.Goals as goal
+
+pub returns : goal.returns
+returns c =
+    let same : word_bytes (name_of c.args.field) c.obj_type_word.result.now ≡ encoded (must c.args.field (obj_type_text c.args.obj_type)) = ap (word_bytes (name_of c.args.field)) c.obj_type_word.ensures ∙ simple_is_written c.args.field (obj_type_text c.args.obj_type) (simple_obj_type c.args.obj_type) in
+    on_ok_as c.write_word.result c.write_word.new.out.items c.args.out.now.items _ _ same c.write_word.ensures
