@@ -1,14 +1,13 @@
 -- What the scanner has read stays the same where more is held.
-use Rattle.std.proofs.Common.{◌≡◌, ℕ, ◌+◌, ◌<◌, ◌≤◌, true, List, [], ◌∷◌, ◌++◌, length, refl, sym, ap, ◌∙◌, subst, arith}
-use Rattle.std.specs.Prelude.{cond, Bool, false}
+use Rattle.std.proofs.Common.{◌≡◌, ℕ, ◌+◌, ◌≤◌, true, List, ◌∷◌, ◌++◌, length, refl, sym, ap, ◌∙◌, subst, arith}
+use Rattle.std.specs.Prelude.{cond}
 use Rattle.std.specs.List.{list_all}
 use Rattle.std.proofs.lemmas.List.{length-append}
 use Rattle.mos_fields.specs.Characters.{Text, IsUtf16, chars_of}
 use Rattle.mos_fields.specs.Names.{is_name}
-use Rattle.mos_lexer.specs.LexMachine.{Tag, in_text, text_reference, start_name, in_start, attribute_name, before_equals, before_value, in_value, value_reference, before_close, end_name, end_white, in_tail}
-use Rattle.mos_scanner.specs.Parts.{part}
+use Rattle.mos_lexer.specs.LexMachine.{Tag, start_name, end_name, end_white}
 use Rattle.mos_scanner.specs.References.{is_ascii, IsAt}
-use Rattle.mos_scanner.specs.ScannerView.{raw_of, tag_of, given_name, raw_name, resolved_units, state_of, IsNameIn, IsTextIn, IsOpenTag, IsGiven, IsValued, IsReferring, IsBegun, IsInText, IsInTextReference, IsInTag, IsInStartName, IsInAttributeName, IsInValue, IsInValueReference, IsInEndName, IsInEndWhite, IsInTail, IsSoundAt}
+use Rattle.mos_scanner.specs.ScannerView.{raw_of, tag_of, resolved_units, state_of, IsNameIn, IsTextIn, IsOpenTag, IsGiven, IsValued, IsReferring, IsSoundAt}
 use Rattle.mos_scanner.specs.declared.mode.Mode.{Mode}
 use Rattle.mos_scanner.specs.declared.mode.Mode.TheVariants.{Begin, InText, TextReference, InTag, StartName, InStart, AttributeName, BeforeEquals, BeforeValue, InValue, ValueReference, BeforeClose, EndName, EndWhite, InTail, BeforeXml, BeforeMl, BeforeL, AfterXml, InDeclaration}
 use Rattle.mos_scanner.specs.declared.scanner.Scanner.{Scanner}
@@ -45,7 +44,7 @@ module _ (held more : List ℕ) where
         ascii = ap (list_all is_ascii) e ∙ t.ascii;
         onward = t.onward;
         within = within_more here t.within;
-        resolving = t.resolving
+        resolving = t.resolving;
       }
 
   pub sound_held : (m : Mode) (s : Scanner) (here : ℕ) → IsSoundAt m s held here → IsSoundAt m s (held ++ more) here
@@ -56,29 +55,29 @@ module _ (held more : List ℕ) where
       let b = t.begun in
       record { is = part-append held more s.start here (omega arith) t.within ∙ t.is; begun = t.begun; within = within_more here t.within }
   sound_held StartName s here t = record {
-      name = name_held (s.start + 1) here t.name;
-      whole = text_held s.start here t.whole;
-      begins = part-append held more s.start here t.whole.onward t.whole.within ∙ (t.begins ∙ ap (λ z. 60 ∷ z) (sym (part-append held more (s.start + 1) here t.name.onward t.name.within)));
-      none = t.none
-    }
+    name = name_held (s.start + 1) here t.name;
+    whole = text_held s.start here t.whole;
+    begins = part-append held more s.start here t.whole.onward t.whole.within ∙ (t.begins ∙ ap (λ z. 60 ∷ z) (sym (part-append held more (s.start + 1) here t.name.onward t.name.within)));
+    none = t.none;
+  }
   sound_held (InStart spaced) s here t = open_held s.start s.name_end here t
   sound_held AttributeName s here t = record { tag = open_held s.start s.name_end here t.tag; name = name_held s.attribute_start here t.name }
   sound_held BeforeEquals s here t = given_held s.start s.name_end s.attribute_start s.attribute_end here t
   sound_held BeforeValue s here t = given_held s.start s.name_end s.attribute_start s.attribute_end here t
   sound_held InValue s here t = record {
-      valued = valued_held s.start s.name_end s.attribute_start s.attribute_end s.value_start s.quote here t.valued;
-      resolving = subst IsUtf16 (sym (resolved_held s s.value_start here t.valued.value.onward t.valued.value.within)) t.resolving
-    }
+    valued = valued_held s.start s.name_end s.attribute_start s.attribute_end s.value_start s.quote here t.valued;
+    resolving = subst IsUtf16 (sym (resolved_held s s.value_start here t.valued.value.onward t.valued.value.within)) t.resolving;
+  }
   sound_held ValueReference s here t = record {
-      valued = valued_held s.start s.name_end s.attribute_start s.attribute_end s.value_start s.quote here t.valued;
-      referring = referring_held s here t.referring
-    }
+    valued = valued_held s.start s.name_end s.attribute_start s.attribute_end s.value_start s.quote here t.valued;
+    referring = referring_held s here t.referring;
+  }
   sound_held BeforeClose s here t = open_held s.start s.name_end here t
   sound_held EndName s here t = record {
-      onward = t.onward;
-      within = within_more here t.within;
-      name = λ h. subst (λ z. is_name z ≡ true) (sym (part-append held more (s.start + 2) here t.onward t.within)) (t.name h)
-    }
+    onward = t.onward;
+    within = within_more here t.within;
+    name = λ h. subst (λ z. is_name z ≡ true) (sym (part-append held more (s.start + 2) here t.onward t.within)) (t.name h);
+  }
   sound_held EndWhite s here t = record { name = name_held (s.start + 2) s.name_end t.name; onward = t.onward }
   sound_held InTail s here t = record { name = name_held s.raw_start s.raw_end t.name; whole = text_held s.start here t.whole }
   sound_held BeforeXml s here t = tt
@@ -90,8 +89,8 @@ module _ (held more : List ℕ) where
   open_tag_held : (s : Scanner) (here : ℕ) → IsOpenTag held s.start s.name_end here → tag_of s (held ++ more) ≡ tag_of s held
   open_tag_held s here t = ap with_name (part-append held more (s.start + 1) s.name_end t.name.onward t.name.within)
     where
-    with_name : Text → Tag
-    with_name n = record { name = n; given = s.attributes.items }
+      with_name : Text → Tag
+      with_name n = record { name = n; given = s.attributes.items }
 
   raw_held : (s : Scanner) (here : ℕ) → IsTextIn held s.start here → raw_of s (held ++ more) here ≡ raw_of s held here
   raw_held s here t = ap chars_of (part-append held more s.start here t.onward t.within)

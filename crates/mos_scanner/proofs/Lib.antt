@@ -10,3 +10,4 @@ pub mod NumberLemmas
 pub mod HeldLemmas
 pub mod RunLemmas
 pub mod RunSteps
+pub mod UnitLemmas

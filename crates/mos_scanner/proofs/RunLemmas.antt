@@ -1,6 +1,6 @@
 -- A run is the same as a step for each of its characters.
-use Rattle.std.proofs.Common.{◌≡◌, ℕ, zero, suc, ◌+◌, ◌-◌, ◌<◌, ◌≤◌, Bool, true, false, cond, ◌&&◌, List, [], ◌∷◌, ◌++◌, length, take, drop, get_or, refl, sym, ap, ◌∙◌, subst, arith, append_assoc, length-drop, ne_eqb, eq-eqb}
-use Rattle.std.specs.Prelude.{Option, Some, None, ◌==◌, not, nat_le, nat_lt}
+use Rattle.std.proofs.Common.{◌≡◌, ℕ, zero, suc, ◌+◌, ◌-◌, ◌<◌, ◌≤◌, Bool, true, false, ◌&&◌, List, [], ◌∷◌, ◌++◌, length, take, drop, get_or, refl, sym, ap, ◌∙◌, subst, arith, append_assoc, length-drop, ne_eqb, eq-eqb}
+use Rattle.std.specs.Prelude.{Some, ◌==◌, not, nat_lt}
 use Rattle.std.specs.List.{list_all}
 use Rattle.std.specs.Char.Escape.{encode_utf16}
 use Rattle.std.proofs.lemmas.Bool.{both_ways, and_parts, and_from, lt-ltb, and_left, and_right}
@@ -11,16 +11,13 @@ use Rattle.std.proofs.lemmas.List.Folds.{list_all-append}
 use Rattle.mos_fields.specs.Characters.{Text, IsUtf16, chars_of, units_of, is_allowed, are_allowed}
 use Rattle.mos_fields.specs.Forms.{is_white}
 use Rattle.mos_fields.specs.Names.{is_empty, is_name, is_further, may_grow}
-use Rattle.mos_fields.specs.Raw.{end_text, ends_with}
 use Rattle.mos_lexer.specs.Lexing.{byte_order_mark}
-use Rattle.mos_lexer.specs.LexMachine.{Tag, LexState, in_text, in_tail, in_value, start_name, end_name, lex_step}
+use Rattle.mos_lexer.specs.LexMachine.{Tag, in_text, in_tail, in_value, start_name, end_name}
 use Rattle.mos_scanner.specs.Parts.{part}
-use Rattle.mos_scanner.specs.Runs.{is_lone, is_plain_but, goes_on, lex_run, IsRun}
-use Rattle.mos_scanner.specs.ScannerView.{raw_of, resolved, resolved_units, tag_of, given_name, raw_name, state_of, IsNameIn, IsTextIn, IsOpenTag, IsGiven, IsValued, IsInText, IsSoundAt}
-use Rattle.mos_scanner.specs.declared.mode.Mode.TheVariants.{InText, InTail, InValue, StartName, EndName}
-use Rattle.mos_scanner.specs.declared.scanner.Scanner.{Scanner}
+use Rattle.mos_scanner.specs.Runs.{is_lone, is_plain_but, goes_on, lex_run}
+use Rattle.mos_scanner.specs.ScannerView.{IsTextIn}
 use Rattle.mos_scanner.proofs.CharacterLemmas.{one_unit, chars_of-units_of, IsUtf16-units_of}
-use Rattle.mos_scanner.proofs.PartLemmas.{part_split, length-part, name_push}
+use Rattle.mos_scanner.proofs.PartLemmas.{part_split, name_push}
 use Rattle.mos_scanner.proofs.EndLemmas.{end_without_mark}
 use Rattle.mos_scanner.proofs.LexSteps.{text_more, tail_more, value_more, name_more, end_more}
 
@@ -34,7 +31,7 @@ all_front p (suc n) (x ∷ s) h f = and_from (p x) (list_all p (take n s)) (f 0 
 pub all_part : (p : ℕ → Bool) (held : List ℕ) (a b : ℕ) → a ≤ b → b ≤ length held → ((k : ℕ) → a ≤ k → k < b → p (get_or held k 0) ≡ true) → list_all p (part held a b) ≡ true
 all_part p held a b o w f =
     all_front p (b - a) (drop a held) (let l = length-drop a held in omega (arith, l, o, w))
-      (λ k lt. ap p (get_or-drop a held k 0) ∙ f (a + k) (omega arith) (omega (arith, lt, o)))
+    (λ k lt. ap p (get_or-drop a held k 0) ∙ f (a + k) (omega arith) (omega (arith, lt, o)))
 
 all_weaker : (p q : ℕ → Bool) → ((c : ℕ) → p c ≡ true → q c ≡ true) → (x : Text) → list_all p x ≡ true → list_all q x ≡ true
 all_weaker p q f [] e = refl
@@ -62,11 +59,11 @@ pub record GrowsBy (us vs : List ℕ) (x : Text) : Type 0 where
 pub lone_grow : (us x : List ℕ) → IsUtf16 us → list_all is_lone x ≡ true → GrowsBy us (us ++ x) x
 lone_grow us x w a =
     let e : units_of (chars_of us ++ x) ≡ us ++ x =
-        flat_map-append encode_utf16 (chars_of us) x ∙ (ap (λ z. z ++ units_of x) w.round_trip ∙ ap (λ z. us ++ z) (lone_units x a)) in
+    flat_map-append encode_utf16 (chars_of us) x ∙ (ap (λ z. z ++ units_of x) w.round_trip ∙ ap (λ z. us ++ z) (lone_units x a)) in
     let f : are_allowed (chars_of us ++ x) ≡ true = list_all-append is_allowed (chars_of us) x ∙ and_from (are_allowed (chars_of us)) (are_allowed x) w.allowed (all_weaker is_lone is_allowed lone_allowed x a) in
     record {
       chars = subst (λ z. chars_of z ≡ chars_of us ++ x) e (chars_of-units_of (chars_of us ++ x) f);
-      text = subst IsUtf16 e (IsUtf16-units_of (chars_of us ++ x) f)
+      text = subst IsUtf16 e (IsUtf16-units_of (chars_of us ++ x) f);
     }
 
 pub text_run : (held : List ℕ) (a here next : ℕ) → IsTextIn held a here → here ≤ next → list_all is_lone (part held here next) ≡ true → GrowsBy (part held a here) (part held a next) (part held here next)
@@ -104,8 +101,8 @@ no_mark o c raw e = and_left (o && (c == byte_order_mark)) (is_white raw) (and_r
 pub run_text : (o : Bool) (raw y x : Text) → list_all (is_plain_but 60 38 38) x ≡ true → lex_run o (in_text raw y) x ≡ Some (in_text (raw ++ x) (y ++ x))
 run_text o raw y [] e = ap Some (both_nil)
   where
-  both_nil : in_text raw y ≡ in_text (raw ++ []) (y ++ [])
-  both_nil = sym (ap (λ z. in_text z (y ++ [])) (append-nil raw) ∙ ap (in_text raw) (append-nil y))
+    both_nil : in_text raw y ≡ in_text (raw ++ []) (y ++ [])
+    both_nil = sym (ap (λ z. in_text z (y ++ [])) (append-nil raw) ∙ ap (in_text raw) (append-nil y))
 run_text o raw y (c ∷ x) e =
     let h = and_parts (is_plain_but 60 38 38 c) (list_all (is_plain_but 60 38 38) x) e in
     let p = plain 60 38 38 c h.0 in
@@ -115,16 +112,19 @@ run_text o raw y (c ∷ x) e =
 last_is : (x a : Text) (c d : ℕ) → x ++ c ∷ [] ≡ a ++ d ∷ [] → c ≡ d
 last_is x a c d e = sym (last-push x c) ∙ (ap last e ∙ last-push a d)
   where
-  last_from : ℕ → Text → ℕ
-  last_from k [] = k
-  last_from k (c ∷ cs) = last_from c cs
-  last : Text → ℕ
-  last x = last_from 0 x
-  from-push : (k : ℕ) (x : Text) (c : ℕ) → last_from k (x ++ c ∷ []) ≡ c
-  from-push k [] c = refl
-  from-push k (b ∷ x) c = from-push b x c
-  last-push : (x : Text) (c : ℕ) → last (x ++ c ∷ []) ≡ c
-  last-push x c = from-push 0 x c
+    last_from : ℕ → Text → ℕ
+    last_from k [] = k
+    last_from k (c ∷ cs) = last_from c cs
+
+    last : Text → ℕ
+    last x = last_from 0 x
+
+    from-push : (k : ℕ) (x : Text) (c : ℕ) → last_from k (x ++ c ∷ []) ≡ c
+    from-push k [] c = refl
+    from-push k (b ∷ x) c = from-push b x c
+
+    last-push : (x : Text) (c : ℕ) → last (x ++ c ∷ []) ≡ c
+    last-push x c = from-push 0 x c
 
 pub run_tail : (o : Bool) (n y x : Text) → list_all (is_plain_but 62 62 62) x ≡ true → lex_run o (in_tail n y) x ≡ Some (in_tail n (y ++ x))
 run_tail o n y [] e = ap (λ z. Some (in_tail n z)) (sym (append-nil y))

@@ -70,7 +70,9 @@ fn pair_at(held: &[u16], here: usize) -> Character
 {
     let low = held[here + 1];
     if is_low(low) {
-        match char::from_u32(0x10000 + (u32::from(held[here]) - 0xD800) * 0x400 + (u32::from(low) - 0xDC00)) {
+        match char::from_u32(
+            0x10000 + (u32::from(held[here]) - 0xD800) * 0x400 + (u32::from(low) - 0xDC00),
+        ) {
             None => Character::Forbidden,
             Some(c) => Character::Whole(c, here + 2),
         }

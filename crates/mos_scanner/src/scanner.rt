@@ -189,6 +189,5 @@ impl Scanner {
         requires { IsSound self.now held.now here }
         ensures state { lex_of self.now (held.now ++ more.now) here ≡ lex_of self.now held.now here }
         ensures sound { IsSound self.now (held.now ++ more.now) here }
-    {
-    }
+    {}
 }

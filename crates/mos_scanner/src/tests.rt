@@ -19,7 +19,13 @@ fn push(out: &mut Vec<u16>, letter: u8, text: &[u16]) -> Result<(), NoMemory> {
 }
 
 /// Appends a tag.
-fn push_tag(out: &mut Vec<u16>, letter: u8, name: &[u16], attributes: &[mos_tokens::Attribute], raw: &[u16]) -> Result<(), NoMemory> {
+fn push_tag(
+    out: &mut Vec<u16>,
+    letter: u8,
+    name: &[u16],
+    attributes: &[mos_tokens::Attribute],
+    raw: &[u16],
+) -> Result<(), NoMemory> {
     push(out, letter, name)?;
     for attribute in attributes {
         push(out, b'a', attribute.name().units())?;
@@ -77,7 +83,12 @@ fn trace(alloc: Global, stream: &str, outside: bool, runs: bool) -> Result<Vec<u
 }
 
 /// The same for code units.
-fn trace_units(alloc: Global, held: &[u16], outside: bool, runs: bool) -> Result<Vec<u16>, NoMemory> {
+fn trace_units(
+    alloc: Global,
+    held: &[u16],
+    outside: bool,
+    runs: bool,
+) -> Result<Vec<u16>, NoMemory> {
     let mut scanner = Scanner::new(alloc);
     let mut out = Vec::new(alloc);
     let mut here = 0;
@@ -139,16 +150,44 @@ fn has(alloc: Global, stream: &str, outside: bool, tokens: &str) -> Result<bool,
 #[test]
 fn tags_and_texts_are_tokens(rt: HostRuntime) -> Result<(), Fail> {
     let alloc = rt.alloc();
-    assert!(rt; has(alloc, "<a>one</a ><b c = 'd&lt;e' f=\"g\"/>\u{1D11E}x<z", false, "Oa|w<a>|Tone|wone|Ca|Eb|ac|=d<e|af|=g|w<b c = 'd&lt;e' f=\"g\"/>|T\u{1D11E}x|w\u{1D11E}x|")?);
-    assert!(rt; has(alloc, "<long-name.of:an_Element>a text of more than sixteen characters</long-name.of:an_Element>", false, "Olong-name.of:an_Element|w<long-name.of:an_Element>|Ta text of more than sixteen characters|wa text of more than sixteen characters|Clong-name.of:an_Element|")?);
+    assert!(rt;
+        has(
+            alloc,
+            "<a>one</a ><b c = 'd&lt;e' f=\"g\"/>\u{1D11E}x<z",
+            false,
+            "Oa|w<a>|Tone|wone|Ca|Eb|ac|=d<e|af|=g|w<b c = 'd&lt;e' f=\"g\"/>|T\u{1D11E}x|w\u{1D11E}x|"
+        )?
+    );
+    assert!(rt;
+        has(
+            alloc,
+            "<long-name.of:an_Element>a text of more than sixteen characters</long-name.of:an_Element>",
+            false,
+            "Olong-name.of:an_Element|w<long-name.of:an_Element>|Ta text of more than sixteen characters|wa text of more than sixteen characters|Clong-name.of:an_Element|"
+        )?
+    );
     Ok(())
 }
 
 #[test]
 fn references_stand_for_characters(rt: HostRuntime) -> Result<(), Fail> {
     let alloc = rt.alloc();
-    assert!(rt; has(alloc, "&lt;&gt;&amp;&quot;&apos;&#65;&#x1d11E;x<", false, "T<>&\"'A\u{1D11E}x|w&lt;&gt;&amp;&quot;&apos;&#65;&#x1d11E;x|")?);
-    assert!(rt; has(alloc, "a&#9;&#00000010;&#x10FFFF;<", false, "Ta\t\n\u{10FFFF}|wa&#9;&#00000010;&#x10FFFF;|")?);
+    assert!(rt;
+        has(
+            alloc,
+            "&lt;&gt;&amp;&quot;&apos;&#65;&#x1d11E;x<",
+            false,
+            "T<>&\"'A\u{1D11E}x|w&lt;&gt;&amp;&quot;&apos;&#65;&#x1d11E;x|"
+        )?
+    );
+    assert!(rt;
+        has(
+            alloc,
+            "a&#9;&#00000010;&#x10FFFF;<",
+            false,
+            "Ta\t\n\u{10FFFF}|wa&#9;&#00000010;&#x10FFFF;|"
+        )?
+    );
     Ok(())
 }
 
@@ -168,7 +207,14 @@ fn no_other_references_are_read(rt: HostRuntime) -> Result<(), Fail> {
 #[test]
 fn raw_elements_end_at_their_first_end_tag(rt: HostRuntime) -> Result<(), Fail> {
     let alloc = rt.alloc();
-    assert!(rt; has(alloc, "<r>a<b></r ></R>&\u{FEFF}</r></r>", false, "Or|w<r>|Ra<b></r ></R>&\u{FEFF}</r>|Cr|")?);
+    assert!(rt;
+        has(
+            alloc,
+            "<r>a<b></r ></R>&\u{FEFF}</r></r>",
+            false,
+            "Or|w<r>|Ra<b></r ></R>&\u{FEFF}</r>|Cr|"
+        )?
+    );
     assert!(rt; has(alloc, "<r/>x<", false, "Er|w<r/>|Tx|wx|")?);
     Ok(())
 }
@@ -176,7 +222,14 @@ fn raw_elements_end_at_their_first_end_tag(rt: HostRuntime) -> Result<(), Fail> 
 #[test]
 fn marks_and_declarations_stand_outside(rt: HostRuntime) -> Result<(), Fail> {
     let alloc = rt.alloc();
-    assert!(rt; has(alloc, "\u{FEFF}<?xml version='1.0'?>\n\u{FEFF}<a>", true, "M|D|T\n|w\n|M|Oa|w<a>|")?);
+    assert!(rt;
+        has(
+            alloc,
+            "\u{FEFF}<?xml version='1.0'?>\n\u{FEFF}<a>",
+            true,
+            "M|D|T\n|w\n|M|Oa|w<a>|"
+        )?
+    );
     assert!(rt; has(alloc, "x\u{FEFF}<", true, "Tx\u{FEFF}|wx\u{FEFF}|")?);
     assert!(rt; has(alloc, "\u{FEFF}<", false, "T\u{FEFF}|w\u{FEFF}|")?);
     Ok(())
