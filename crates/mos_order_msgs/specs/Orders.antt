@@ -1,5 +1,7 @@
 -- Which messages are about running orders.
-use Rattle.std.specs.Prelude.{Bool, true, false}
+use Rattle.std.specs.Prelude.{Bool, true, false, List, [], if◌then◌else◌}
+use Rattle.mos_tables.specs.Events.{Event}
+use Rattle.mos_values.specs.MessageViews.{message_events}
 use Rattle.mos_values.specs.declared.message.Message.{Message}
 use Rattle.mos_values.specs.declared.message.Message.TheVariants as messages
 
@@ -19,3 +21,7 @@ is_order (messages.RoReadyToAir ro air) = true
 is_order (messages.RoAck ack) = true
 is_order (messages.RoStorySend story) = true
 is_order m = false
+
+-- its element; nothing for a message of another kind
+abbrev pub order_events : Message → List Event
+order_events m = if is_order m then message_events m else []

@@ -2,4 +2,7 @@
 #![tactic(auto)]
 
 mod action;
+mod messages;
 mod records;
+
+pub use messages::write_order;

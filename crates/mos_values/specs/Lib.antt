@@ -7,3 +7,4 @@ pub mod Views
 pub mod MessageViews
 pub mod Units
 pub mod Pieces
+pub mod Sound

@@ -1,5 +1,5 @@
 -- The bytes of code units, part by part.
-use Rattle.std.proofs.Common.{Ok, Err, ◌≡◌, ℕ, ◌+◌, ◌*◌, ◌/◌, ◌%◌, ◌^◌, ◌<◌, ◌≤◌, true, List, [], ◌∷◌, ◌++◌, length, map, take, get_or, refl, sym, ap, subst, ◌∙◌, append_assoc, arith}
+use Rattle.std.proofs.Common.{Ok, Err, Bool, true, false, ◌≡◌, ℕ, ◌+◌, ◌*◌, ◌/◌, ◌%◌, ◌^◌, ◌<◌, ◌≤◌, List, [], ◌∷◌, ◌++◌, length, map, take, get_or, refl, sym, ap, subst, ◌∙◌, append_assoc, arith}
 use Rattle.std.specs.List.{flat_map}
 use Rattle.std.proofs.lemmas.List.{append-nil, take_more}
 use Rattle.std.proofs.lemmas.List.Concat.{flat_map-append, flat_map-cons}
@@ -10,15 +10,22 @@ use Rattle.std.specs.declared.alloc.AllocError.{AllocError}
 use Rattle.mos_values.specs.declared.piece.Piece.{Piece}
 use Rattle.mos_values.specs.Pieces.{piece_events, pieces_events}
 use Rattle.std.proofs.lemmas.Fmt.{decimal_digit, decimal_step}
-use Rattle.mos_fields.specs.Values.{day_text, clock_text, millis_text, zone_text, time_text}
+use Rattle.mos_fields.specs.Values.{level_text, operation_text, day_text, clock_text, millis_text, zone_text, time_text}
 use Rattle.mos_fields.specs.declared.time.MosTime.{MosTime}
+use Rattle.mos_fields.specs.declared.level.Level.{Level}
+use Rattle.mos_fields.specs.declared.level.Level.TheVariants as levels
+use Rattle.mos_fields.specs.declared.operation.Operation.{Operation}
+use Rattle.mos_fields.specs.declared.operation.Operation.TheVariants as operations
+use Rattle.mos_values.specs.Views.{answer_text, device_type_text}
+use Rattle.mos_values.specs.declared.profile.DeviceType.{DeviceType}
+use Rattle.mos_values.specs.declared.profile.DeviceType.TheVariants.{Ncs, Mos}
 use Rattle.mos_values.proofs.Simple.{are_simple, simple_is, escaped_simple, units_of_simple}
 use Rattle.mos_fields.specs.Characters.{Text, unit_bytes, bytes_of, units_of}
 use Rattle.mos_fields.specs.Escapes.{escaped_char, escaped}
 use Rattle.mos_fields.specs.Raw.{end_text}
 use Rattle.mos_fields.specs.declared.field.Field.{Field}
 use Rattle.mos_fields.specs.Fields.{name_of}
-use Rattle.mos_tables.specs.Events.{Event, leaf, raw, opens, closes}
+use Rattle.mos_tables.specs.Events.{Attribute, Event, leaf, raw, opens, closes}
 use Rattle.mos_tables.specs.Canonical.{canonical, event_text, start_text}
 use Rattle.mos_values.specs.Parts.{must, must_raw, raws, attribute, element, element_with}
 use Rattle.mos_values.specs.Units.{canonical_units}
@@ -267,3 +274,65 @@ element_with_written n x f es fs a w1 w2 w3 e h same p q r =
 -- two parts, one behind the other
 pub both_parts : (es fs : List Event) (a w1 w2 : List ℕ) → w1 ≡ a ++ encoded es → w2 ≡ w1 ++ encoded fs → w2 ≡ a ++ encoded (es ++ fs)
 both_parts es fs a w1 w2 p q = both_written es fs (es ++ fs) a w1 w2 refl p q
+
+-- ---- words of attributes
+
+pub simple_level : (l : Level) → are_simple (level_text l) ≡ true
+unfolding are_simple
+simple_level levels.Ro = refl
+simple_level levels.Story = refl
+simple_level levels.Item = refl
+
+pub simple_operation : (o : Operation) → are_simple (operation_text o) ≡ true
+unfolding are_simple
+simple_operation operations.Insert = refl
+simple_operation operations.Replace = refl
+simple_operation operations.Move = refl
+simple_operation operations.Delete = refl
+simple_operation operations.Swap = refl
+
+-- the start tag, by what the names and words are
+pub started : (w a : List ℕ) (n f v x y : Text) → f ≡ v → x ≡ y → w ≡ a ++ start_with_bytes n f x → w ≡ a ++ start_with_bytes n v y
+started w a n f v x y p q r = cc
+
+pub simple_answer : (b : Bool) → are_simple (answer_text b) ≡ true
+unfolding are_simple
+simple_answer true = refl
+simple_answer false = refl
+
+pub simple_device_type : (t : DeviceType) → are_simple (device_type_text t) ≡ true
+unfolding are_simple
+simple_device_type Ncs = refl
+simple_device_type Mos = refl
+
+-- a field with an attribute and a word
+pub leaf_with_written : (n v x : Text) (f : Field) (a w1 w2 w3 : List ℕ) → units_of n ≡ n → are_simple v ≡ true → are_simple x ≡ true
+    → w1 ≡ a ++ start_with_bytes n (name_of f) v → w2 ≡ w1 ++ in_bytes x → w3 ≡ w2 ++ end_bytes n → w3 ≡ a ++ encoded (leaf n (attribute f v ∷ []) x ∷ [])
+unfolding in_bytes end_bytes
+leaf_with_written n v x f a w1 w2 w3 e h k p q r =
+    let g : List Attribute = attribute f v ∷ [] in
+    let u : units_of (start_text n g ++ escaped x ++ end_text n) ≡ (units_of (start_text n g) ++ units_of (escaped x)) ++ units_of (end_text n) = units_of-append (start_text n g ++ escaped x) (end_text n) ∙ ap (λ (us : List ℕ). us ++ units_of (end_text n)) (units_of-append (start_text n g) (escaped x)) in
+    let b : bytes_of ((units_of (start_text n g) ++ units_of (escaped x)) ++ units_of (end_text n)) ≡ (bytes_of (units_of (start_text n g)) ++ bytes_of (units_of (escaped x))) ++ bytes_of (units_of (end_text n)) = flat_map-append unit_bytes (units_of (start_text n g) ++ units_of (escaped x)) (units_of (end_text n)) ∙ ap (λ (ys : List ℕ). ys ++ bytes_of (units_of (end_text n))) (flat_map-append unit_bytes (units_of (start_text n g)) (units_of (escaped x))) in
+    let middle : bytes_of (units_of (escaped x)) ≡ bytes_of x = ap bytes_of (ap units_of (escaped_simple x k) ∙ units_of_simple x k) in
+    let whole : encoded (leaf n g x ∷ []) ≡ (start_with_bytes n (name_of f) v ++ bytes_of x) ++ bytes_of (60 ∷ 47 ∷ (n ++ 62 ∷ [])) =
+    encoded-cons (leaf n g x) [] ∙ ap (λ (ys : List ℕ). bytes_of (units_of (start_text n g ++ escaped x ++ end_text n)) ++ ys) encoded-nil ∙ append-nil (bytes_of (units_of (start_text n g ++ escaped x ++ end_text n)))
+    ∙ ap bytes_of u ∙ b ∙ joins (joins (attributed n v f e h) middle) (ap bytes_of (end_units n e)) in
+    three a w1 w2 w3 (start_with_bytes n (name_of f) v) (bytes_of x) (bytes_of (60 ∷ 47 ∷ (n ++ 62 ∷ []))) p q r ∙ ap (λ (ys : List ℕ). a ++ ys) (sym whole)
+
+-- the parts, by what the names and words are
+pub worded : (w a : List ℕ) (x y : Text) → x ≡ y → w ≡ a ++ in_bytes x → w ≡ a ++ in_bytes y
+worded w a x y p q = cc
+
+pub ended : (w a : List ℕ) (n m : Text) → n ≡ m → w ≡ a ++ end_bytes n → w ≡ a ++ end_bytes m
+ended w a n m p q = cc
+
+pub started_named : (w a : List ℕ) (n m f v x y : Text) → n ≡ m → f ≡ v → x ≡ y → w ≡ a ++ start_with_bytes n f x → w ≡ a ++ start_with_bytes m v y
+started_named w a n m f v x y o p q r = cc
+
+-- the same events under another name
+pub renamed : (w a : List ℕ) (es fs : List Event) → es ≡ fs → w ≡ a ++ encoded es → w ≡ a ++ encoded fs
+renamed w a es fs p q = q ∙ ap (λ xs. a ++ encoded xs) p
+
+-- an element round two parts
+pub element_of_parts : (n : Text) (es fs : List Event) (a w1 w2 w3 w4 : List ℕ) → units_of n ≡ n → w1 ≡ a ++ start_bytes n → w2 ≡ w1 ++ encoded es → w3 ≡ w2 ++ encoded fs → w4 ≡ w3 ++ end_bytes n → w4 ≡ a ++ encoded (element n (es ++ fs))
+element_of_parts n es fs a w1 w2 w3 w4 e p q r s = element_written n (es ++ fs) (es ++ fs) a w1 w3 w4 e refl p (both_parts es fs w1 w2 w3 q r) s

@@ -11,4 +11,6 @@ pub use fields::{
     close, open, push_end, push_start, push_start_with, push_word, write_air, write_id,
     write_number, write_opt_id, write_pieces, write_raw, write_slug, write_text, write_time,
 };
-pub use values::{answer_word, device_type_word, level_word, operation_word, push_decimal};
+pub use values::{
+    answer_word, device_type_word, digit_word, level_word, operation_word, push_decimal,
+};

@@ -1,5 +1,5 @@
 //! The canonical texts of numbers, times and words.
-ghost use Rattle.std.specs.Prelude.{◌≡◌, ◌++◌, OnOk};
+ghost use Rattle.std.specs.Prelude.{◌≡◌, ◌≤◌, ◌++◌, OnOk};
 ghost use Rattle.std.specs.Fmt.{decimal};
 ghost use Rattle.mos_fields.specs.Values.{air_text, clock_text, day_text, level_text, millis_text, obj_type_text, operation_text, time_text, zone_text};
 ghost use Rattle.mos_values.specs.Views.{ack_status_text, answer_text, device_type_text};
@@ -193,4 +193,24 @@ pub fn answer_word(answer: bool) -> &'static str
     ensures { result.now ≡ answer_text answer }
 {
     if answer { "YES" } else { "NO" }
+}
+
+/// A digit.
+#[tactic(auto, using(std::proofs::lemmas::Fmt::decimal_digit))]
+pub fn digit_word(n: u8) -> &'static str
+    requires { n ≤ 9 }
+    ensures { result.now ≡ decimal n }
+{
+    match n {
+        0 => "0",
+        1 => "1",
+        2 => "2",
+        3 => "3",
+        4 => "4",
+        5 => "5",
+        6 => "6",
+        7 => "7",
+        8 => "8",
+        _ => "9",
+    }
 }

@@ -1,0 +1,7 @@
+use Rattle.std.proofs.Common.{codes, refl, ap}
+use Rattle.mos_values.specs.Views.{objects_events}
+use Rattle.mos_writer.proofs.EncodedLemmas.{element_written}
+use Rattle.mos_object_msgs.proofs.messages.write_mos_obj.Goals as goal
+
+pub returns : goal.returns
+returns c = element_written (codes "mosObj") _ _ c.args.out.now.items _ _ _ refl c.mos_obj_pieces.ensures c.in_ok-push_start.ensures c.in_ok-write_pieces.ensures c.in_ok-push_end.ensures

@@ -1,0 +1,7 @@
+//! The messages about machines and media objects: Profiles 0 and 1 of MOS Protocol 2.8.5.
+#![tactic(auto)]
+
+mod machines;
+mod messages;
+
+pub use messages::write_object;

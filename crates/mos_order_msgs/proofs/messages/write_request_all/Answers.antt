@@ -1,0 +1,6 @@
+use Rattle.std.proofs.Common.{codes, refl, []}
+use Rattle.mos_writer.proofs.EncodedLemmas.{element_written, appends_nothing}
+use Rattle.mos_order_msgs.proofs.messages.write_request_all.Goals as goal
+
+pub returns : goal.returns
+returns c = element_written (codes "roReqAll") [] [] c.args.out.now.items _ _ _ refl refl c.in_ok-push_start.ensures (appends_nothing _) c.in_ok-push_end.ensures
