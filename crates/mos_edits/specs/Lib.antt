@@ -1,0 +1,4 @@
+pub mod Texts
+pub mod KeyedLists
+pub mod Actions
+pub mod Orders
