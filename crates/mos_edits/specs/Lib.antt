@@ -2,3 +2,5 @@ pub mod Texts
 pub mod KeyedLists
 pub mod Actions
 pub mod Orders
+pub mod Sizes
+pub mod Entries
