@@ -1,0 +1,4 @@
+pub mod Messages
+pub mod Server
+pub mod Device
+pub mod Steps
