@@ -1,0 +1,117 @@
+-- The journal grows by one entry.
+use Rattle.std.proofs.Common.{◌≡◌, ℕ, zero, suc, ◌+◌, ◌<◌, ◌≤◌, List, [], ◌∷◌, ◌++◌, length, map, take, get_or, slice_get, Bool, true, false, Option, Some, None, arith, refl, if◌then◌else◌, sym, ap, ◌∙◌, subst, inl, inr}
+use Rattle.std.proofs.lemmas.List.{length-append, length-map}
+use Rattle.std.proofs.Math.Seq.{take-length}
+use Rattle.std.proofs.lemmas.Bool.{cases_lt}
+use Rattle.mos_edits.specs.Texts.{Text, same_id}
+use Rattle.mos_edits.specs.Orders.{Order, Edit, apply}
+use Rattle.mos_edits.specs.Entries.{Kind, kind, result_or, Entry, entries, entry_count, edit_at, order_at, order_now, order_after, order_from, acceptance, refusal, over_limit}
+use Rattle.mos_edits.specs.KeyedLists.{Applied}
+use Rattle.mos_edits.specs.Orders.Edit.{NotReady}
+use Rattle.mos_edits.specs.KeyedLists.Applied.{Done, Fault}
+use Rattle.world_laws.proofs.Keeps.{Grows}
+use Rattle.world_laws.proofs.Journals.{same-true, same-self, JournalOk}
+
+abbrev last_if : Bool → Edit → List Edit
+last_if true c = c ∷ []
+last_if false c = []
+
+entries_push : (journal : List Entry) (e : Entry) (r : Text) → entries r (journal ++ e ∷ []) ≡ entries r journal ++ last_if (same_id r e.ro) e.edit
+entries_push [] e r = one (same_id r e.ro)
+  where
+    one : (b : Bool) → (if b then e.edit ∷ [] else []) ≡ last_if b e.edit
+    one true = refl
+    one false = refl
+entries_push (x ∷ xs) e r = step (same_id r x.ro) (entries_push xs e r)
+  where
+    step : (b : Bool) → entries r (xs ++ e ∷ []) ≡ entries r xs ++ last_if (same_id r e.ro) e.edit → (if b then x.edit ∷ entries r (xs ++ e ∷ []) else entries r (xs ++ e ∷ [])) ≡ (if b then x.edit ∷ entries r xs else entries r xs) ++ last_if (same_id r e.ro) e.edit
+    step true h = ap (λ (cs : List Edit). x.edit ∷ cs) h
+    step false h = h
+
+order_push : (r : Text) (o : Option Order) (cs : List Edit) (c : Edit) → order_from r o (cs ++ c ∷ []) ≡ result_or (order_from r o cs) (apply r (order_from r o cs) c)
+order_push r o [] c = refl
+order_push r o (x ∷ xs) c = order_push r (result_or o (apply r o x)) xs c
+
+take_left : (cs ds : List Edit) (m : ℕ) → m ≤ length cs → take m (cs ++ ds) ≡ take m cs
+take_left [] [] zero h = refl
+take_left [] (d ∷ ds) zero h = refl
+take_left [] ds (suc m) h = absurd (omega arith)
+take_left (c ∷ cs) ds zero h = refl
+take_left (c ∷ cs) ds (suc m) h = ap (λ (xs : List Edit). c ∷ xs) (take_left cs ds m (omega arith))
+
+get_left : (cs ds : List Edit) (k : ℕ) → k < length cs → get_or (cs ++ ds) k NotReady ≡ get_or cs k NotReady
+get_left [] ds k h = absurd (omega arith)
+get_left (c ∷ cs) ds zero h = refl
+get_left (c ∷ cs) ds (suc k) h = get_left cs ds k (omega arith)
+
+get_last : (cs : List Edit) (c : Edit) → get_or (cs ++ c ∷ []) (length cs) NotReady ≡ c
+get_last [] c = refl
+get_last (x ∷ xs) c = get_last xs c
+
+-- what was in the journal stays
+pub record Grown (journal new : List Entry) : Type 0 where
+  pub longer : (r : Text) → entry_count journal r ≤ entry_count new r
+  pub edit : (r : Text) (k : ℕ) → k < entry_count journal r → edit_at new r k ≡ edit_at journal r k
+  pub order : (r : Text) (m : ℕ) → m ≤ entry_count journal r → order_at new r m ≡ order_at journal r m
+  pub kinds : (r : Text) → Grows (map kind (entries r journal)) (map kind (entries r new))
+
+grows_more : (cs ds : List Edit) → Grows (map kind cs) (map kind (cs ++ ds))
+grows_more cs ds = record { longer = let a = length-map cs kind in let b = length-map (cs ++ ds) kind in let c = length-append cs ds in omega arith; same_id = kept cs }
+  where
+    kept : (xs : List Edit) (k : ℕ) (y : Kind) → slice_get (map kind xs) k ≡ Some y → slice_get (map kind (xs ++ ds)) k ≡ Some y
+    kept [] k y h = absurd (cc)
+    kept (x ∷ xs) zero y h = h
+    kept (x ∷ xs) (suc k) y h = kept xs k y h
+
+pub grown_push : (journal : List Entry) (e : Entry) → Grown journal (journal ++ e ∷ [])
+grown_push journal e = record {
+  longer = λ r. let p = entries_push journal e r in let n = length-append (entries r journal) (last_if (same_id r e.ro) e.edit) in let q = ap (λ (cs : List Edit). length cs) p in omega arith;
+  edit = λ r k h. rw (entries_push journal e r) (get_left (entries r journal) (last_if (same_id r e.ro) e.edit) k h);
+  order = λ r m h. let t : take m (entries r (journal ++ e ∷ [])) ≡ take m (entries r journal) = rw (entries_push journal e r) (take_left (entries r journal) (last_if (same_id r e.ro) e.edit) m h) in ap (λ (cs : List Edit). order_after r cs) t;
+  kinds = λ r. rw (entries_push journal e r) (grows_more (entries r journal) (last_if (same_id r e.ro) e.edit));
+}
+
+pub entry_count_push : (journal : List Entry) (e : Entry) → entry_count (journal ++ e ∷ []) e.ro ≡ entry_count journal e.ro + 1
+entry_count_push journal e = let p = entries_push journal e e.ro in rw (p, same-self e.ro) (length-append (entries e.ro journal) (e.edit ∷ []))
+
+pub entry_count_other : (journal : List Entry) (e : Entry) (r : Text) → same_id r e.ro ≡ false → entry_count (journal ++ e ∷ []) r ≡ entry_count journal r
+entry_count_other journal e r s = rw (entries_push journal e r, s) (let n = length-append (entries r journal) [] in omega arith)
+
+pub edit_push : (journal : List Entry) (e : Entry) → edit_at (journal ++ e ∷ []) e.ro (entry_count journal e.ro) ≡ e.edit
+edit_push journal e = let p = entries_push journal e e.ro in rw (p, same-self e.ro) (get_last (entries e.ro journal) e.edit)
+
+accepted_done : (journal : List Entry) (e : Entry) → acceptance journal e ≡ None → (o : Option Order) × (apply e.ro (order_now journal e.ro) e.edit ≡ Done o)
+accepted_done journal e h = go (apply e.ro (order_now journal e.ro) e.edit) (over_limit (journal ++ e ∷ []) e.ro) refl h
+  where
+    go : (a : Applied (Option Order)) (u : Option ℕ) → apply e.ro (order_now journal e.ro) e.edit ≡ a → refusal a u ≡ None → (o : Option Order) × (apply e.ro (order_now journal e.ro) e.edit ≡ Done o)
+    go (Done o) u e h = (o, e)
+    go (Fault t) u e h = absurd (cc)
+
+order_last : (journal : List Entry) (e : Entry) (o : Option Order) → apply e.ro (order_now journal e.ro) e.edit ≡ Done o → order_at (journal ++ e ∷ []) e.ro (entry_count journal e.ro + 1) ≡ o
+order_last journal e o h =
+    let p : entries e.ro (journal ++ e ∷ []) ≡ entries e.ro journal ++ e.edit ∷ [] = entries_push journal e e.ro ∙ (rw (same-self e.ro) refl) in
+    let n : entry_count journal e.ro + 1 ≡ length (entries e.ro journal ++ e.edit ∷ []) = sym (length-append (entries e.ro journal) (e.edit ∷ [])) in
+    rw (p, n, take-length (entries e.ro journal ++ e.edit ∷ []), order_push e.ro None (entries e.ro journal) e.edit, h) refl
+
+pub journal_ok_push : (journal : List Entry) (e : Entry) → JournalOk journal → acceptance journal e ≡ None → JournalOk (journal ++ e ∷ [])
+journal_ok_push journal e ok a = record { applies = λ r k h. go r k (same_id r e.ro) refl h }
+  where
+    g : Grown journal (journal ++ e ∷ [])
+    g = grown_push journal e
+
+    old : (r : Text) (k : ℕ) → k < entry_count journal r → apply r (order_at (journal ++ e ∷ []) r k) (edit_at (journal ++ e ∷ []) r k) ≡ Done (order_at (journal ++ e ∷ []) r (k + 1))
+    old r k h = rw (g.order r k (omega arith), g.order r (k + 1) (omega arith), g.edit r k h) (ok.applies r k h)
+
+    new : apply e.ro (order_at (journal ++ e ∷ []) e.ro (entry_count journal e.ro)) (edit_at (journal ++ e ∷ []) e.ro (entry_count journal e.ro)) ≡ Done (order_at (journal ++ e ∷ []) e.ro (entry_count journal e.ro + 1))
+    new = let d = accepted_done journal e a in
+        rw (g.order e.ro (entry_count journal e.ro) (omega arith), take-length (entries e.ro journal), edit_push journal e, order_last journal e d.0 d.1) d.1
+
+    own : (k : ℕ) → k < entry_count (journal ++ e ∷ []) e.ro → apply e.ro (order_at (journal ++ e ∷ []) e.ro k) (edit_at (journal ++ e ∷ []) e.ro k) ≡ Done (order_at (journal ++ e ∷ []) e.ro (k + 1))
+    own k h = elim (cases_lt k (entry_count journal e.ro)) [
+      | inl l ↦ old e.ro k l
+      | inr m ↦ let n = entry_count_push journal e in let k_is : entry_count journal e.ro ≡ k = omega arith in subst (λ (z : ℕ). apply e.ro (order_at (journal ++ e ∷ []) e.ro z) (edit_at (journal ++ e ∷ []) e.ro z) ≡ Done (order_at (journal ++ e ∷ []) e.ro (z + 1))) k_is new
+    ]
+
+    go : (r : Text) (k : ℕ) (b : Bool) → same_id r e.ro ≡ b → k < entry_count (journal ++ e ∷ []) r → apply r (order_at (journal ++ e ∷ []) r k) (edit_at (journal ++ e ∷ []) r k) ≡ Done (order_at (journal ++ e ∷ []) r (k + 1))
+    go r k false s h = old r k (subst (λ (n : ℕ). k < n) (entry_count_other journal e r s) h)
+    go r k true s h = let i = same-true r e.ro s in subst (λ (z : Text). apply z (order_at (journal ++ e ∷ []) z k) (edit_at (journal ++ e ∷ []) z k) ≡ Done (order_at (journal ++ e ∷ []) z (k + 1))) (sym i) (own k (subst (λ (z : Text). k < entry_count (journal ++ e ∷ []) z) i h))
