@@ -19,13 +19,13 @@ use Rattle.world_laws.proofs.Replication.InFlight.{NotConnected, Nothing, Unread
 use Rattle.world_laws.proofs.Replication.Request.{NotRequested, RequestSent, RequestLost, AnsweredWith}
 use Rattle.world_laws.proofs.Replication.Incoming.{NoneComes, AskComes, BeatComes, OtherComes}
 
-pub data Above : Type 0 where
-  NotOpen : Above
-  Greets : Above
-  Opened : (out : ServerOut) → Above
+pub data UpperPart : Type 0 where
+  NotOpen : UpperPart
+  Greets : UpperPart
+  Opened : (out : ServerOut) → UpperPart
 
 pub record Channels : Type 0 where
-  pub upper : Above
+  pub upper : UpperPart
   pub accepted : Bool
   pub joined : Bool
   pub down : List Packet
@@ -36,10 +36,10 @@ pub record Channels : Type 0 where
   pub sent : List Packet
   pub got : List Packet
 
-abbrev pub above : Upper → Above
-above Down = NotOpen
-above (Greeting c) = Greets
-above (Open c o) = Opened o
+abbrev pub upper_part : Upper → UpperPart
+upper_part Down = NotOpen
+upper_part (Greeting c) = Greets
+upper_part (Open c o) = Opened o
 
 abbrev pub accepted_of : (ℕ → Connection) → Option ℕ → Bool
 accepted_of connections None = false
@@ -59,7 +59,7 @@ same_link a b = false
 
 abbrev pub channels : Pairing → Channels
 channels l = record {
-  upper = above l.peer.upper;
+  upper = upper_part l.peer.upper;
   accepted = accepted_of l.connections (upper_link l.peer.upper);
   joined = same_link (upper_link l.peer.upper) l.gate.upper;
   down = to_device_of l.connections l.gate.upper;
@@ -118,7 +118,7 @@ abbrev pub success_transfer : List Entry → Text → Option Transfer → List P
 success_transfer journal r None up = false
 success_transfer journal r (Some i) up = success_front (ready_transfer journal r i) up
 
-abbrev pub in_flight_by : List Entry → Channels → Text → Above → InFlight
+abbrev pub in_flight_by : List Entry → Channels → Text → UpperPart → InFlight
 in_flight_by journal w r NotOpen = NotConnected false (transfer_in r w.down)
 in_flight_by journal w r Greets = NotConnected w.accepted (transfer_in r w.down)
 in_flight_by journal w r (Opened o) = open_in_flight w.joined (is_some_packet w.down) (success_transfer journal r (transfer_out r o) w.up) (transfer_out r o)
@@ -210,10 +210,10 @@ Answers (SendsEdit r k) (p ∷ []) = (t : Status) × (p ≡ untagged (RoAck r t)
 Answers (SendsAgain r m) (p ∷ []) = (t : Status) × (p ≡ untagged (RoAck r t))
 Answers o (p ∷ q ∷ ps) = ⊥
 
-abbrev pub AboveOk : List Entry → Channels → Above → Type 0
-AboveOk journal w NotOpen = w.joined ≡ false
-AboveOk journal w Greets = (w.joined ≡ true → (w.accepted ≡ true) × IsBeats w.down × (w.up ≡ [] ⊎ w.down ≡ [])) × IsBeats w.up × (w.accepted ≡ false → w.up ≡ []) × (w.accepted ≡ true → NoEdits w.down)
-AboveOk journal w (Opened o) = (w.accepted ≡ true) × (w.joined ≡ false → NoEdits w.down) × (w.joined ≡ true → Carries journal o w.down w.up) × Answers o w.up
+abbrev pub UpperPartOk : List Entry → Channels → UpperPart → Type 0
+UpperPartOk journal w NotOpen = w.joined ≡ false
+UpperPartOk journal w Greets = (w.joined ≡ true → (w.accepted ≡ true) × IsBeats w.down × (w.up ≡ [] ⊎ w.down ≡ [])) × IsBeats w.up × (w.accepted ≡ false → w.up ≡ []) × (w.accepted ≡ true → NoEdits w.down)
+UpperPartOk journal w (Opened o) = (w.accepted ≡ true) × (w.joined ≡ false → NoEdits w.down) × (w.joined ≡ true → Carries journal o w.down w.up) × Answers o w.up
 
 -- the device's lower connection
 abbrev pub Requests : GateOut → List Packet → Type 0
@@ -237,7 +237,7 @@ Answer_to journal out (p ∷ q ∷ ps) = ⊥
 
 pub record ChannelsOk (journal : List Entry) (w : Channels) : Type 0 where
   pub down : DownOk journal w.down
-  pub above : AboveOk journal w w.upper
+  pub upper_part : UpperPartOk journal w w.upper
   pub requests : Requests w.out w.sent
   pub answer : Answer_to journal w.out w.got
   pub one : (w.sent ≡ []) ⊎ (w.got ≡ [])
@@ -251,11 +251,11 @@ ConnectionOk TheDevice false to_device to_server = (to_device ≡ []) × IsShort
 ConnectionOk o b to_device to_server = Unit {0}
 
 pub record PairingOk (journal : List Entry) (count : ℕ) (l : Pairing) : Type 0 where
-  pub pool : (c : ℕ) → ConnectionOk (l.connections c).opener (l.connections c).accepted (l.connections c).to_device (l.connections c).to_server
+  pub unaccepted : (c : ℕ) → ConnectionOk (l.connections c).opener (l.connections c).accepted (l.connections c).to_device (l.connections c).to_server
   pub fresh : (c : ℕ) → count < c → (l.connections c).opener ≡ Nobody
   pub upper : (c : ℕ) → upper_link l.peer.upper ≡ Some c → (l.connections c).opener ≡ TheServer
   pub read : (c : ℕ) → l.gate.upper ≡ Some c → ((l.connections c).opener ≡ TheServer) × ((l.connections c).accepted ≡ true)
   pub linked : (c : ℕ) → l.peer.link ≡ Some c → ((l.connections c).opener ≡ TheDevice) × ((l.connections c).accepted ≡ true)
   pub dialed : (c : ℕ) → l.gate.link ≡ Some c → (l.connections c).opener ≡ TheDevice
   pub silent : l.gate.link ≡ None → l.gate.out ≡ NotAsking
-  pub wired : ChannelsOk journal (channels l)
+  pub channels_ok : ChannelsOk journal (channels l)

@@ -23,3 +23,5 @@ pub mod SafeGot
 pub mod SafeRun
 pub mod Extend
 pub mod Least
+pub mod RunWords
+pub mod Runs

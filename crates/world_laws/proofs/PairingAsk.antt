@@ -73,18 +73,18 @@ inv_ask : (journal : List Entry) (count : ℕ) (l : Pairing) (c : ℕ) (g : Gate
     → ((r : Text) → IsInvariant (replication journal (ask_channels (channels l) (l.connections c).lost_server g.out m) r (l.peer.views r) (g.phase r) (l.applied r))) → PairingInvariant journal count (pairing_ask l c g m)
 inv_ask journal count l c g m i e q k u h a each =
     let w = channels_ask journal count l c g m i.ok e (k ∙ e) u in
-    let s : (l.connections c).to_server ≡ [] = let x = i.ok.wired.requests in grind arith in
+    let s : (l.connections c).to_server ≡ [] = let x = i.ok.channels_ok.requests in grind arith in
     let d = i.ok.dialed c e in
     record {
       ok = record {
-        pool = grind (arith, nat_tests, i.ok.pool);
+        unaccepted = grind (arith, nat_tests, i.ok.unaccepted);
         fresh = grind (arith, nat_tests, i.ok.fresh);
         upper = grind (arith, nat_tests, i.ok.upper);
         read = grind (arith, nat_tests, i.ok.read);
         linked = grind (arith, nat_tests, i.ok.linked);
         dialed = grind (arith, nat_tests, i.ok.dialed);
         silent = λ z. cc;
-        wired = subst (λ (x : Channels). ChannelsOk journal x) (sym w) (wired_ask journal (channels l) (l.connections c).lost_server g.out m i.ok.wired q a);
+        channels_ok = subst (λ (x : Channels). ChannelsOk journal x) (sym w) (wired_ask journal (channels l) (l.connections c).lost_server g.out m i.ok.channels_ok q a);
       };
       replications = λ r. subst (λ (x : Channels). IsInvariant (replication journal x r (l.peer.views r) (g.phase r) (l.applied r))) (sym w) (each r);
       holds = λ r. rw h (i.holds r);
@@ -93,14 +93,14 @@ inv_ask journal count l c g m i e q k u h a each =
 tell_ok : (journal : List Entry) (count : ℕ) (l : Pairing) (c : ℕ) (g : GateState) (m : Message) → PairingInvariant journal count l → l.gate.link ≡ Some c → l.gate.out ≡ NotAsking → g.link ≡ l.gate.link → g.upper ≡ l.gate.upper → g.held ≡ l.gate.held → g.phase ≡ l.gate.phase → Requests g.out (untagged m ∷ [])
     → ((r : Text) → (is_for r g.out ≡ false) × (incoming_by r m ≡ AskComes → ⊥)) → PairingInvariant journal count (pairing_ask l c g m)
 tell_ok journal count l c g m i e q k u h p a n =
-    inv_ask journal count l c g m i e q k u h a (λ r. rw p (replication_tell journal (channels l) r (l.connections c).lost_server g.out m (l.peer.views r) (l.gate.phase r) (l.applied r) i.ok.wired q (n r).0 (n r).1 (i.replications r)))
+    inv_ask journal count l c g m i e q k u h a (λ r. rw p (replication_tell journal (channels l) r (l.connections c).lost_server g.out m (l.peer.views r) (l.gate.phase r) (l.applied r) i.ok.channels_ok q (n r).0 (n r).1 (i.replications r)))
 
 asks_for : (journal : List Entry) (count : ℕ) (l : Pairing) (c : ℕ) (z : Text) → PairingInvariant journal count l → l.gate.link ≡ Some c → l.gate.out ≡ NotAsking → PairingInvariant journal count (pairing_ask l c (record l.gate { out = AsksFor z; phase = set_order l.gate.phase z Asked; wanted = set_order l.gate.wanted z false }) (RoReq z))
 asks_for journal count l c z i e q = inv_ask journal count l c (record l.gate { out = AsksFor z; phase = set_order l.gate.phase z Asked; wanted = set_order l.gate.wanted z false }) (RoReq z) i e q refl refl refl refl (λ r. each r (same_id r z) refl)
   where
     each : (r : Text) (b : Bool) → same_id r z ≡ b → IsInvariant (replication journal (ask_channels (channels l) (l.connections c).lost_server (AsksFor z) (RoReq z)) r (l.peer.views r) (if b then Asked else l.gate.phase r) (l.applied r))
-    each r true s = subst (λ (y : Text). IsInvariant (replication journal (ask_channels (channels l) (l.connections c).lost_server (AsksFor z) (RoReq z)) y (l.peer.views y) Asked (l.applied y))) (sym (same-true r z s)) (replication_ask journal (channels l) z (l.connections c).lost_server (l.peer.views z) (l.gate.phase z) (l.applied z) i.ok.wired q (i.replications z))
-    each r false s = replication_tell journal (channels l) r (l.connections c).lost_server (AsksFor z) (RoReq z) (l.peer.views r) (l.gate.phase r) (l.applied r) i.ok.wired q s (λ x. let y = rw s at x in cc) (i.replications r)
+    each r true s = subst (λ (y : Text). IsInvariant (replication journal (ask_channels (channels l) (l.connections c).lost_server (AsksFor z) (RoReq z)) y (l.peer.views y) Asked (l.applied y))) (sym (same-true r z s)) (replication_ask journal (channels l) z (l.connections c).lost_server (l.peer.views z) (l.gate.phase z) (l.applied z) i.ok.channels_ok q (i.replications z))
+    each r false s = replication_tell journal (channels l) r (l.connections c).lost_server (AsksFor z) (RoReq z) (l.peer.views r) (l.gate.phase r) (l.applied r) i.ok.channels_ok q s (λ x. let y = rw s at x in cc) (i.replications r)
 
 asks_next : (journal : List Entry) (count : ℕ) (l : Pairing) (c : ℕ) (k : Confirmation) (all : Bool) (want : Option Text) (note : Bool) → PairingInvariant journal count l → l.gate.link ≡ Some c → l.gate.out ≡ NotAsking → PairingInvariant journal count (asks_on l c (asked_next own_time l.gate k all want note)).0
 asks_next journal count l c (Due z) all want note i e q = tell_ok journal count l c (record l.gate { confirm = Unanswered z; out = AsksBeat }) (Heartbeat own_time) i e q refl refl refl refl refl (λ r. (refl, λ x. cc))

@@ -17,13 +17,13 @@ use Rattle.world_laws.proofs.Replication.{Transfer, InFlight, IsInvariant}
 use Rattle.world_laws.proofs.Replication.Transfer.{TransferEntry, TransferAgain}
 use Rattle.world_laws.proofs.Replication.InFlight.{NotConnected, Nothing}
 use Rattle.world_laws.proofs.Channels.{Channels, ChannelsOk, PairingOk, replication, channels, transfer_in, in_flight_by, ask_of, incoming_in, transfer_out, success_front, ready_transfer, answer_in_flight}
-use Rattle.world_laws.proofs.Channels.Above.{NotOpen, Greets, Opened}
+use Rattle.world_laws.proofs.Channels.UpperPart.{NotOpen, Greets, Opened}
 use Rattle.world_laws.proofs.Keeps.{keeps_greeted, keeps_back_success, keeps_back_bad, after_success}
 use Rattle.world_laws.proofs.PairingUpper.{inv_cut}
 use Rattle.world_laws.proofs.PairingLose.{inv_taken, pairing_with}
 use Rattle.world_laws.proofs.Journals.{same-true, same-self, same-false}
 use Rattle.world_laws.proofs.Invariant.{PairingInvariant}
-use Rattle.world_laws.proofs.Reading.{mk}
+use Rattle.world_laws.proofs.Reading.{replication_of}
 
 -- taken without effect, and cut
 back_unasked : (journal : List Entry) (count : ℕ) (l : Pairing) (c : ℕ) → PairingInvariant journal count l → upper_link l.peer.upper ≡ Some c → PairingInvariant journal count (takes_from l c (l.connections c) (peer_cut l.peer, Unasked)).0
@@ -40,7 +40,7 @@ channels_idle : (journal : List Entry) (count : ℕ) (l : Pairing) (c : ℕ) (vi
 channels_idle journal count l c views p ok u e = let o = ok.upper c u in grind (arith, nat_tests, ok.linked, ok.dialed)
 
 up_front : (journal : List Entry) (count : ℕ) (l : Pairing) (c : ℕ) (p : Packet) → PairingOk journal count l → upper_link l.peer.upper ≡ Some c → front (l.connections c).to_server ≡ Some p → (channels l).up ≡ p ∷ []
-up_front journal count l c p ok u f = let a = ok.wired.above in grind arith
+up_front journal count l c p ok u f = let a = ok.channels_ok.upper_part in grind arith
 
 inv_idle : (journal : List Entry) (count : ℕ) (l : Pairing) (c : ℕ) (views : Text → View) (p : Packet) → PairingInvariant journal count l → upper_link l.peer.upper ≡ Some c → front (l.connections c).to_server ≡ Some p → ChannelsOk journal (idle_channels (channels l))
     → ((r : Text) → IsInvariant (replication journal (idle_channels (channels l)) r (views r) (l.gate.phase r) (l.applied r))) → PairingInvariant journal count (pairing_idle l c views)
@@ -49,14 +49,14 @@ inv_idle journal count l c views p i u f ok each =
     let o = i.ok.upper c u in
     record {
       ok = record {
-        pool = grind (arith, nat_tests, i.ok.pool);
+        unaccepted = grind (arith, nat_tests, i.ok.unaccepted);
         fresh = grind (arith, nat_tests, i.ok.fresh);
         upper = grind (arith, nat_tests);
         read = grind (arith, nat_tests, i.ok.read);
         linked = grind (arith, nat_tests, i.ok.linked);
         dialed = grind (arith, nat_tests, i.ok.dialed);
         silent = i.ok.silent;
-        wired = subst (λ (x : Channels). ChannelsOk journal x) (sym w) ok;
+        channels_ok = subst (λ (x : Channels). ChannelsOk journal x) (sym w) ok;
       };
       replications = λ r. subst (λ (x : Channels). IsInvariant (replication journal x r (views r) (l.gate.phase r) (l.applied r))) (sym w) (each r);
       holds = i.holds;
@@ -79,7 +79,7 @@ replication_greeted journal w r p view phase prefix ok u g i =
 replication_other : (journal : List Entry) (w : Channels) (r : Text) (o : ServerOut) (view : View) (phase : Phase) (prefix : ℕ) → w.upper ≡ Opened o → transfer_out r o ≡ None → IsInvariant (replication journal w r view phase prefix) → IsInvariant (replication journal (idle_channels w) r view phase prefix)
 replication_other journal w r o view phase prefix u n i =
     let t : in_flight_by journal w r w.upper ≡ Nothing = rw (u, n) refl in
-    subst (λ (x : InFlight). IsInvariant (mk (map kind (entries r journal)) x view (ask_of w r) w.live (incoming_in r w.heard) phase prefix)) t i
+    subst (λ (x : InFlight). IsInvariant (replication_of (map kind (entries r journal)) x view (ask_of w r) w.live (incoming_in r w.heard) phase prefix)) t i
 
 -- the edit of r that was outstanding
 abbrev view_back : Bool → Transfer → View
@@ -113,21 +113,21 @@ back_transfer journal count l c p o q x v i u f n m other e =
     let link : upper_link l.peer.upper ≡ Some c = rw u refl in
     let opened : (channels l).upper ≡ Opened o = rw u refl in
     let up = up_front journal count l c p i.ok link f in
-    inv_idle journal count l c (set_order l.peer.views q v) p i link f (wired_idle journal (channels l) p i.ok.wired up (λ z. cc) (λ z. m (cc)))
+    inv_idle journal count l c (set_order l.peer.views q v) p i link f (wired_idle journal (channels l) p i.ok.channels_ok up (λ z. cc) (λ z. m (cc)))
     (λ r. each opened up r (same_id r q) refl)
   where
     each : (channels l).upper ≡ Opened o → (channels l).up ≡ p ∷ [] → (r : Text) (b : Bool) → same_id r q ≡ b → IsInvariant (replication journal (idle_channels (channels l)) r (if b then v else l.peer.views r) (l.gate.phase r) (l.applied r))
     each opened up r false s = replication_other journal (channels l) r o (l.peer.views r) (l.gate.phase r) (l.applied r) opened (other r (same-false q r s)) (i.replications r)
     each opened up r true s = subst (λ (z : Text). IsInvariant (replication journal (idle_channels (channels l)) z v (l.gate.phase z) (l.applied z))) (sym (same-true r q s))
         (subst (λ (y : View). IsInvariant (replication journal (idle_channels (channels l)) q y (l.gate.phase q) (l.applied q))) e
-        (replication_back journal (channels l) q o x p (l.peer.views q) (l.gate.phase q) (l.applied q) (success_front (ready_transfer journal q x) (p ∷ [])) i.ok.wired up opened n refl (i.replications q)))
+        (replication_back journal (channels l) q o x p (l.peer.views q) (l.gate.phase q) (l.applied q) (success_front (ready_transfer journal q x) (p ∷ [])) i.ok.channels_ok up opened n refl (i.replications q)))
 
 back_quiet : (journal : List Entry) (count : ℕ) (l : Pairing) (c : ℕ) (p : Packet) → PairingInvariant journal count l → l.peer.upper ≡ Open c SendsBeat → front (l.connections c).to_server ≡ Some p → PairingInvariant journal count (pairing_idle l c l.peer.views)
 back_quiet journal count l c p i u f =
     let link : upper_link l.peer.upper ≡ Some c = rw u refl in
     let opened : (channels l).upper ≡ Opened SendsBeat = rw u refl in
     let up = up_front journal count l c p i.ok link f in
-    inv_idle journal count l c l.peer.views p i link f (wired_idle journal (channels l) p i.ok.wired up (λ z. cc) (λ z. cc))
+    inv_idle journal count l c l.peer.views p i link f (wired_idle journal (channels l) p i.ok.channels_ok up (λ z. cc) (λ z. cc))
     (λ r. replication_other journal (channels l) r SendsBeat (l.peer.views r) (l.gate.phase r) (l.applied r) opened refl (i.replications r))
 
 back_greeted : (journal : List Entry) (count : ℕ) (l : Pairing) (c : ℕ) (p : Packet) → PairingInvariant journal count l → l.peer.upper ≡ Greeting c → front (l.connections c).to_server ≡ Some p → PairingInvariant journal count (pairing_idle l c l.peer.views)
@@ -135,8 +135,8 @@ back_greeted journal count l c p i u f =
     let link : upper_link l.peer.upper ≡ Some c = rw u refl in
     let greets : (channels l).upper ≡ Greets = rw u refl in
     let up = up_front journal count l c p i.ok link f in
-    inv_idle journal count l c l.peer.views p i link f (wired_idle journal (channels l) p i.ok.wired up (λ z. cc) (λ z. cc))
-    (λ r. replication_greeted journal (channels l) r p (l.peer.views r) (l.gate.phase r) (l.applied r) i.ok.wired up greets (i.replications r))
+    inv_idle journal count l c l.peer.views p i link f (wired_idle journal (channels l) p i.ok.channels_ok up (λ z. cc) (λ z. cc))
+    (λ r. replication_greeted journal (channels l) r p (l.peer.views r) (l.gate.phase r) (l.applied r) i.ok.channels_ok up greets (i.replications r))
 
 back_ack : (journal : List Entry) (count : ℕ) (l : Pairing) (c : ℕ) (q : Text) (v : View) (b : Bool) → upper_link l.peer.upper ≡ Some c → PairingInvariant journal count l → PairingInvariant journal count (pairing_idle l c (set_order l.peer.views q v))
     → PairingInvariant journal count (takes_from l c (l.connections c) (if b then back_to l.peer c q v else (peer_cut l.peer, Unasked))).0

@@ -21,7 +21,7 @@ use Rattle.world_laws.proofs.Channels.{Channels, ChannelsOk, PairingOk, replicat
 use Rattle.world_laws.proofs.Keeps.{keeps_got_list, keeps_got_crossed, keeps_got_other}
 use Rattle.world_laws.proofs.Journals.{same-true, same-self}
 use Rattle.world_laws.proofs.Invariant.{PairingInvariant}
-use Rattle.world_laws.proofs.Reading.{mk}
+use Rattle.world_laws.proofs.Reading.{replication_of}
 use Rattle.mos_machines.specs.Messages.Tag.{Untagged, OfEntry, OfAgain, OfList}
 
 abbrev pub got_channels : Channels → Channels
@@ -37,7 +37,7 @@ channels_got : (journal : List Entry) (count : ℕ) (l : Pairing) (c : ℕ) (g :
 channels_got journal count l c g applied p ok e f k u q = let o = ok.dialed c e in grind (arith, nat_tests, ok.upper, ok.read)
 
 pub got_front : (journal : List Entry) (count : ℕ) (l : Pairing) (c : ℕ) (p : Packet) → PairingOk journal count l → l.gate.link ≡ Some c → front (l.connections c).to_device ≡ Some p → (channels l).got ≡ p ∷ []
-got_front journal count l c p ok e f = let a = ok.wired.answer in grind arith
+got_front journal count l c p ok e f = let a = ok.channels_ok.answer in grind arith
 
 inv_got : (journal : List Entry) (count : ℕ) (l : Pairing) (c : ℕ) (g : GateState) (applied : Text → ℕ) (p : Packet) → PairingInvariant journal count l → l.gate.link ≡ Some c → front (l.connections c).to_device ≡ Some p → g.link ≡ l.gate.link → g.upper ≡ l.gate.upper → g.out ≡ NotAsking
     → ((r : Text) → IsInvariant (replication journal (got_channels (channels l)) r (l.peer.views r) (g.phase r) (applied r)) × (g.held r ≡ order_at journal r (applied r))) → PairingInvariant journal count (pairing_got l c g applied)
@@ -47,14 +47,14 @@ inv_got journal count l c g applied p i e f k u q each =
     let o = i.ok.dialed c e in
     record {
       ok = record {
-        pool = grind (arith, nat_tests, i.ok.pool);
+        unaccepted = grind (arith, nat_tests, i.ok.unaccepted);
         fresh = grind (arith, nat_tests, i.ok.fresh);
         upper = grind (arith, nat_tests, i.ok.upper);
         read = grind (arith, nat_tests, i.ok.read);
         linked = grind (arith, nat_tests, i.ok.linked);
         dialed = grind (arith, nat_tests, i.ok.dialed);
         silent = λ z. q;
-        wired = subst (λ (x : Channels). ChannelsOk journal x) (sym w) (wired_got journal (channels l) p i.ok.wired h);
+        channels_ok = subst (λ (x : Channels). ChannelsOk journal x) (sym w) (wired_got journal (channels l) p i.ok.channels_ok h);
       };
       replications = λ r. subst (λ (x : Channels). IsInvariant (replication journal x r (l.peer.views r) (g.phase r) (applied r))) (sym w) (each r).0;
       holds = λ r. (each r).1;
@@ -62,7 +62,7 @@ inv_got journal count l c g applied p i e f k u q each =
 
 -- an order that was not asked for
 replication_not_got : (journal : List Entry) (w : Channels) (r : Text) (view : View) (phase : Phase) (prefix : ℕ) → is_for r w.out ≡ false → IsInvariant (replication journal w r view phase prefix) → IsInvariant (replication journal (got_channels w) r view phase prefix)
-replication_not_got journal w r view phase prefix n i = let a : ask_of w r ≡ NotRequested = rw n refl in subst (λ (x : Request). IsInvariant (mk (map kind (entries r journal)) (in_flight_by journal w r w.upper) view x w.live (incoming_in r w.heard) phase prefix)) a i
+replication_not_got journal w r view phase prefix n i = let a : ask_of w r ≡ NotRequested = rw n refl in subst (λ (x : Request). IsInvariant (replication_of (map kind (entries r journal)) (in_flight_by journal w r w.upper) view x w.live (incoming_in r w.heard) phase prefix)) a i
 
 pub ask_got : (journal : List Entry) (w : Channels) (r : Text) (p : Packet) → ChannelsOk journal w → w.out ≡ AsksFor r → w.got ≡ p ∷ [] → ask_of w r ≡ list_tag p.tag
 ask_got journal w r p ok o g = let s : w.sent ≡ [] = let x = ok.one in grind arith in rw (o, same-self r, s, g) refl
@@ -87,7 +87,7 @@ got_unasked : (journal : List Entry) (count : ℕ) (l : Pairing) (c : ℕ) (p : 
 got_unasked journal count l c p i e f =
     let h = got_front journal count l c p i.ok e f in
     let o = i.ok.dialed c e in
-    let pool = i.ok.pool c in
+    let unaccepted = i.ok.unaccepted c in
     let popped = inv_with journal count l c (record (l.connections c) { to_device = rest (l.connections c).to_device }) i refl refl (grind arith)
     (record {
       upper = refl;
@@ -100,7 +100,7 @@ got_unasked journal count l c p i e f =
       heard = grind (arith, nat_tests);
       sent = grind (arith, nat_tests);
       got = grind (arith, nat_tests);
-      both = let v = i.ok.wired.live in grind (arith, nat_tests);
+      both = let v = i.ok.channels_ok.live in grind (arith, nat_tests);
     }) in
     rw (applied_unasked l.applied p.tag) (inv_dropped journal count (pairing_with l c (record (l.connections c) { to_device = rest (l.connections c).to_device })) popped)
 
@@ -116,7 +116,7 @@ got_list journal count l c p q m o i e f a t h =
     inv_got journal count l c (got_order l.gate q o) (set_order l.applied q m) p i e f refl refl refl (λ r. each r (same_id r q) refl)
   where
     asked : ask_of (channels l) q ≡ AnsweredWith m
-    asked = ask_got journal (channels l) q p i.ok.wired a (got_front journal count l c p i.ok e f) ∙ (rw t refl)
+    asked = ask_got journal (channels l) q p i.ok.channels_ok a (got_front journal count l c p i.ok e f) ∙ (rw t refl)
 
     each : (r : Text) (b : Bool) → same_id r q ≡ b → IsInvariant (replication journal (got_channels (channels l)) r (l.peer.views r) (if b then got_phase (l.gate.phase q) else l.gate.phase r) (if b then m else l.applied r)) × ((if b then o else l.gate.held r) ≡ order_at journal r (if b then m else l.applied r))
     each r false s = (replication_not_got journal (channels l) r (l.peer.views r) (l.gate.phase r) (l.applied r) (rw (a, s) refl) (i.replications r), i.holds r)
@@ -128,7 +128,7 @@ got_refused journal count l c p q i e f a t =
     inv_got journal count l c (got_refusal l.gate q) l.applied p i e f refl refl refl (λ r. (each r (same_id r q) refl, i.holds r))
   where
     asked : ask_of (channels l) q ≡ RequestLost
-    asked = ask_got journal (channels l) q p i.ok.wired a (got_front journal count l c p i.ok e f) ∙ (rw t refl)
+    asked = ask_got journal (channels l) q p i.ok.channels_ok a (got_front journal count l c p i.ok e f) ∙ (rw t refl)
 
     each : (r : Text) (b : Bool) → same_id r q ≡ b → IsInvariant (replication journal (got_channels (channels l)) r (l.peer.views r) (if b then OutOfStep else l.gate.phase r) (l.applied r))
     each r false s = replication_not_got journal (channels l) r (l.peer.views r) (l.gate.phase r) (l.applied r) (rw (a, s) refl) (i.replications r)
@@ -169,7 +169,7 @@ got_some : (journal : List Entry) (count : ℕ) (l : Pairing) (c : ℕ) (o : Opt
 got_some journal count l c None i e f = i
 got_some journal count l c (Some p) i e f =
     let h = got_front journal count l c p i.ok e f in
-    got_case journal count l c l.gate.out p i e refl f (subst (λ (ps : List Packet). Answer_to journal l.gate.out ps) h i.ok.wired.answer)
+    got_case journal count l c l.gate.out p i e refl f (subst (λ (ps : List Packet). Answer_to journal l.gate.out ps) h i.ok.channels_ok.answer)
 
 got_go : (journal : List Entry) (count : ℕ) (l : Pairing) (o : Option ℕ) → PairingInvariant journal count l → l.gate.link ≡ o → PairingInvariant journal count (gets_if l o).0
 got_go journal count l None i e = i

@@ -11,8 +11,8 @@ use Rattle.mos_machines.specs.Device.GateOut.{NotAsking, AsksFor, AsksAll, AsksB
 use Rattle.mos_machines.specs.Messages.Message.{RoEdit}
 use Rattle.world_laws.proofs.Replication.{Transfer, Replication, IsInvariant, readable}
 use Rattle.world_laws.proofs.Replication.Request.{AnsweredWith}
-use Rattle.world_laws.proofs.Channels.{Channels, Above, ChannelsOk, replication, channels, transfer_in, in_flight_by, ask_of, transfer_out, Answer_to, open_in_flight, is_some_packet, success_transfer, above, Tagged, DownOk, Carries, AboveOk, success_front}
-use Rattle.world_laws.proofs.Channels.Above.{NotOpen, Greets, Opened}
+use Rattle.world_laws.proofs.Channels.{Channels, UpperPart, ChannelsOk, replication, channels, transfer_in, in_flight_by, ask_of, transfer_out, Answer_to, open_in_flight, is_some_packet, success_transfer, upper_part, Tagged, DownOk, Carries, UpperPartOk, success_front}
+use Rattle.world_laws.proofs.Channels.UpperPart.{NotOpen, Greets, Opened}
 use Rattle.world_laws.proofs.Joining.{readable-in_flight}
 use Rattle.world_laws.proofs.Journals.{same-true, same-self, kind_at, kinds_entry_count}
 use Rattle.world_laws.proofs.Invariant.{PairingInvariant}
@@ -49,7 +49,7 @@ bounds journal count l i = record {
       let t : in_flight_by journal w r w.upper ≡ open_in_flight w.joined (is_some_packet w.down) (success_transfer journal r (Some (TransferAgain m)) w.up) (Some (TransferAgain m)) = rw (e, same-self r) refl in
       let b = fits_again (replication journal w r (l.peer.views r) (l.gate.phase r) (l.applied r)) (i.replications r) w.joined (is_some_packet w.down) (success_transfer journal r (Some (TransferAgain m)) w.up) m t in omega (arith, b, n);
   read = λ r m e. let n = kinds_entry_count journal r in
-      let b = reads_again (replication journal (channels l) r (l.peer.views r) (l.gate.phase r) (l.applied r)) (i.replications r) m (readable-in_flight journal (channels l) r i.ok.wired ∙ e) in omega (arith, b, n);
+      let b = reads_again (replication journal (channels l) r (l.peer.views r) (l.gate.phase r) (l.applied r)) (i.replications r) m (readable-in_flight journal (channels l) r i.ok.channels_ok ∙ e) in omega (arith, b, n);
 }
 
 sends_same : (journal new : List Entry) → Grown journal new → (r : Text) (k : ℕ) → k < entry_count journal r → entry_packet journal r k ≡ entry_packet new r k
@@ -81,7 +81,7 @@ carries_grow journal new g (SendsAgain r m) [] up s a c = c
 carries_grow journal new g (SendsAgain r m) (p ∷ []) up s a c = (c.0 ∙ again_same journal new g r m (a r m refl), c.1)
 carries_grow journal new g (SendsAgain r m) (p ∷ q ∷ ps) up s a c = c
 
-above_grow : (journal new : List Entry) → Grown journal new → (w : Channels) (u : Above) → ((r : Text) (k : ℕ) → u ≡ Opened (SendsEdit r k) → k < entry_count journal r) → ((r : Text) (m : ℕ) → u ≡ Opened (SendsAgain r m) → (0 < m) × (m ≤ entry_count journal r)) → AboveOk journal w u → AboveOk new w u
+above_grow : (journal new : List Entry) → Grown journal new → (w : Channels) (u : UpperPart) → ((r : Text) (k : ℕ) → u ≡ Opened (SendsEdit r k) → k < entry_count journal r) → ((r : Text) (m : ℕ) → u ≡ Opened (SendsAgain r m) → (0 < m) × (m ≤ entry_count journal r)) → UpperPartOk journal w u → UpperPartOk new w u
 above_grow journal new g w NotOpen s a ok = ok
 above_grow journal new g w Greets s a ok = ok
 above_grow journal new g w (Opened o) s a ok = (ok.0, ok.1, λ j. carries_grow journal new g o w.down w.up (λ r k e. s r k (ap (λ (x : ServerOut). Opened x) e)) (λ r m e. a r m (ap (λ (x : ServerOut). Opened x) e)) (ok.2 j), ok.3)
@@ -102,7 +102,7 @@ answer_grow journal new g AsksBeat (p ∷ q ∷ ps) a = a
 wired_grow : (journal new : List Entry) → Grown journal new → (w : Channels) → Bounds journal w → ChannelsOk journal w → ChannelsOk new w
 wired_grow journal new g w b ok = record {
   down = down_grow journal new g w.down b.read ok.down;
-  above = above_grow journal new g w w.upper b.sends b.again ok.above;
+  upper_part = above_grow journal new g w w.upper b.sends b.again ok.upper_part;
   requests = ok.requests;
   answer = answer_grow journal new g w.out w.got ok.answer;
   one = ok.one;
@@ -115,7 +115,7 @@ success_grow journal new g r None up h = refl
 success_grow journal new g r (Some (TransferAgain m)) up h = refl
 success_grow journal new g r (Some (TransferEntry k)) up h = ap (λ (c : Edit). success_front (is_ready (kind c)) up) (g.edit r k (h k refl))
 
-in_flight_grow : (journal new : List Entry) → Grown journal new → (w : Channels) (r : Text) (u : Above) → ((o : ServerOut) (k : ℕ) → u ≡ Opened o → transfer_out r o ≡ Some (TransferEntry k) → k < entry_count journal r) → in_flight_by new w r u ≡ in_flight_by journal w r u
+in_flight_grow : (journal new : List Entry) → Grown journal new → (w : Channels) (r : Text) (u : UpperPart) → ((o : ServerOut) (k : ℕ) → u ≡ Opened o → transfer_out r o ≡ Some (TransferEntry k) → k < entry_count journal r) → in_flight_by new w r u ≡ in_flight_by journal w r u
 in_flight_grow journal new g w r NotOpen h = refl
 in_flight_grow journal new g w r Greets h = refl
 in_flight_grow journal new g w r (Opened o) h = ap (λ (b : Bool). open_in_flight w.joined (is_some_packet w.down) b (transfer_out r o)) (success_grow journal new g r (transfer_out r o) w.up (λ k e. h o k refl e))
@@ -132,7 +132,7 @@ replication_grow journal new g w r view phase prefix i =
 
 pub inv_grow : (journal new : List Entry) (count : ℕ) (l : Pairing) → Grown journal new → PairingInvariant journal count l → PairingInvariant new count l
 inv_grow journal new count l g i = record {
-  ok = record { pool = i.ok.pool; fresh = i.ok.fresh; upper = i.ok.upper; read = i.ok.read; linked = i.ok.linked; dialed = i.ok.dialed; silent = i.ok.silent; wired = wired_grow journal new g (channels l) (bounds journal count l i) i.ok.wired };
+  ok = record { unaccepted = i.ok.unaccepted; fresh = i.ok.fresh; upper = i.ok.upper; read = i.ok.read; linked = i.ok.linked; dialed = i.ok.dialed; silent = i.ok.silent; channels_ok = wired_grow journal new g (channels l) (bounds journal count l i) i.ok.channels_ok };
   replications = λ r. replication_grow journal new g (channels l) r (l.peer.views r) (l.gate.phase r) (l.applied r) (i.replications r);
   holds = λ r. let m = (i.replications r).prefix in let n = kinds_entry_count journal r in i.holds r ∙ sym (g.order r (l.applied r) (omega (arith, m, n)));
 }
@@ -140,7 +140,7 @@ inv_grow journal new count l g i = record {
 asked_entry_count : (l : Replication) → IsInvariant l → (m : ℕ) → l.ask ≡ AnsweredWith m → m ≤ length l.kinds
 asked_entry_count l i m q = grind arith
 
-opened : (journal : List Entry) (w : Channels) (r : Text) (u : Upper) (k : Kind) → is_open u && is_whole k ≡ true → (in_flight_open (in_flight_by journal w r (above u)) ≡ true) × (k ≡ IsWhole)
+opened : (journal : List Entry) (w : Channels) (r : Text) (u : Upper) (k : Kind) → is_open u && is_whole k ≡ true → (in_flight_open (in_flight_by journal w r (upper_part u)) ≡ true) × (k ≡ IsWhole)
 opened journal w r Down k h = absurd (cc)
 opened journal w r (Greeting c) k h = absurd (cc)
 opened journal w r (Open c o) IsWhole h = (stays_open w.joined (is_some_packet w.down) (success_transfer journal r (transfer_out r o) w.up) (transfer_out r o), refl)
@@ -175,7 +175,7 @@ pub inv_given : (journal : List Entry) (e : Entry) (count : ℕ) (l : Pairing) �
 inv_given journal e count l i =
     let j = inv_grow journal (journal ++ e ∷ []) count l (grown_push journal e) i in
     record {
-      ok = record { pool = j.ok.pool; fresh = j.ok.fresh; upper = j.ok.upper; read = j.ok.read; linked = j.ok.linked; dialed = j.ok.dialed; silent = j.ok.silent; wired = j.ok.wired };
+      ok = record { unaccepted = j.ok.unaccepted; fresh = j.ok.fresh; upper = j.ok.upper; read = j.ok.read; linked = j.ok.linked; dialed = j.ok.dialed; silent = j.ok.silent; channels_ok = j.ok.channels_ok };
       replications = λ r. each r (same_id r e.ro) refl;
       holds = j.holds;
     }

@@ -16,12 +16,12 @@ use Rattle.world_laws.proofs.Replication.{Request, IsInvariant, ReadyBefore}
 use Rattle.world_laws.proofs.Replication.InFlight.{Nothing}
 use Rattle.world_laws.proofs.Replication.Request.{RequestLost, AnsweredWith}
 use Rattle.world_laws.proofs.Replication.Incoming.{NoneComes, AskComes, BeatComes}
-use Rattle.world_laws.proofs.Channels.{Channels, ChannelsOk, PairingOk, replication, channels, in_flight_by, ask_of, incoming_in, incoming_by, IsAnswer, ask_by, above}
+use Rattle.world_laws.proofs.Channels.{Channels, ChannelsOk, PairingOk, replication, channels, in_flight_by, ask_of, incoming_in, incoming_by, IsAnswer, ask_by, upper_part}
 use Rattle.world_laws.proofs.Keeps.{heard, answers, keeps_hear_beat, keeps_hear_other, keeps_hear_not_now, keeps_hear_ask, keeps_lost_ask}
 use Rattle.world_laws.proofs.Joining.{pushed}
 use Rattle.world_laws.proofs.Journals.{same-true, same-self, same-false, kind_at, kinds_entry_count}
 use Rattle.world_laws.proofs.Invariant.{PairingInvariant}
-use Rattle.world_laws.proofs.Reading.{mk}
+use Rattle.world_laws.proofs.Reading.{replication_of}
 use Rattle.mos_edits.specs.Entries.Kind.{IsReady}
 use Rattle.mos_machines.specs.Messages.Tag.{Untagged, OfList}
 use Rattle.std.proofs.Math.Seq.{take-length}
@@ -118,7 +118,7 @@ replication_not_now journal w q lost p view phase prefix ok h m l i =
 idle_in_flight : (journal : List Entry) (l : Pairing) (q : Text) → is_busy q l.peer.upper ≡ false → in_flight_by journal (channels l) q (channels l).upper ≡ Nothing
 idle_in_flight journal l q b = free_by l.peer.upper b
   where
-    free_by : (u : Upper) → is_busy q u ≡ false → in_flight_by journal (channels l) q (above u) ≡ Nothing
+    free_by : (u : Upper) → is_busy q u ≡ false → in_flight_by journal (channels l) q (upper_part u) ≡ Nothing
     free_by Down b = absurd (cc)
     free_by (Greeting c) b = absurd (cc)
     free_by (Open c Idle) b = refl
@@ -137,22 +137,22 @@ replication_list journal w q lost p o view phase prefix ok h m f i = go w.live r
     c : incoming_in q w.heard ≡ AskComes
     c = rw (h, m, same-self q) refl
 
-    base : IsInvariant (mk (map kind (entries q journal)) (in_flight_by journal w q w.upper) (Listed (entry_count journal q)) (answers w.live (entry_count journal q) (ask_of w q)) w.live NoneComes phase prefix)
+    base : IsInvariant (replication_of (map kind (entries q journal)) (in_flight_by journal w q w.upper) (Listed (entry_count journal q)) (answers w.live (entry_count journal q) (ask_of w q)) w.live NoneComes phase prefix)
     base = let k = keeps_hear_ask (replication journal w q view phase prefix) i f c in rw (kinds_entry_count journal q) at k
 
     go : (live : Bool) → w.live ≡ live → (b : Bool) → lost ≡ b → IsInvariant (replication journal (hear_channels w lost (list_of q (entry_count journal q) o)) q (Listed (entry_count journal q)) phase prefix)
-    go false l b e = let al : answers w.live (entry_count journal q) (ask_of w q) ≡ ask_of w q = rw l refl in let a : ask_of (hear_channels w lost (list_of q (entry_count journal q) o)) q ≡ ask_of w q = rw l refl in rw a (subst (λ (x : Request). IsInvariant (mk (map kind (entries q journal)) (in_flight_by journal w q w.upper) (Listed (entry_count journal q)) x w.live NoneComes phase prefix)) al base)
+    go false l b e = let al : answers w.live (entry_count journal q) (ask_of w q) ≡ ask_of w q = rw l refl in let a : ask_of (hear_channels w lost (list_of q (entry_count journal q) o)) q ≡ ask_of w q = rw l refl in rw a (subst (λ (x : Request). IsInvariant (replication_of (map kind (entries q journal)) (in_flight_by journal w q w.upper) (Listed (entry_count journal q)) x w.live NoneComes phase prefix)) al base)
     go true l false e =
         let al : answers w.live (entry_count journal q) (ask_of w q) ≡ AnsweredWith (entry_count journal q) = rw l refl in
         let x = live_asked journal w p q ok h m l in
         let a : ask_of (hear_channels w lost (list_of q (entry_count journal q) o)) q ≡ AnsweredWith (entry_count journal q) = rw (x.0, same-self q, l, x.1, e, tag_list q (entry_count journal q) o) refl in
-        rw a (subst (λ (x : Request). IsInvariant (mk (map kind (entries q journal)) (in_flight_by journal w q w.upper) (Listed (entry_count journal q)) x w.live NoneComes phase prefix)) al base)
+        rw a (subst (λ (x : Request). IsInvariant (replication_of (map kind (entries q journal)) (in_flight_by journal w q w.upper) (Listed (entry_count journal q)) x w.live NoneComes phase prefix)) al base)
     go true l true e =
         let al : answers w.live (entry_count journal q) (ask_of w q) ≡ AnsweredWith (entry_count journal q) = rw l refl in
         let x = live_asked journal w p q ok h m l in
         let a : ask_of (hear_channels w lost (list_of q (entry_count journal q) o)) q ≡ RequestLost = rw (x.0, same-self q, l, x.1, e) refl in
-        let b = subst (λ (x : Request). IsInvariant (mk (map kind (entries q journal)) (in_flight_by journal w q w.upper) (Listed (entry_count journal q)) x w.live NoneComes phase prefix)) al base in
-        rw a (keeps_lost_ask (mk (map kind (entries q journal)) (in_flight_by journal w q w.upper) (Listed (entry_count journal q)) (AnsweredWith (entry_count journal q)) w.live NoneComes phase prefix) b RequestLost NoneComes (inr (refl, λ z. cc)) (inl refl) (λ z y. cc))
+        let b = subst (λ (x : Request). IsInvariant (replication_of (map kind (entries q journal)) (in_flight_by journal w q w.upper) (Listed (entry_count journal q)) x w.live NoneComes phase prefix)) al base in
+        rw a (keeps_lost_ask (replication_of (map kind (entries q journal)) (in_flight_by journal w q w.upper) (Listed (entry_count journal q)) (AnsweredWith (entry_count journal q)) w.live NoneComes phase prefix) b RequestLost NoneComes (inr (refl, λ z. cc)) (inl refl) (λ z y. cc))
 
 abbrev pub pairing_hear : Pairing → ℕ → (Text → View) → Packet → Pairing
 pairing_hear l c views a = record l { peer = record { upper = l.peer.upper; note = l.peer.note; link = l.peer.link; views = views }; connections = set_number l.connections c (write_device a (record (l.connections c) { to_server = rest (l.connections c).to_server })) }
@@ -161,7 +161,7 @@ channels_hear : (journal : List Entry) (count : ℕ) (l : Pairing) (c : ℕ) (vi
 channels_hear journal count l c views p a ok e h = let o = ok.linked c e in grind (arith, nat_tests, ok.upper, ok.read)
 
 heard_front : (journal : List Entry) (count : ℕ) (l : Pairing) (c : ℕ) (p : Packet) → PairingOk journal count l → l.peer.link ≡ Some c → front (l.connections c).to_server ≡ Some p → (channels l).heard ≡ p ∷ []
-heard_front journal count l c p ok e f = let h = ok.wired.heard in grind arith
+heard_front journal count l c p ok e f = let h = ok.channels_ok.heard in grind arith
 
 inv_hear : (journal : List Entry) (count : ℕ) (l : Pairing) (c : ℕ) (views : Text → View) (p a : Packet) → PairingInvariant journal count l → l.peer.link ≡ Some c → front (l.connections c).to_server ≡ Some p → FitsAnswer journal p.message a
     → ((r : Text) → IsInvariant (replication journal (hear_channels (channels l) (l.connections c).lost_device a) r (views r) (l.gate.phase r) (l.applied r))) → PairingInvariant journal count (pairing_hear l c views a)
@@ -171,14 +171,14 @@ inv_hear journal count l c views p a i e f fits each =
     let o = i.ok.linked c e in
     record {
       ok = record {
-        pool = grind (arith, nat_tests, i.ok.pool);
+        unaccepted = grind (arith, nat_tests, i.ok.unaccepted);
         fresh = grind (arith, nat_tests, i.ok.fresh);
         upper = grind (arith, nat_tests, i.ok.upper);
         read = grind (arith, nat_tests, i.ok.read);
         linked = grind (arith, nat_tests, i.ok.linked);
         dialed = grind (arith, nat_tests, i.ok.dialed);
         silent = i.ok.silent;
-        wired = subst (λ (x : Channels). ChannelsOk journal x) (sym w) (wired_hear journal (channels l) (l.connections c).lost_device p a i.ok.wired h fits);
+        channels_ok = subst (λ (x : Channels). ChannelsOk journal x) (sym w) (wired_hear journal (channels l) (l.connections c).lost_device p a i.ok.channels_ok h fits);
       };
       replications = λ r. subst (λ (x : Channels). IsInvariant (replication journal x r (views r) (l.gate.phase r) (l.applied r))) (sym w) (each r);
       holds = i.holds;
@@ -189,7 +189,7 @@ hear_other : (journal : List Entry) (count : ℕ) (l : Pairing) (c : ℕ) (p a :
 hear_other journal count l c p a i e f fits n =
     let h = heard_front journal count l c p i.ok e f in
     inv_hear journal count l c (λ r. settled journal false r (l.peer.views r)) p a i e f fits
-    (λ r. replication_hear_other journal (channels l) r (l.connections c).lost_device p a (l.peer.views r) (l.gate.phase r) (l.applied r) i.ok.wired h (live_out journal (channels l) p r i.ok.wired h (n r)) (i.replications r))
+    (λ r. replication_hear_other journal (channels l) r (l.connections c).lost_device p a (l.peer.views r) (l.gate.phase r) (l.applied r) i.ok.channels_ok h (live_out journal (channels l) p r i.ok.channels_ok h (n r)) (i.replications r))
 
 other_out : (journal : List Entry) (w : Channels) (p : Packet) (q r : Text) → ChannelsOk journal w → w.heard ≡ p ∷ [] → p.message ≡ RoReq q → same_id r q ≡ false → w.live ≡ true → is_for r w.out ≡ false
 other_out journal w p q r ok h m s l = let x = live_asked journal w p q ok h m l in rw (x.0, s) refl
@@ -207,10 +207,10 @@ hear_not_now journal count l c p q i e f m =
     a = untagged (RoAck q NotNow)
 
     each : (r : Text) (b : Bool) → same_id r q ≡ b → (live : Bool) → (channels l).live ≡ live → IsInvariant (replication journal (hear_channels (channels l) (l.connections c).lost_device (untagged (RoAck q NotNow))) r (settled journal false r (l.peer.views r)) (l.gate.phase r) (l.applied r))
-    each r false s live v = replication_hear_other journal (channels l) r (l.connections c).lost_device p (untagged (RoAck q NotNow)) (l.peer.views r) (l.gate.phase r) (l.applied r) i.ok.wired h (other_out journal (channels l) p q r i.ok.wired h m s) (i.replications r)
-    each r true s false v = replication_hear_other journal (channels l) r (l.connections c).lost_device p (untagged (RoAck q NotNow)) (l.peer.views r) (l.gate.phase r) (l.applied r) i.ok.wired h (λ z. cc) (i.replications r)
+    each r false s live v = replication_hear_other journal (channels l) r (l.connections c).lost_device p (untagged (RoAck q NotNow)) (l.peer.views r) (l.gate.phase r) (l.applied r) i.ok.channels_ok h (other_out journal (channels l) p q r i.ok.channels_ok h m s) (i.replications r)
+    each r true s false v = replication_hear_other journal (channels l) r (l.connections c).lost_device p (untagged (RoAck q NotNow)) (l.peer.views r) (l.gate.phase r) (l.applied r) i.ok.channels_ok h (λ z. cc) (i.replications r)
     each r true s true v = subst (λ (z : Text). IsInvariant (replication journal (hear_channels (channels l) (l.connections c).lost_device (untagged (RoAck q NotNow))) z (settled journal false z (l.peer.views z)) (l.gate.phase z) (l.applied z))) (sym (same-true r q s))
-        (replication_not_now journal (channels l) q (l.connections c).lost_device p (l.peer.views q) (l.gate.phase q) (l.applied q) i.ok.wired h m v (i.replications q))
+        (replication_not_now journal (channels l) q (l.connections c).lost_device p (l.peer.views q) (l.gate.phase q) (l.applied q) i.ok.channels_ok h m v (i.replications q))
 
 order_all : (journal : List Entry) (q : Text) → order_at journal q (entry_count journal q) ≡ order_now journal q
 order_all journal q = ap (λ (cs : List Edit). order_after q cs) (take-length (entries q journal))
@@ -226,15 +226,15 @@ hear_list journal count l c p q i e f m b =
     h = heard_front journal count l c p i.ok e f
 
     each : (r : Text) (b : Bool) → same_id r q ≡ b → IsInvariant (replication journal (hear_channels (channels l) (l.connections c).lost_device (list_of q (entry_count journal q) (order_now journal q))) r (if b then Listed (entry_count journal q) else settled journal false r (l.peer.views r)) (l.gate.phase r) (l.applied r))
-    each r false s = replication_hear_other journal (channels l) r (l.connections c).lost_device p (list_of q (entry_count journal q) (order_now journal q)) (l.peer.views r) (l.gate.phase r) (l.applied r) i.ok.wired h (other_out journal (channels l) p q r i.ok.wired h m s) (i.replications r)
+    each r false s = replication_hear_other journal (channels l) r (l.connections c).lost_device p (list_of q (entry_count journal q) (order_now journal q)) (l.peer.views r) (l.gate.phase r) (l.applied r) i.ok.channels_ok h (other_out journal (channels l) p q r i.ok.channels_ok h m s) (i.replications r)
     each r true s = subst (λ (z : Text). IsInvariant (replication journal (hear_channels (channels l) (l.connections c).lost_device (list_of q (entry_count journal q) (order_now journal q))) z (Listed (entry_count journal q)) (l.gate.phase z) (l.applied z))) (sym (same-true r q s))
-        (replication_list journal (channels l) q (l.connections c).lost_device p (order_now journal q) (l.peer.views q) (l.gate.phase q) (l.applied q) i.ok.wired h m (idle_in_flight journal l q b) (i.replications q))
+        (replication_list journal (channels l) q (l.connections c).lost_device p (order_now journal q) (l.peer.views q) (l.gate.phase q) (l.applied q) i.ok.channels_ok h m (idle_in_flight journal l q b) (i.replications q))
 
 hear_by : (journal : List Entry) (count : ℕ) (l : Pairing) (c : ℕ) (p : Packet) (m : Message) → PairingInvariant journal count l → l.peer.link ≡ Some c → front (l.connections c).to_server ≡ Some p → p.message ≡ m → PairingInvariant journal count (hears_from l c (l.connections c) (peer_hear journal l.peer m)).0
 hear_by journal count l c p (Heartbeat t) i e f m =
     let h = heard_front journal count l c p i.ok e f in
     inv_hear journal count l c (λ r. settled journal true r (l.peer.views r)) p (untagged (Heartbeat t)) i e f (rw m refl)
-    (λ r. replication_hear_beat journal (channels l) r (l.connections c).lost_device p (untagged (Heartbeat t)) t (l.peer.views r) (l.gate.phase r) (l.applied r) i.ok.wired h m (i.replications r))
+    (λ r. replication_hear_beat journal (channels l) r (l.connections c).lost_device p (untagged (Heartbeat t)) t (l.peer.views r) (l.gate.phase r) (l.applied r) i.ok.channels_ok h m (i.replications r))
 hear_by journal count l c p RoReqAll i e f m = hear_other journal count l c p (untagged (RoListAll (headers journal))) i e f (rw m refl) (λ r z. let y = rw m at z in cc)
 hear_by journal count l c p (RoReq q) i e f m = go (is_busy q l.peer.upper) refl
   where

@@ -43,14 +43,14 @@ inv_dropped journal count l i =
     let w : channels (record l { gate = gate_dropped l.gate }) ≡ no_lower (channels l) = grind arith in
     record {
       ok = record {
-        pool = i.ok.pool;
+        unaccepted = i.ok.unaccepted;
         fresh = i.ok.fresh;
         upper = i.ok.upper;
         read = i.ok.read;
         linked = i.ok.linked;
         dialed = λ c e. cc;
         silent = λ e. refl;
-        wired = subst (λ (x : Channels). ChannelsOk journal x) (sym w) (wired_dropped journal (channels l) i.ok.wired);
+        channels_ok = subst (λ (x : Channels). ChannelsOk journal x) (sym w) (wired_dropped journal (channels l) i.ok.channels_ok);
       };
       replications = λ r. subst (λ (x : Channels). IsInvariant (replication journal x r (l.peer.views r) (dropped_phase (is_for r l.gate.out) (is_confirmed r l.gate.confirm) (l.gate.phase r)) (l.applied r))) (sym w)
           (replication_dropped journal (channels l) r (l.peer.views r) (l.gate.phase r) (l.applied r) (is_confirmed r l.gate.confirm) (i.replications r));
@@ -78,14 +78,14 @@ inv_dialed journal count l g i n =
     let w = channels_dialed journal count l g i.ok n in
     record {
       ok = record {
-        pool = let p = i.ok.pool in grind (arith, nat_tests, p);
+        unaccepted = let p = i.ok.unaccepted in grind (arith, nat_tests, p);
         fresh = let p = i.ok.fresh in grind (arith, nat_tests, p);
         upper = let p = i.ok.upper in grind (arith, nat_tests, p);
         read = let p = i.ok.read in grind (arith, nat_tests, p);
         linked = let p = i.ok.linked in grind (arith, nat_tests, p);
         dialed = grind (arith, nat_tests);
         silent = λ e. refl;
-        wired = subst (λ (x : Channels). ChannelsOk journal x) (sym w) i.ok.wired;
+        channels_ok = subst (λ (x : Channels). ChannelsOk journal x) (sym w) i.ok.channels_ok;
       };
       replications = λ r. subst (λ (x : Channels). IsInvariant (replication journal x r (l.peer.views r) (g.phase r) (l.applied r))) (sym w) (i.replications r);
       holds = i.holds;
@@ -104,14 +104,14 @@ inv_missed journal count l i =
     let w : channels (record l { peer = peer_linked None l.peer }) ≡ record (channels l) { live = false; heard = [] } = grind arith in
     record {
       ok = record {
-        pool = i.ok.pool;
+        unaccepted = i.ok.unaccepted;
         fresh = i.ok.fresh;
         upper = i.ok.upper;
         read = i.ok.read;
         linked = λ c e. cc;
         dialed = i.ok.dialed;
         silent = i.ok.silent;
-        wired = subst (λ (x : Channels). ChannelsOk journal x) (sym w) (wired_missed journal (channels l) i.ok.wired);
+        channels_ok = subst (λ (x : Channels). ChannelsOk journal x) (sym w) (wired_missed journal (channels l) i.ok.channels_ok);
       };
       replications = λ r. subst (λ (x : Channels). IsInvariant (replication journal x r (unlisted (l.peer.views r)) (l.gate.phase r) (l.applied r))) (sym w)
           (keeps_miss (replication journal (channels l) r (l.peer.views r) (l.gate.phase r) (l.applied r)) (i.replications r));
@@ -147,23 +147,23 @@ replication_admit journal w r true heard view phase prefix ok h i = keeps_admit 
 
 pub inv_admit : (journal : List Entry) (count : ℕ) (l : Pairing) (c : ℕ) → PairingInvariant journal count l → (l.connections c).opener ≡ TheDevice → (l.connections c).accepted ≡ false → PairingInvariant journal count (pairing_admit l c)
 inv_admit journal count l c i o a =
-    let p = i.ok.pool c in
+    let p = i.ok.unaccepted c in
     let short : IsShort (l.connections c).to_server = grind arith in
     let here : same_link (Some c) l.gate.link ≡ true → (l.connections c).to_server ≡ (channels l).sent = grind (arith, nat_tests) in
     let w = channels_admit journal count l c i.ok o in
     record {
       ok = record {
-        pool = grind (arith, nat_tests, i.ok.pool);
+        unaccepted = grind (arith, nat_tests, i.ok.unaccepted);
         fresh = grind (arith, nat_tests, i.ok.fresh);
         upper = grind (arith, nat_tests, i.ok.upper);
         read = grind (arith, nat_tests, i.ok.read);
         linked = grind (arith, nat_tests);
         dialed = grind (arith, nat_tests, i.ok.dialed);
         silent = i.ok.silent;
-        wired = subst (λ (x : Channels). ChannelsOk journal x) (sym w) (wired_admit journal (channels l) (same_link (Some c) l.gate.link) (l.connections c).to_server i.ok.wired short here);
+        channels_ok = subst (λ (x : Channels). ChannelsOk journal x) (sym w) (wired_admit journal (channels l) (same_link (Some c) l.gate.link) (l.connections c).to_server i.ok.channels_ok short here);
       };
       replications = λ r. subst (λ (x : Channels). IsInvariant (replication journal x r (unlisted (l.peer.views r)) (l.gate.phase r) (l.applied r))) (sym w)
-          (replication_admit journal (channels l) r (same_link (Some c) l.gate.link) (l.connections c).to_server (l.peer.views r) (l.gate.phase r) (l.applied r) i.ok.wired here (i.replications r));
+          (replication_admit journal (channels l) r (same_link (Some c) l.gate.link) (l.connections c).to_server (l.peer.views r) (l.gate.phase r) (l.applied r) i.ok.channels_ok here (i.replications r));
       holds = i.holds;
     }
 
@@ -184,7 +184,7 @@ replication_want journal w r view Asked prefix i = i
 replication_want journal w r view Crossed prefix i = i
 
 pub keeps_wants : (journal : List Entry) (count n : ℕ) (l : Pairing) (q : Text) → PairingInvariant journal count l → PairingInvariant journal count (pairing_step journal n l (Want q)).0
-keeps_wants journal count n l q i = record { ok = record { pool = i.ok.pool; fresh = i.ok.fresh; upper = i.ok.upper; read = i.ok.read; linked = i.ok.linked; dialed = i.ok.dialed; silent = i.ok.silent; wired = i.ok.wired }; replications = λ r. each r (same_id r q) refl; holds = i.holds }
+keeps_wants journal count n l q i = record { ok = record { unaccepted = i.ok.unaccepted; fresh = i.ok.fresh; upper = i.ok.upper; read = i.ok.read; linked = i.ok.linked; dialed = i.ok.dialed; silent = i.ok.silent; channels_ok = i.ok.channels_ok }; replications = λ r. each r (same_id r q) refl; holds = i.holds }
   where
     each : (r : Text) (b : Bool) → same_id r q ≡ b → IsInvariant (replication journal (channels l) r (l.peer.views r) (if b then wanted_phase (l.gate.phase q) else l.gate.phase r) (l.applied r))
     each r false e = i.replications r
@@ -196,17 +196,17 @@ keeps_reboots journal count n l i =
     let w : channels (record l { gate = no_gate; applied = λ (r : Text). 0 }) ≡ no_lower (record (channels l) { joined = false; down = [] }) = grind arith in
     record {
       ok = record {
-        pool = i.ok.pool;
+        unaccepted = i.ok.unaccepted;
         fresh = i.ok.fresh;
         upper = i.ok.upper;
         read = λ c e. cc;
         linked = i.ok.linked;
         dialed = λ c e. cc;
         silent = λ e. refl;
-        wired = subst (λ (x : Channels). ChannelsOk journal x) (sym w) (wired_dropped journal (record (channels l) { joined = false; down = [] }) (wired_left journal (channels l) i.ok.wired));
+        channels_ok = subst (λ (x : Channels). ChannelsOk journal x) (sym w) (wired_dropped journal (record (channels l) { joined = false; down = [] }) (wired_left journal (channels l) i.ok.channels_ok));
       };
       replications = λ r. subst (λ (x : Channels). IsInvariant (replication journal x r (l.peer.views r) OutOfStep 0)) (sym w)
-          (rw (in_flight_moved journal (channels l) r [] i.ok.wired refl) (keeps_reboot (replication journal (channels l) r (l.peer.views r) (l.gate.phase r) (l.applied r)) (i.replications r)));
+          (rw (in_flight_moved journal (channels l) r [] i.ok.channels_ok refl) (keeps_reboot (replication journal (channels l) r (l.peer.views r) (l.gate.phase r) (l.applied r)) (i.replications r)));
       holds = λ r. refl;
     }
   where
@@ -215,11 +215,11 @@ keeps_reboots journal count n l i =
 
 -- notes and decks
 beats_go : (journal : List Entry) (count : ℕ) (l : Pairing) (b : Bool) → PairingInvariant journal count l → PairingInvariant journal count (beats_if l b).0
-beats_go journal count l true i = record { ok = record { pool = i.ok.pool; fresh = i.ok.fresh; upper = i.ok.upper; read = i.ok.read; linked = i.ok.linked; dialed = i.ok.dialed; silent = i.ok.silent; wired = i.ok.wired }; replications = i.replications; holds = i.holds }
+beats_go journal count l true i = record { ok = record { unaccepted = i.ok.unaccepted; fresh = i.ok.fresh; upper = i.ok.upper; read = i.ok.read; linked = i.ok.linked; dialed = i.ok.dialed; silent = i.ok.silent; channels_ok = i.ok.channels_ok }; replications = i.replications; holds = i.holds }
 beats_go journal count l false i = i
 
 device_beats_go : (journal : List Entry) (count : ℕ) (l : Pairing) (o : Option ℕ) → PairingInvariant journal count l → PairingInvariant journal count (device_beats_if l o).0
-device_beats_go journal count l (Some c) i = record { ok = record { pool = i.ok.pool; fresh = i.ok.fresh; upper = i.ok.upper; read = i.ok.read; linked = i.ok.linked; dialed = i.ok.dialed; silent = i.ok.silent; wired = i.ok.wired }; replications = i.replications; holds = i.holds }
+device_beats_go journal count l (Some c) i = record { ok = record { unaccepted = i.ok.unaccepted; fresh = i.ok.fresh; upper = i.ok.upper; read = i.ok.read; linked = i.ok.linked; dialed = i.ok.dialed; silent = i.ok.silent; channels_ok = i.ok.channels_ok }; replications = i.replications; holds = i.holds }
 device_beats_go journal count l None i = i
 
 pub keeps_beating : (journal : List Entry) (count n : ℕ) (l : Pairing) → PairingInvariant journal count l → PairingInvariant journal count (pairing_step journal n l Beat).0
@@ -229,4 +229,4 @@ pub keeps_device_beating : (journal : List Entry) (count n : ℕ) (l : Pairing) 
 keeps_device_beating journal count n l i = device_beats_go journal count l l.gate.link i
 
 pub keeps_decks : (journal : List Entry) (count n : ℕ) (l : Pairing) (k : ℕ) → PairingInvariant journal count l → PairingInvariant journal count (pairing_step journal n l (DecksLeft k)).0
-keeps_decks journal count n l k i = record { ok = record { pool = i.ok.pool; fresh = i.ok.fresh; upper = i.ok.upper; read = i.ok.read; linked = i.ok.linked; dialed = i.ok.dialed; silent = i.ok.silent; wired = i.ok.wired }; replications = i.replications; holds = i.holds }
+keeps_decks journal count n l k i = record { ok = record { unaccepted = i.ok.unaccepted; fresh = i.ok.fresh; upper = i.ok.upper; read = i.ok.read; linked = i.ok.linked; dialed = i.ok.dialed; silent = i.ok.silent; channels_ok = i.ok.channels_ok }; replications = i.replications; holds = i.holds }

@@ -25,7 +25,7 @@ use Rattle.world_laws.proofs.Invariant.{PairingInvariant}
 use Rattle.mos_machines.specs.Server.{entry_packet, again_packet}
 
 pub down_front : (journal : List Entry) (count : ℕ) (l : Pairing) (v : ℕ) (p : Packet) → PairingOk journal count l → l.gate.upper ≡ Some v → front (l.connections v).to_device ≡ Some p → (channels l).down ≡ p ∷ []
-down_front journal count l v p ok u f = let d = ok.wired.down in grind arith
+down_front journal count l v p ok u f = let d = ok.channels_ok.down in grind arith
 
 ok_read : (journal : List Entry) (count : ℕ) (l : Pairing) (v : ℕ) (p : Packet) (a : Message) (g : GateState) (m : Text → ℕ) → PairingOk journal count l → l.gate.upper ≡ Some v → front (l.connections v).to_device ≡ Some p → SameLinks l.gate g → AnswerTo p.message a
     → (channels (read_pairing l v a g m) ≡ read_channels (channels l) (l.connections v).lost_server a) × PairingOk journal count (read_pairing l v a g m)
@@ -34,14 +34,14 @@ ok_read journal count l v p a g m ok u f s an =
     let w : channels (read_pairing l v a g m) ≡ read_channels (channels l) (l.connections v).lost_server a = channels_read journal count l v a g m ok u s ∙ (rw d refl) in (
       w,
       record {
-        pool = grind (arith, nat_tests, ok.pool);
+        unaccepted = grind (arith, nat_tests, ok.unaccepted);
         fresh = grind (arith, nat_tests, ok.fresh);
         upper = grind (arith, nat_tests, ok.upper);
         read = grind (arith, nat_tests, ok.read);
         linked = grind (arith, nat_tests, ok.linked);
         dialed = grind (arith, nat_tests, ok.dialed);
         silent = grind arith;
-        wired = rw w (channels_ok_read journal (channels l) p [] (l.connections v).lost_server a ok.wired d an);
+        channels_ok = rw w (channels_ok_read journal (channels l) p [] (l.connections v).lost_server a ok.channels_ok d an);
       },
     )
 
@@ -58,7 +58,7 @@ each_none : (journal : List Entry) (count : ℕ) (l : Pairing) (v : ℕ) (p : Pa
     → IsInvariant (replication journal (read_channels (channels l) (l.connections v).lost_server a) r (l.peer.views r) (l.gate.phase r) (l.applied r))
 each_none journal count l v p a i u f r n =
     let d = down_front journal count l v p i.ok u f in
-    let t = in_flight_read_none journal (channels l) r p [] (l.connections v).lost_server a i.ok.wired d (rw d n) in
+    let t = in_flight_read_none journal (channels l) r p [] (l.connections v).lost_server a i.ok.channels_ok d (rw d n) in
     rw t (i.replications r)
 
 abbrev same_gate : GateState → Type 0
@@ -95,9 +95,9 @@ pub each_entry : (journal : List Entry) (count : ℕ) (l : Pairing) (v : ℕ) (q
 each_entry journal count l v q k lok i u f b =
     let d = down_front journal count l v (entry_packet journal q k) i.ok u f in
     let it : transfer_in q (channels l).down ≡ Some (TransferEntry k) = rw d (rw (same-self q) refl) in
-    let rd : readable (in_flight_by journal (channels l) q (channels l).upper) ≡ Some (TransferEntry k) = readable-in_flight journal (channels l) q i.ok.wired ∙ it in
+    let rd : readable (in_flight_by journal (channels l) q (channels l).upper) ≡ Some (TransferEntry k) = readable-in_flight journal (channels l) q i.ok.channels_ok ∙ it in
     let kd = kind_at journal q k b in
-    let t = in_flight_read journal (channels l) q (TransferEntry k) (l.connections v).lost_server (entry_result journal l q k).status i.ok.wired it in
+    let t = in_flight_read journal (channels l) q (TransferEntry k) (l.connections v).lost_server (entry_result journal l q k).status i.ok.channels_ok it in
     let step : l.gate.phase q ≡ InStep → k ≡ l.applied q → apply q (l.gate.held q) (edit_at journal q k) ≡ Done (order_at journal q (k + 1)) =
     λ e m. rw (i.holds q, ← m) (lok.applies q k b) in
     let at_prefix : l.gate.phase q ≡ InStep → (kind (edit_at journal q k) ≡ IsWhole → ⊥) → k ≡ l.applied q =
@@ -135,10 +135,10 @@ pub each_again : (journal : List Entry) (count : ℕ) (l : Pairing) (v : ℕ) (q
 each_again journal count l v q m lok i u f =
     let d = down_front journal count l v (again_packet journal q m) i.ok u f in
     let it : transfer_in q (channels l).down ≡ Some (TransferAgain m) = rw d (rw (same-self q) refl) in
-    let rd : readable (in_flight_by journal (channels l) q (channels l).upper) ≡ Some (TransferAgain m) = readable-in_flight journal (channels l) q i.ok.wired ∙ it in
+    let rd : readable (in_flight_by journal (channels l) q (channels l).upper) ≡ Some (TransferAgain m) = readable-in_flight journal (channels l) q i.ok.channels_ok ∙ it in
     let fs = again_facts (replication journal (channels l) q (l.peer.views q) (l.gate.phase q) (l.applied q)) (i.replications q) m rd in
     let kd : (m - 1 < entry_count journal q) × (kind (edit_at journal q (m - 1)) ≡ IsReady) = kind_of_at journal q (m - 1) IsReady fs.2 in
-    let t = in_flight_read journal (channels l) q (TransferAgain m) (l.connections v).lost_server (again_result journal l q m).status i.ok.wired it in
+    let t = in_flight_read journal (channels l) q (TransferAgain m) (l.connections v).lost_server (again_result journal l q m).status i.ok.channels_ok it in
     let suc_m : m - 1 + 1 ≡ m = omega (arith, fs) in
     let same_order : order_at journal q m ≡ order_at journal q (m - 1) = subst (λ (n : ℕ). order_at journal q n ≡ order_at journal q (m - 1)) suc_m (order-ready journal lok q (m - 1) kd.0 kd.1) in
     let step : l.gate.phase q ≡ InStep → apply q (l.gate.held q) (edit_at journal q (m - 1)) ≡ Done (l.gate.held q) =
@@ -176,7 +176,7 @@ read_some : (journal : List Entry) (count : ℕ) (l : Pairing) (v : ℕ) (o : Op
 read_some journal count l v None lok i u f = i
 read_some journal count l v (Some p) lok i u f =
     let d = down_front journal count l v p i.ok u f in
-    let t : DownOk journal (p ∷ []) = subst (λ (ps : List Packet). DownOk journal ps) d i.ok.wired.down in
+    let t : DownOk journal (p ∷ []) = subst (λ (ps : List Packet). DownOk journal ps) d i.ok.channels_ok.down in
     read_tagged journal count l v p.message p.tag lok i u f t
 
 reads_go : (journal : List Entry) (count : ℕ) (l : Pairing) (o : Option ℕ) → JournalOk journal → PairingInvariant journal count l → l.gate.upper ≡ o → PairingInvariant journal count (reads_if l o).0

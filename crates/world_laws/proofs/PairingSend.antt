@@ -16,12 +16,12 @@ use Rattle.world_laws.proofs.Replication.{Transfer, InFlight, IsInvariant}
 use Rattle.world_laws.proofs.Replication.Transfer.{TransferEntry, TransferAgain}
 use Rattle.world_laws.proofs.Replication.InFlight.{Nothing, Unread, Lost}
 use Rattle.world_laws.proofs.Channels.{Channels, ChannelsOk, PairingOk, replication, channels, in_flight_by, ask_of, incoming_in, transfer_out, open_in_flight, is_some_packet}
-use Rattle.world_laws.proofs.Channels.Above.{Opened}
+use Rattle.world_laws.proofs.Channels.UpperPart.{Opened}
 use Rattle.world_laws.proofs.Keeps.{Due, keeps_send, keeps_send_lost}
 use Rattle.world_laws.proofs.Joining.{pushed}
 use Rattle.world_laws.proofs.Journals.{same-true, same-self, same-false, kinds_entry_count}
 use Rattle.world_laws.proofs.Invariant.{PairingInvariant}
-use Rattle.world_laws.proofs.Reading.{mk}
+use Rattle.world_laws.proofs.Reading.{replication_of}
 
 -- what is due is what its order's view makes due
 abbrev pub DueOk : (Text → View) → (Text → ℕ) → List Entry → ServerOut → Type 0
@@ -113,7 +113,7 @@ replication_send : (journal : List Entry) (w : Channels) (r : Text) (views : Tex
 replication_send journal w r views lost o None phase prefix ok u c n i = rw (in_flight_send_none journal w r lost o n) (rw (in_flight_idle journal w r u) at i)
 replication_send journal w r views lost o (Some x) phase prefix ok u c n i = rw (in_flight_send_some journal w r lost o x ok u n) (go (w.joined && not lost))
   where
-    go : (b : Bool) → IsInvariant (mk (map kind (entries r journal)) (sent_in_flight b x) (views r) (ask_of w r) w.live (incoming_in r w.heard) phase prefix)
+    go : (b : Bool) → IsInvariant (replication_of (map kind (entries r journal)) (sent_in_flight b x) (views r) (ask_of w r) w.live (incoming_in r w.heard) phase prefix)
     go true = keeps_send (replication journal w r (views r) phase prefix) i x (in_flight_idle journal w r u) (replication_due journal w r views o x phase prefix c n)
     go false = keeps_send_lost (replication journal w r (views r) phase prefix) i x (in_flight_idle journal w r u) (replication_due journal w r views o x phase prefix c n)
 
@@ -124,16 +124,16 @@ inv_send journal count l c o note i u s =
     let link : (b : ℕ) → Some c ≡ Some b → (l.connections b).opener ≡ TheServer = λ b e. i.ok.upper b (rw u e) in
     record {
       ok = record {
-        pool = grind (arith, nat_tests, i.ok.pool);
+        unaccepted = grind (arith, nat_tests, i.ok.unaccepted);
         fresh = grind (arith, nat_tests, i.ok.fresh);
         upper = grind (arith, nat_tests, link);
         read = grind (arith, nat_tests, i.ok.read);
         linked = grind (arith, nat_tests, i.ok.linked);
         dialed = grind (arith, nat_tests, i.ok.dialed);
         silent = i.ok.silent;
-        wired = subst (λ (x : Channels). ChannelsOk journal x) (sym w) (wired_send journal l.peer.views (channels l) (l.connections c).lost_device o i.ok.wired idle s);
+        channels_ok = subst (λ (x : Channels). ChannelsOk journal x) (sym w) (wired_send journal l.peer.views (channels l) (l.connections c).lost_device o i.ok.channels_ok idle s);
       };
-      replications = λ r. subst (λ (x : Channels). IsInvariant (replication journal x r (l.peer.views r) (l.gate.phase r) (l.applied r))) (sym w) (replication_send journal (channels l) r l.peer.views (l.connections c).lost_device o (transfer_out r o) (l.gate.phase r) (l.applied r) i.ok.wired idle s refl (i.replications r));
+      replications = λ r. subst (λ (x : Channels). IsInvariant (replication journal x r (l.peer.views r) (l.gate.phase r) (l.applied r))) (sym w) (replication_send journal (channels l) r l.peer.views (l.connections c).lost_device o (transfer_out r o) (l.gate.phase r) (l.applied r) i.ok.channels_ok idle s refl (i.replications r));
       holds = i.holds;
     }
 

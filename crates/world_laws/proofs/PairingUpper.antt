@@ -15,11 +15,11 @@ use Rattle.world_laws.specs.World.PairingEvent.{OpenTo, Accept, Cut, Leave}
 use Rattle.world_laws.proofs.Replication.{Transfer, IsInvariant}
 use Rattle.world_laws.proofs.Replication.InFlight.{NotConnected}
 use Rattle.world_laws.proofs.Channels.{Channels, ChannelsOk, PairingOk, replication, channels, transfer_in, in_flight_by, ask_of, incoming_in, open_in_flight, is_some_packet, success_transfer, transfer_out, Carries, IsBeats, same_link}
-use Rattle.world_laws.proofs.Channels.Above.{Greets}
+use Rattle.world_laws.proofs.Channels.UpperPart.{Greets}
 use Rattle.world_laws.proofs.Keeps.{unread_gone, keeps_closed, keeps_leave, keeps_accept, keeps_accept_other}
 use Rattle.world_laws.proofs.Joining.{readable-in_flight}
 use Rattle.world_laws.proofs.Invariant.{PairingInvariant}
-use Rattle.world_laws.proofs.Reading.{mk}
+use Rattle.world_laws.proofs.Reading.{replication_of}
 
 -- `cut`, and what a restart and an `open` begin with
 abbrev pub pairing_cut : Pairing → Pairing
@@ -28,17 +28,17 @@ pairing_cut l = record l { peer = peer_cut l.peer }
 pub inv_cut : (journal : List Entry) (count : ℕ) (l : Pairing) → PairingInvariant journal count l → PairingInvariant journal count (pairing_cut l)
 inv_cut journal count l i = record {
   ok = record {
-    pool = i.ok.pool;
+    unaccepted = i.ok.unaccepted;
     fresh = i.ok.fresh;
     upper = λ c e. cc;
     read = i.ok.read;
     linked = i.ok.linked;
     dialed = i.ok.dialed;
     silent = i.ok.silent;
-    wired = let o = i.ok.wired in grind arith;
+    channels_ok = let o = i.ok.channels_ok in grind arith;
   };
-  replications = λ r. subst (λ (x : Option Transfer). IsInvariant (mk (map kind (entries r journal)) (NotConnected false x) Out (ask_of (channels l) r) (channels l).live (incoming_in r (channels l).heard) (l.gate.phase r) (l.applied r)))
-      (readable-in_flight journal (channels l) r i.ok.wired) (keeps_closed (replication journal (channels l) r (l.peer.views r) (l.gate.phase r) (l.applied r)) (i.replications r));
+  replications = λ r. subst (λ (x : Option Transfer). IsInvariant (replication_of (map kind (entries r journal)) (NotConnected false x) Out (ask_of (channels l) r) (channels l).live (incoming_in r (channels l).heard) (l.gate.phase r) (l.applied r)))
+      (readable-in_flight journal (channels l) r i.ok.channels_ok) (keeps_closed (replication journal (channels l) r (l.peer.views r) (l.gate.phase r) (l.applied r)) (i.replications r));
   holds = i.holds;
 }
 
@@ -77,17 +77,17 @@ inv_leave journal count l i =
     let w : channels (record l { gate = gate_left l.gate }) ≡ record (channels l) { joined = false; down = [] } = grind arith in
     record {
       ok = record {
-        pool = i.ok.pool;
+        unaccepted = i.ok.unaccepted;
         fresh = i.ok.fresh;
         upper = i.ok.upper;
         read = λ c e. cc;
         linked = i.ok.linked;
         dialed = i.ok.dialed;
         silent = i.ok.silent;
-        wired = let o = i.ok.wired in grind arith;
+        channels_ok = let o = i.ok.channels_ok in grind arith;
       };
       replications = λ r. subst (λ (x : Channels). IsInvariant (replication journal x r (l.peer.views r) (l.gate.phase r) (l.applied r))) (sym w)
-          (rw (in_flight_moved journal (channels l) r [] i.ok.wired refl) (keeps_leave (replication journal (channels l) r (l.peer.views r) (l.gate.phase r) (l.applied r)) (i.replications r)));
+          (rw (in_flight_moved journal (channels l) r [] i.ok.channels_ok refl) (keeps_leave (replication journal (channels l) r (l.peer.views r) (l.gate.phase r) (l.applied r)) (i.replications r)));
       holds = i.holds;
     }
 
@@ -114,17 +114,17 @@ channels_accept journal count l c ok o a = grind (arith, nat_tests)
 
 ok_accept : (journal : List Entry) (count : ℕ) (l : Pairing) (c : ℕ) → PairingOk journal count l → (l.connections c).opener ≡ TheServer → (l.connections c).accepted ≡ false → PairingOk journal count (pairing_accept l c)
 ok_accept journal count l c ok o a =
-    let p = ok.pool c in
+    let p = ok.unaccepted c in
     let beats : (IsBeats (l.connections c).to_device) × ((l.connections c).to_server ≡ []) = grind arith in
     record {
-      pool = grind (arith, nat_tests, ok.pool);
+      unaccepted = grind (arith, nat_tests, ok.unaccepted);
       fresh = grind (arith, nat_tests, ok.fresh);
       upper = grind (arith, nat_tests, ok.upper);
       read = grind (arith, nat_tests, ok.read);
       linked = grind (arith, nat_tests, ok.linked);
       dialed = grind (arith, nat_tests, ok.dialed);
       silent = ok.silent;
-      wired = let w = ok.wired in subst (λ (x : Channels). ChannelsOk journal x) (sym (channels_accept journal count l c ok o a)) (wired_accept journal l c (same_link (upper_link l.peer.upper) (Some c)) refl w beats a);
+      channels_ok = let w = ok.channels_ok in subst (λ (x : Channels). ChannelsOk journal x) (sym (channels_accept journal count l c ok o a)) (wired_accept journal l c (same_link (upper_link l.peer.upper) (Some c)) refl w beats a);
     }
   where
     wired_accept : (journal : List Entry) (l : Pairing) (c : ℕ) (b : Bool) → same_link (upper_link l.peer.upper) (Some c) ≡ b → ChannelsOk journal (channels l) → (IsBeats (l.connections c).to_device) × ((l.connections c).to_server ≡ []) → (l.connections c).accepted ≡ false
@@ -143,16 +143,16 @@ replication_accept journal w r true down view phase prefix ok h g i =
     rw new (keeps_accept (replication journal w r view phase prefix) i (transfer_in r w.down) old)
 
 is_greeting : (journal : List Entry) (count : ℕ) (l : Pairing) (c : ℕ) → PairingOk journal count l → (l.connections c).accepted ≡ false → same_link (upper_link l.peer.upper) (Some c) ≡ true → ((channels l).upper ≡ Greets) × ((channels l).accepted ≡ false)
-is_greeting journal count l c ok a e = let w = ok.wired.above in grind (arith, nat_tests)
+is_greeting journal count l c ok a e = let w = ok.channels_ok.upper_part in grind (arith, nat_tests)
 
 pub inv_accept : (journal : List Entry) (count : ℕ) (l : Pairing) (c : ℕ) → PairingInvariant journal count l → (l.connections c).opener ≡ TheServer → (l.connections c).accepted ≡ false → PairingInvariant journal count (pairing_accept l c)
 inv_accept journal count l c i o a =
-    let p = i.ok.pool c in
+    let p = i.ok.unaccepted c in
     let beats : IsBeats (l.connections c).to_device = grind arith in
     record {
       ok = ok_accept journal count l c i.ok o a;
       replications = λ r. subst (λ (x : Channels). IsInvariant (replication journal x r (l.peer.views r) (crossed (l.gate.phase r)) (l.applied r))) (sym (channels_accept journal count l c i.ok o a))
-          (replication_accept journal (channels l) r (same_link (upper_link l.peer.upper) (Some c)) (l.connections c).to_device (l.peer.views r) (l.gate.phase r) (l.applied r) i.ok.wired beats (is_greeting journal count l c i.ok a) (i.replications r));
+          (replication_accept journal (channels l) r (same_link (upper_link l.peer.upper) (Some c)) (l.connections c).to_device (l.peer.views r) (l.gate.phase r) (l.applied r) i.ok.channels_ok beats (is_greeting journal count l c i.ok a) (i.replications r));
       holds = i.holds;
     }
 
@@ -177,18 +177,18 @@ inv_open journal count l i =
     let f : (l.connections (count + 1)).opener ≡ Nobody = i.ok.fresh (count + 1) (omega arith) in
     record {
       ok = record {
-        pool = let p = i.ok.pool in grind (arith, nat_tests, p);
+        unaccepted = let p = i.ok.unaccepted in grind (arith, nat_tests, p);
         fresh = let p = i.ok.fresh in grind (arith, nat_tests, p);
         upper = grind (arith, nat_tests, i.ok.upper);
         read = grind (arith, nat_tests, i.ok.read);
         linked = grind (arith, nat_tests, i.ok.linked);
         dialed = grind (arith, nat_tests, i.ok.dialed);
         silent = i.ok.silent;
-        wired = let w = i.ok.wired in subst (λ (x : Channels). ChannelsOk journal x) (sym (channels_open journal count l i.ok)) (grind arith);
+        channels_ok = let w = i.ok.channels_ok in subst (λ (x : Channels). ChannelsOk journal x) (sym (channels_open journal count l i.ok)) (grind arith);
       };
       replications = λ r. subst (λ (x : Channels). IsInvariant (replication journal x r Out (l.gate.phase r) (l.applied r))) (sym (channels_open journal count l i.ok))
-          (subst (λ (x : Option Transfer). IsInvariant (mk (map kind (entries r journal)) (NotConnected false x) Out (ask_of (channels l) r) (channels l).live (incoming_in r (channels l).heard) (l.gate.phase r) (l.applied r)))
-          (readable-in_flight journal (channels l) r i.ok.wired) (keeps_closed (replication journal (channels l) r (l.peer.views r) (l.gate.phase r) (l.applied r)) (i.replications r)));
+          (subst (λ (x : Option Transfer). IsInvariant (replication_of (map kind (entries r journal)) (NotConnected false x) Out (ask_of (channels l) r) (channels l).live (incoming_in r (channels l).heard) (l.gate.phase r) (l.applied r)))
+          (readable-in_flight journal (channels l) r i.ok.channels_ok) (keeps_closed (replication journal (channels l) r (l.peer.views r) (l.gate.phase r) (l.applied r)) (i.replications r)));
       holds = i.holds;
     }
 

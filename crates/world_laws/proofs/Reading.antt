@@ -70,41 +70,41 @@ refused_entry : (l : Replication) → IsInvariant l → (k : ℕ) (b y : Bool) �
 refused_entry l i k b y r a = grind arith
 
 -- an entry of this order, on the replication
-abbrev pub mk : List Kind → InFlight → View → Request → Bool → Incoming → Phase → ℕ → Replication
-mk kinds t v a live c phase prefix = record { kinds = kinds; in_flight = t; view = v; ask = a; live = live; incoming = c; phase = phase; prefix = prefix }
+abbrev pub replication_of : List Kind → InFlight → View → Request → Bool → Incoming → Phase → ℕ → Replication
+replication_of kinds t v a live c phase prefix = record { kinds = kinds; in_flight = t; view = v; ask = a; live = live; incoming = c; phase = phase; prefix = prefix }
 
 pub prefix_in_step : (l : Replication) → IsInvariant l → (k : ℕ) → readable l.in_flight ≡ Some (TransferEntry k) → (kd : Kind) → slice_get l.kinds k ≡ Some kd → l.phase ≡ InStep → (kd ≡ IsWhole → ⊥) → k ≡ l.prefix
 prefix_in_step l i k r kd g p n = grind arith
 
-in_step_prefix : (kinds : List Kind) (t : InFlight) (v : View) (a : Request) (live : Bool) (c : Incoming) (prefix : ℕ) → IsInvariant (mk kinds t v a live c InStep prefix) → (k : ℕ) → readable t ≡ Some (TransferEntry k) → (kd : Kind) → slice_get kinds k ≡ Some kd → (kd ≡ IsWhole → ⊥) → k ≡ prefix
+in_step_prefix : (kinds : List Kind) (t : InFlight) (v : View) (a : Request) (live : Bool) (c : Incoming) (prefix : ℕ) → IsInvariant (replication_of kinds t v a live c InStep prefix) → (k : ℕ) → readable t ≡ Some (TransferEntry k) → (kd : Kind) → slice_get kinds k ≡ Some kd → (kd ≡ IsWhole → ⊥) → k ≡ prefix
 in_step_prefix kinds t v a live c prefix i k r kd g n = grind arith
 
-ready_if : (kinds : List Kind) (t : InFlight) (v : View) (a : Request) (live : Bool) (c : Incoming) (prefix k : ℕ) (b no : Bool) → IsInvariant (mk kinds (answered (b && true) t) v a live c InStep (k + 1))
-    → IsInvariant (mk kinds (answered (b && is_success true (if no then NoDeck else Okay)) t) v a live c InStep (applied_step IsReady true prefix k (if no then NoDeck else Okay)))
+ready_if : (kinds : List Kind) (t : InFlight) (v : View) (a : Request) (live : Bool) (c : Incoming) (prefix k : ℕ) (b no : Bool) → IsInvariant (replication_of kinds (answered (b && true) t) v a live c InStep (k + 1))
+    → IsInvariant (replication_of kinds (answered (b && is_success true (if no then NoDeck else Okay)) t) v a live c InStep (applied_step IsReady true prefix k (if no then NoDeck else Okay)))
 ready_if kinds t v a live c prefix k b true i = i
 ready_if kinds t v a live c prefix k b false i = i
 
 abbrev pub after_entry : List Kind → InFlight → View → Request → Bool → Incoming → Phase → ℕ → ℕ → Kind → Bool → ReadResult → Replication
-after_entry kinds t v a live c phase prefix k kd b x = mk kinds (answered (b && is_success (is_ready kd) x.status) t) v a live c x.phase (applied_step kd (is_in phase) prefix k x.status)
+after_entry kinds t v a live c phase prefix k kd b x = replication_of kinds (answered (b && is_success (is_ready kd) x.status) t) v a live c x.phase (applied_step kd (is_in phase) prefix k x.status)
 
-pub core_entry : (kinds : List Kind) (t : InFlight) (v : View) (a : Request) (live : Bool) (c : Incoming) (phase : Phase) (prefix : ℕ) → IsInvariant (mk kinds t v a live c phase prefix)
+pub core_entry : (kinds : List Kind) (t : InFlight) (v : View) (a : Request) (live : Bool) (c : Incoming) (phase : Phase) (prefix : ℕ) → IsInvariant (replication_of kinds t v a live c phase prefix)
     → (k : ℕ) → readable t ≡ Some (TransferEntry k) → (kd : Kind) → slice_get kinds k ≡ Some kd → (b : Bool) (decks : Decks) (held : Option Order) (wanted : Bool) (ch : Edit) (ap : Applied (Option Order))
     → (phase ≡ InStep → k ≡ prefix → (o : Option Order) × (ap ≡ Done o)) → IsInvariant (after_entry kinds t v a live c phase prefix k kd b (read_by phase kd decks held wanted ch ap))
-core_entry kinds t v a live c Asked prefix i k r kd g b decks held wanted ch ap h = crossed_entry (mk kinds t v a live c Asked prefix) i k b (is_ready kd) r tt
-core_entry kinds t v a live c Crossed prefix i k r kd g b decks held wanted ch ap h = crossed_entry (mk kinds t v a live c Crossed prefix) i k b (is_ready kd) r tt
-core_entry kinds t v a live c OutOfStep prefix i k r IsWhole g b decks held wanted ch ap h = keeps_reads_whole (mk kinds t v a live c OutOfStep prefix) i k (b && true) r g (λ x. x)
-core_entry kinds t v a live c OutOfStep prefix i k r IsNotReady g b decks held wanted ch ap h = keeps_reads_passed (mk kinds t v a live c OutOfStep prefix) i k (b && true) r refl
-core_entry kinds t v a live c OutOfStep prefix i k r IsAction g b decks held wanted ch ap h = refused_entry (mk kinds t v a live c OutOfStep prefix) i k b false r (λ x. x)
-core_entry kinds t v a live c OutOfStep prefix i k r IsReady g b decks held wanted ch ap h = refused_entry (mk kinds t v a live c OutOfStep prefix) i k b true r (λ x. x)
-core_entry kinds t v a live c InStep prefix i k r IsWhole g b decks held wanted ch ap h = keeps_reads_whole (mk kinds t v a live c InStep prefix) i k (b && true) r g (λ x. x)
+core_entry kinds t v a live c Asked prefix i k r kd g b decks held wanted ch ap h = crossed_entry (replication_of kinds t v a live c Asked prefix) i k b (is_ready kd) r tt
+core_entry kinds t v a live c Crossed prefix i k r kd g b decks held wanted ch ap h = crossed_entry (replication_of kinds t v a live c Crossed prefix) i k b (is_ready kd) r tt
+core_entry kinds t v a live c OutOfStep prefix i k r IsWhole g b decks held wanted ch ap h = keeps_reads_whole (replication_of kinds t v a live c OutOfStep prefix) i k (b && true) r g (λ x. x)
+core_entry kinds t v a live c OutOfStep prefix i k r IsNotReady g b decks held wanted ch ap h = keeps_reads_passed (replication_of kinds t v a live c OutOfStep prefix) i k (b && true) r refl
+core_entry kinds t v a live c OutOfStep prefix i k r IsAction g b decks held wanted ch ap h = refused_entry (replication_of kinds t v a live c OutOfStep prefix) i k b false r (λ x. x)
+core_entry kinds t v a live c OutOfStep prefix i k r IsReady g b decks held wanted ch ap h = refused_entry (replication_of kinds t v a live c OutOfStep prefix) i k b true r (λ x. x)
+core_entry kinds t v a live c InStep prefix i k r IsWhole g b decks held wanted ch ap h = keeps_reads_whole (replication_of kinds t v a live c InStep prefix) i k (b && true) r g (λ x. x)
 core_entry kinds t v a live c InStep prefix i k r IsNotReady g b decks held wanted ch ap h =
-    keeps_reads_step (mk kinds t v a live c InStep prefix) i k (b && true) r (in_step_prefix kinds t v a live c prefix i k r IsNotReady g (λ z. cc)) refl
+    keeps_reads_step (replication_of kinds t v a live c InStep prefix) i k (b && true) r (in_step_prefix kinds t v a live c prefix i k r IsNotReady g (λ z. cc)) refl
 core_entry kinds t v a live c InStep prefix i k r IsAction g b decks held wanted ch ap h =
     let m = in_step_prefix kinds t v a live c prefix i k r IsAction g (λ z. cc) in
-    rw (h refl m).1 (keeps_reads_step (mk kinds t v a live c InStep prefix) i k (b && true) r m refl)
+    rw (h refl m).1 (keeps_reads_step (replication_of kinds t v a live c InStep prefix) i k (b && true) r m refl)
 core_entry kinds t v a live c InStep prefix i k r IsReady g b decks held wanted ch ap h =
     let m = in_step_prefix kinds t v a live c prefix i k r IsReady g (λ z. cc) in
-    rw (h refl m).1 (ready_if kinds t v a live c prefix k b (decks.handed && (decks.left == 0)) (keeps_reads_step (mk kinds t v a live c InStep prefix) i k (b && true) r m refl))
+    rw (h refl m).1 (ready_if kinds t v a live c prefix k b (decks.handed && (decks.left == 0)) (keeps_reads_step (replication_of kinds t v a live c InStep prefix) i k (b && true) r m refl))
 
 ready_prefix : (prefix k : ℕ) (no : Bool) → applied_step IsReady true prefix k (if no then NoDeck else Okay) ≡ k + 1
 ready_prefix prefix k true = refl
@@ -145,21 +145,21 @@ crossed_again l i m b r a = grind arith
 refused_again : (l : Replication) → IsInvariant l → (m : ℕ) (b : Bool) → readable l.in_flight ≡ Some (TransferAgain m) → (IsAsking l.phase → ⊥) → IsInvariant (record l { in_flight = answered (b && false) l.in_flight; phase = OutOfStep })
 refused_again l i m b r a = grind arith
 
-again_if : (kinds : List Kind) (t : InFlight) (v : View) (a : Request) (live : Bool) (c : Incoming) (prefix : ℕ) (b no : Bool) → IsInvariant (mk kinds (answered (b && true) t) v a live c InStep prefix)
-    → IsInvariant (mk kinds (answered (b && is_success true (if no then NoDeck else Okay)) t) v a live c InStep prefix)
+again_if : (kinds : List Kind) (t : InFlight) (v : View) (a : Request) (live : Bool) (c : Incoming) (prefix : ℕ) (b no : Bool) → IsInvariant (replication_of kinds (answered (b && true) t) v a live c InStep prefix)
+    → IsInvariant (replication_of kinds (answered (b && is_success true (if no then NoDeck else Okay)) t) v a live c InStep prefix)
 again_if kinds t v a live c prefix b true i = i
 again_if kinds t v a live c prefix b false i = i
 
 -- a READY sent again
-pub core_again : (kinds : List Kind) (t : InFlight) (v : View) (a : Request) (live : Bool) (c : Incoming) (phase : Phase) (prefix : ℕ) → IsInvariant (mk kinds t v a live c phase prefix)
+pub core_again : (kinds : List Kind) (t : InFlight) (v : View) (a : Request) (live : Bool) (c : Incoming) (phase : Phase) (prefix : ℕ) → IsInvariant (replication_of kinds t v a live c phase prefix)
     → (m : ℕ) → readable t ≡ Some (TransferAgain m) → (b : Bool) (decks : Decks) (held : Option Order) (wanted : Bool) (ch : Edit) (ap : Applied (Option Order))
     → (phase ≡ InStep → (o : Option Order) × (ap ≡ Done o))
-    → IsInvariant (mk kinds (answered (b && is_success true (read_by phase IsReady decks held wanted ch ap).status) t) v a live c (read_by phase IsReady decks held wanted ch ap).phase prefix)
-core_again kinds t v a live c Asked prefix i m r b decks held wanted ch ap h = crossed_again (mk kinds t v a live c Asked prefix) i m b r tt
-core_again kinds t v a live c Crossed prefix i m r b decks held wanted ch ap h = crossed_again (mk kinds t v a live c Crossed prefix) i m b r tt
-core_again kinds t v a live c OutOfStep prefix i m r b decks held wanted ch ap h = refused_again (mk kinds t v a live c OutOfStep prefix) i m b r (λ x. x)
+    → IsInvariant (replication_of kinds (answered (b && is_success true (read_by phase IsReady decks held wanted ch ap).status) t) v a live c (read_by phase IsReady decks held wanted ch ap).phase prefix)
+core_again kinds t v a live c Asked prefix i m r b decks held wanted ch ap h = crossed_again (replication_of kinds t v a live c Asked prefix) i m b r tt
+core_again kinds t v a live c Crossed prefix i m r b decks held wanted ch ap h = crossed_again (replication_of kinds t v a live c Crossed prefix) i m b r tt
+core_again kinds t v a live c OutOfStep prefix i m r b decks held wanted ch ap h = refused_again (replication_of kinds t v a live c OutOfStep prefix) i m b r (λ x. x)
 core_again kinds t v a live c InStep prefix i m r b decks held wanted ch ap h =
-    rw (h refl).1 (again_if kinds t v a live c prefix b (decks.handed && (decks.left == 0)) (keeps_reads_again (mk kinds t v a live c InStep prefix) i m (b && true) r))
+    rw (h refl).1 (again_if kinds t v a live c prefix b (decks.handed && (decks.left == 0)) (keeps_reads_again (replication_of kinds t v a live c InStep prefix) i m (b && true) r))
 
 -- what is held stays
 pub held_again : (phase : Phase) (decks : Decks) (held : Option Order) (wanted : Bool) (ch : Edit) (ap : Applied (Option Order)) → (phase ≡ InStep → ap ≡ Done held) → (read_by phase IsReady decks held wanted ch ap).held ≡ held

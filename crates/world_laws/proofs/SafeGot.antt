@@ -31,7 +31,7 @@ got_tag journal AsksAll p q m a t = absurd (let n : Untagged ≡ OfList q m = sy
 got_tag journal AsksBeat p q m a t = absurd (let y = ap (λ (z : Packet). z.tag) a in let n : Untagged ≡ OfList q m = sym y ∙ t in cc)
 
 answer_front : (journal : List Entry) (count : ℕ) (l : Pairing) (c : ℕ) (p : Packet) → PairingInvariant journal count l → l.gate.link ≡ Some c → front (l.connections c).to_device ≡ Some p → Answer_to journal l.gate.out (p ∷ [])
-answer_front journal count l c p i e f = let h = got_front journal count l c p i.ok e f in subst (λ (ps : List Packet). Answer_to journal l.gate.out ps) h i.ok.wired.answer
+answer_front journal count l c p i e f = let h = got_front journal count l c p i.ok e f in subst (λ (ps : List Packet). Answer_to journal l.gate.out ps) h i.ok.channels_ok.answer
 
 asked_prefix : (l : Replication) → IsInvariant l → (m : ℕ) → l.ask ≡ AnsweredWith m → l.prefix ≤ m
 asked_prefix l i m a = grind arith
@@ -39,7 +39,7 @@ asked_prefix l i m a = grind arith
 list_bound : (journal : List Entry) (count : ℕ) (l : Pairing) (c : ℕ) (p : Packet) → PairingInvariant journal count l → l.gate.link ≡ Some c → front (l.connections c).to_device ≡ Some p → (q : Text) (m : ℕ) → p.tag ≡ OfList q m → l.applied q ≤ m
 list_bound journal count l c p i e f q m t =
     let out = got_tag journal l.gate.out p q m (answer_front journal count l c p i e f) t in
-    let a : ask_of (channels l) q ≡ AnsweredWith m = ask_got journal (channels l) q p i.ok.wired out (got_front journal count l c p i.ok e f) ∙ (rw t refl) in
+    let a : ask_of (channels l) q ≡ AnsweredWith m = ask_got journal (channels l) q p i.ok.channels_ok out (got_front journal count l c p i.ok e f) ∙ (rw t refl) in
     asked_prefix (replication journal (channels l) q (l.peer.views q) (l.gate.phase q) (l.applied q)) (i.replications q) m a
 
 prefix_got_grows : (applied : Text → ℕ) (t : Tag) (s : Step) (r : Text) → ((q : Text) (m : ℕ) → t ≡ OfList q m → applied q ≤ m) → applied r ≤ applied_got applied t s r

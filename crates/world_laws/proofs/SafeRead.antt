@@ -26,7 +26,7 @@ use Rattle.world_laws.proofs.PairingRead.{each_entry, each_again, the_entry, ent
 use Rattle.mos_machines.specs.Server.{entry_packet, again_packet}
 
 pub tagged_front : (journal : List Entry) (count : ℕ) (l : Pairing) (v : ℕ) (p : Packet) → PairingInvariant journal count l → l.gate.upper ≡ Some v → front (l.connections v).to_device ≡ Some p → Tagged journal p p.tag
-tagged_front journal count l v p i u f = let d = down_front journal count l v p i.ok u f in subst (λ (ps : List Packet). DownOk journal ps) d i.ok.wired.down
+tagged_front journal count l v p i u f = let d = down_front journal count l v p i.ok u f in subst (λ (ps : List Packet). DownOk journal ps) d i.ok.channels_ok.down
 
 pub reads_is : (l : Pairing) (v : ℕ) (p : Packet) → l.gate.upper ≡ Some v → front (l.connections v).to_device ≡ Some p → reads_if l l.gate.upper ≡ reads_from l v (l.connections v) p (gate_read l.gate l.decks p.message)
 reads_is l v p u f = subst (λ (z : Option ℕ). reads_if l z ≡ reads_from l v (l.connections v) p (gate_read l.gate l.decks p.message)) (sym u)
@@ -72,7 +72,7 @@ released_again_here : (journal : List Entry) (count : ℕ) (l : Pairing) (v : �
 released_again_here journal count l v r m lok i u f fine =
     let d = down_front journal count l v (again_packet journal r m) i.ok u f in
     let it : transfer_in r (channels l).down ≡ Some (TransferAgain m) = rw d (rw (same-self r) refl) in
-    let rd : readable (in_flight_by journal (channels l) r (channels l).upper) ≡ Some (TransferAgain m) = readable-in_flight journal (channels l) r i.ok.wired ∙ it in
+    let rd : readable (in_flight_by journal (channels l) r (channels l).upper) ≡ Some (TransferAgain m) = readable-in_flight journal (channels l) r i.ok.channels_ok ∙ it in
     let fs = again_facts (replication journal (channels l) r (l.peer.views r) (l.gate.phase r) (l.applied r)) (i.replications r) m rd in
     let kd : (m - 1 < entry_count journal r) × (kind (edit_at journal r (m - 1)) ≡ IsReady) = kind_of_at journal r (m - 1) IsReady fs.2 in
     let status : (read_by (l.gate.phase r) IsReady l.decks (l.gate.held r) (l.gate.wanted r) (edit_at journal r (m - 1)) (apply r (l.gate.held r) (edit_at journal r (m - 1)))).status ≡ Okay = rw kd.1 at fine in
@@ -85,7 +85,7 @@ status_here : (journal : List Entry) (count : ℕ) (l : Pairing) (v : ℕ) (r : 
 status_here journal count l v r k lok i u f b ph =
     let d = down_front journal count l v (entry_packet journal r k) i.ok u f in
     let it : transfer_in r (channels l).down ≡ Some (TransferEntry k) = rw d (rw (same-self r) refl) in
-    let rd : readable (in_flight_by journal (channels l) r (channels l).upper) ≡ Some (TransferEntry k) = readable-in_flight journal (channels l) r i.ok.wired ∙ it in
+    let rd : readable (in_flight_by journal (channels l) r (channels l).upper) ≡ Some (TransferEntry k) = readable-in_flight journal (channels l) r i.ok.channels_ok ∙ it in
     let kd = kind_at journal r k b in
     rw ph (status_entry journal r k (kind (edit_at journal r k)) (l.applied r) l.decks (l.gate.held r) (l.gate.wanted r) (apply r (l.gate.held r) (edit_at journal r k))
     (λ n. prefix_in_step (replication journal (channels l) r (l.peer.views r) (l.gate.phase r) (l.applied r)) (i.replications r) k rd (kind (edit_at journal r k)) kd ph n)
@@ -96,7 +96,7 @@ again_status_here : (journal : List Entry) (count : ℕ) (l : Pairing) (v : ℕ)
 again_status_here journal count l v r m lok i u f ph =
     let d = down_front journal count l v (again_packet journal r m) i.ok u f in
     let it : transfer_in r (channels l).down ≡ Some (TransferAgain m) = rw d (rw (same-self r) refl) in
-    let rd : readable (in_flight_by journal (channels l) r (channels l).upper) ≡ Some (TransferAgain m) = readable-in_flight journal (channels l) r i.ok.wired ∙ it in
+    let rd : readable (in_flight_by journal (channels l) r (channels l).upper) ≡ Some (TransferAgain m) = readable-in_flight journal (channels l) r i.ok.channels_ok ∙ it in
     let fs = again_facts (replication journal (channels l) r (l.peer.views r) (l.gate.phase r) (l.applied r)) (i.replications r) m rd in
     let kd : (m - 1 < entry_count journal r) × (kind (edit_at journal r (m - 1)) ≡ IsReady) = kind_of_at journal r (m - 1) IsReady fs.2 in
     let suc_m : m - 1 + 1 ≡ l.applied r = let x = fs.3 ph in omega (arith, fs, x) in
@@ -108,7 +108,7 @@ pub prefix_here : (journal : List Entry) (count : ℕ) (l : Pairing) (v : ℕ) (
 prefix_here journal count l v q k i u f =
     let d = down_front journal count l v (entry_packet journal q k) i.ok u f in
     let it : transfer_in q (channels l).down ≡ Some (TransferEntry k) = rw d (rw (same-self q) refl) in
-    let rd : readable (in_flight_by journal (channels l) q (channels l).upper) ≡ Some (TransferEntry k) = readable-in_flight journal (channels l) q i.ok.wired ∙ it in
+    let rd : readable (in_flight_by journal (channels l) q (channels l).upper) ≡ Some (TransferEntry k) = readable-in_flight journal (channels l) q i.ok.channels_ok ∙ it in
     grows_entry (l.gate.phase q) (kind (edit_at journal q k)) (l.applied q) k (entry_result journal l q k).status (read_bound (replication journal (channels l) q (l.peer.views q) (l.gate.phase q) (l.applied q)) (i.replications q) k rd)
   where
     read_bound : (l : Replication) → IsInvariant l → (k : ℕ) → readable l.in_flight ≡ Some (TransferEntry k) → l.prefix ≤ k

@@ -21,7 +21,7 @@ use Rattle.world_laws.specs.World.WorldEvent.{Command, AtDevice, Lose, FailNext,
 use Rattle.world_laws.specs.World.Effect.{Impossible, Performed}
 use Rattle.world_laws.specs.Safe.{IsConsistentAt, IsConsistent, IsEventSafe, JournalGrows, IsDeviceSafe, IsStepSafe, IsSafe, is_in_flight}
 use Rattle.world_laws.proofs.Replication.{Replication, IsInvariant, NoEntry}
-use Rattle.world_laws.proofs.Channels.{replication, channels, in_flight_by, above}
+use Rattle.world_laws.proofs.Channels.{replication, channels, in_flight_by, upper_part}
 use Rattle.world_laws.proofs.Invariant.{PairingInvariant}
 use Rattle.world_laws.proofs.Journals.{JournalOk, kinds_entry_count, same-false}
 use Rattle.world_laws.proofs.SafeRead.{consistent_read}
@@ -29,7 +29,7 @@ use Rattle.world_laws.proofs.SafeApplied.{other_applied, same_applied, reads_gro
 use Rattle.world_laws.proofs.SafeGot.{gets_grow, consistent_got}
 use Rattle.world_laws.proofs.Worlds.{WorldInvariant, world_keeps, opening_inv}
 
-quiet_in_flight : (journal : List Entry) (l : Pairing) (r : Text) (u : Upper) → is_in_flight r u ≡ false → NoEntry (in_flight_by journal (channels l) r (above u))
+quiet_in_flight : (journal : List Entry) (l : Pairing) (r : Text) (u : Upper) → is_in_flight r u ≡ false → NoEntry (in_flight_by journal (channels l) r (upper_part u))
 quiet_in_flight journal l r Down h = tt
 quiet_in_flight journal l r (Greeting c) h = tt
 quiet_in_flight journal l r (Open c Idle) h = tt

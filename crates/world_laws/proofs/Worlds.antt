@@ -25,7 +25,7 @@ use Rattle.world_laws.proofs.PairingGrow.{inv_grow, inv_given}
 
 inv_count : (journal : List Entry) (count k : ℕ) (l : Pairing) → PairingInvariant journal count l → PairingInvariant journal (count + k) l
 inv_count journal count k l i = record {
-  ok = record { pool = i.ok.pool; fresh = λ c h. i.ok.fresh c (omega arith); upper = i.ok.upper; read = i.ok.read; linked = i.ok.linked; dialed = i.ok.dialed; silent = i.ok.silent; wired = i.ok.wired };
+  ok = record { unaccepted = i.ok.unaccepted; fresh = λ c h. i.ok.fresh c (omega arith); upper = i.ok.upper; read = i.ok.read; linked = i.ok.linked; dialed = i.ok.dialed; silent = i.ok.silent; channels_ok = i.ok.channels_ok };
   replications = i.replications;
   holds = i.holds;
 }
@@ -116,14 +116,14 @@ opening_inv devices = record {
     no_pairing_inv : PairingInvariant [] 0 no_pairing
     no_pairing_inv = record {
       ok = record {
-        pool = λ c. tt;
+        unaccepted = λ c. tt;
         fresh = λ c h. refl;
         upper = λ c e. absurd (cc);
         read = λ c e. absurd (cc);
         linked = λ c e. absurd (cc);
         dialed = λ c e. absurd (cc);
         silent = λ e. refl;
-        wired = record { down = tt; above = refl; requests = refl; answer = refl; one = inl refl; heard = tt; live = λ h. refl };
+        channels_ok = record { down = tt; upper_part = refl; requests = refl; answer = refl; one = inl refl; heard = tt; live = λ h. refl };
       };
       replications = λ r. record { prefix = omega arith; read = tt; in_flight = refl; view = tt; ask = λ x. x; heard = λ x y. cc };
       holds = λ r. refl;

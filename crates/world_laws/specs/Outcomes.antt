@@ -1,5 +1,5 @@
 -- What a script's player is told of an event.
-use Rattle.std.specs.Prelude.{ℕ, length}
+use Rattle.std.specs.Prelude.{ℕ, List as Listing, [], ◌∷◌, length}
 use Rattle.mos_edits.specs.Texts.{Text}
 use Rattle.mos_machines.specs.Messages.{Message, Tag, Packet, Step, status_text}
 use Rattle.mos_machines.specs.Messages.Message.{Heartbeat as BeatMessage, RoAck, RoReq, RoReqAll, RoList, RoListAll}
@@ -50,3 +50,8 @@ outcome_of (Stepped IsUnasked) = Unasked
 -- the outcome of an event in a world
 abbrev pub outcome : World → WorldEvent → Outcome
 outcome w e = outcome_of (world_step w e).1
+
+-- the outcomes of a run
+abbrev pub outcomes : World → Listing WorldEvent → Listing Outcome
+outcomes w [] = []
+outcomes w (e ∷ es) = outcome w e ∷ outcomes (world_step w e).0 es

@@ -2,4 +2,4 @@ use Rattle.world_laws.proofs.SafeRun.{safe_run}
 use Rattle.world_laws.proofs.prefix_consistency.Goals as goal
 
 pub returns : goal.returns
-returns c = λ devices events low high. safe_run devices events
+returns c = safe_run

@@ -1,0 +1,152 @@
+-- Words for worked runs: names and texts as code points, stories of a script, and a session that is opened.
+use Rattle.std.proofs.Common.{◌≡◌, ℕ, List, [], ◌∷◌, Option, None, refl}
+use Rattle.mos_edits.specs.Texts.{Text, same_id}
+use Rattle.mos_edits.specs.Orders.{Order, Story, Item, apply}
+use Rattle.mos_edits.specs.Orders.Edit.{Create}
+use Rattle.mos_edits.specs.Entries.{over_limit}
+use Rattle.world_laws.specs.World.{World, WorldEvent, opening, run, own_time}
+use Rattle.world_laws.specs.World.WorldEvent.{Command, AtDevice}
+use Rattle.world_laws.specs.World.PairingEvent.{OpenTo, Accept, Send, Read, Back, Dial, Admit, Ask, Hear, Got}
+use Rattle.world_laws.specs.Outcomes.{Outcome, outcomes}
+
+-- `A`
+abbrev pub a : Text
+a = 65 ∷ []
+
+-- `B`
+abbrev pub b : Text
+b = 66 ∷ []
+
+-- `C`
+abbrev pub c : Text
+c = 67 ∷ []
+
+-- `D`
+abbrev pub d : Text
+d = 68 ∷ []
+
+-- `E`
+abbrev pub e : Text
+e = 69 ∷ []
+
+-- `q`
+abbrev pub q : Text
+q = 113 ∷ []
+
+-- `r`
+abbrev pub r : Text
+r = 114 ∷ []
+
+-- `x`
+abbrev pub x : Text
+x = 120 ∷ []
+
+-- `y`
+abbrev pub y : Text
+y = 121 ∷ []
+
+-- `z`
+abbrev pub z : Text
+z = 122 ∷ []
+
+-- `OK`
+abbrev pub okay : Text
+okay = 79 ∷ 75 ∷ []
+
+-- `MISSING A`
+abbrev pub missing_a : Text
+missing_a = 77 ∷ 73 ∷ 83 ∷ 83 ∷ 73 ∷ 78 ∷ 71 ∷ 32 ∷ 65 ∷ []
+
+-- `MISSING B`
+abbrev pub missing_b : Text
+missing_b = 77 ∷ 73 ∷ 83 ∷ 83 ∷ 73 ∷ 78 ∷ 71 ∷ 32 ∷ 66 ∷ []
+
+-- `MISSING z`
+abbrev pub missing_z : Text
+missing_z = 77 ∷ 73 ∷ 83 ∷ 83 ∷ 73 ∷ 78 ∷ 71 ∷ 32 ∷ 122 ∷ []
+
+-- `ALREADY THERE C`
+abbrev pub there_c : Text
+there_c = 65 ∷ 76 ∷ 82 ∷ 69 ∷ 65 ∷ 68 ∷ 89 ∷ 32 ∷ 84 ∷ 72 ∷ 69 ∷ 82 ∷ 69 ∷ 32 ∷ 67 ∷ []
+
+-- `ALREADY THERE D`
+abbrev pub there_d : Text
+there_d = 65 ∷ 76 ∷ 82 ∷ 69 ∷ 65 ∷ 68 ∷ 89 ∷ 32 ∷ 84 ∷ 72 ∷ 69 ∷ 82 ∷ 69 ∷ 32 ∷ 68 ∷ []
+
+-- `NOT NOW`
+abbrev pub not_now : Text
+not_now = 78 ∷ 79 ∷ 84 ∷ 32 ∷ 78 ∷ 79 ∷ 87 ∷ []
+
+-- `NOT IN STEP`
+abbrev pub not_in_step : Text
+not_in_step = 78 ∷ 79 ∷ 84 ∷ 32 ∷ 73 ∷ 78 ∷ 32 ∷ 83 ∷ 84 ∷ 69 ∷ 80 ∷ []
+
+-- `NO RUNNING ORDER`
+abbrev pub no_running_order : Text
+no_running_order = 78 ∷ 79 ∷ 32 ∷ 82 ∷ 85 ∷ 78 ∷ 78 ∷ 73 ∷ 78 ∷ 71 ∷ 32 ∷ 79 ∷ 82 ∷ 68 ∷ 69 ∷ 82 ∷ []
+
+-- `STORE FAULT`
+abbrev pub store_fault : Text
+store_fault = 83 ∷ 84 ∷ 79 ∷ 82 ∷ 69 ∷ 32 ∷ 70 ∷ 65 ∷ 85 ∷ 76 ∷ 84 ∷ []
+
+-- `STOPPED`
+abbrev pub stopped : Text
+stopped = 83 ∷ 84 ∷ 79 ∷ 80 ∷ 80 ∷ 69 ∷ 68 ∷ []
+
+-- an item with that identifier, of a device `m1`
+abbrev pub item : Text → Item
+item id = record {
+  id = id;
+  slug = None;
+  obj = id;
+  mos = 109 ∷ 49 ∷ [];
+  abstract_ = None;
+  paths = None;
+  channel = None;
+  ed_start = None;
+  ed_dur = None;
+  user_timing_dur = None;
+  trigger = None;
+  macro_in = None;
+  macro_out = None;
+  metadata = [];
+  others = [];
+}
+
+abbrev pub story : Text → List Item → Story
+story id items = record { id = id; slug = None; num = None; metadata = []; others = []; items = items }
+
+abbrev pub plain : Text → Story
+plain id = story id []
+
+-- an order whose slug is its name
+abbrev pub body : Text → List Story → Order
+body ro stories = record {
+  header = record { ro = ro; slug = ro; channel = None; ed_start = None; ed_dur = None; trigger = None; macro_in = None; macro_out = None; metadata = []; others = [] };
+  stories = stories;
+}
+
+-- The events with which a session opens.
+abbrev pub opening_events : List WorldEvent
+opening_events =
+    AtDevice 1 OpenTo ∷
+    AtDevice 1 (Accept 1) ∷
+    AtDevice 1 Read ∷
+    AtDevice 1 Back ∷
+    AtDevice 1 Dial ∷
+    AtDevice 1 (Admit 2) ∷
+    Command (record { ro = r; edit = Create (body r ((plain a) ∷ (plain b) ∷ (plain c) ∷ [])) }) ∷
+    AtDevice 1 Send ∷
+    AtDevice 1 Read ∷
+    AtDevice 1 Back ∷
+    AtDevice 1 Ask ∷
+    AtDevice 1 Hear ∷
+    AtDevice 1 Got ∷ []
+
+opening_outcomes : outcomes (opening 1) opening_events ≡ Outcome.Connection 1 ∷ Outcome.Done ∷ Outcome.Heartbeat ∷ Outcome.Taken ∷ Outcome.Connection 2 ∷ Outcome.Done ∷ Outcome.Command okay ∷ Outcome.Edit r 0 ∷ Outcome.Ack r okay ∷ Outcome.Taken ∷ Outcome.AskAll ∷ Outcome.ListAll 1 ∷ Outcome.Taken ∷ []
+unfolding same_id apply over_limit own_time
+opening_outcomes = refl
+
+-- a session that is opened: both connections, and the order of A, B and C at the device
+abbrev pub opened : World
+opened = run (opening 1) opening_events
