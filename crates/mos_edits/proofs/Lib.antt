@@ -1,1 +1,6 @@
-pub mod Examples
+pub mod Identifiers
+pub mod Applying
+pub mod Distinct
+pub mod Swaps
+pub mod KeepsDistinct
+mod Examples

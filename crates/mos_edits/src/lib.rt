@@ -1,14 +1,11 @@
-//! Running orders and their edits as plain data: the definitions that the crates of orders, of the two
-//! machines and of the world cite, and their laws.
+//! Running orders and their edits as plain data: the definitions that the crates of orders, of the two machines and of
+//! the world cite, and their laws.
+//!
+//! Each law stands as the contract of a function that does nothing.
 #![tactic(auto)]
 
-ghost use Rattle.std.specs.Prelude.{◌≡◌, Some};
-ghost use Rattle.mos_edits.specs.Texts.{Text};
-ghost use Rattle.mos_edits.specs.KeyedLists.{Applied};
-ghost use Rattle.mos_edits.specs.Orders.{Order, Edit, apply};
+mod edits;
+mod lists;
 
-/// READY changes nothing of an order that is there.
-#[tactic(auto, unfolding(crate::specs::Orders::apply))]
-pub fn ready_changes_nothing()
-    ensures { (r : Text) (o : Order) → apply r (Some o) Edit.Ready ≡ Applied.Done (Some o) }
-{}
+pub use edits::{create_makes_an_order, other_edits_need_an_order, ready_changes_nothing, whole_order_edits_give_their_body};
+pub use lists::{actions_keep_identifiers_distinct, edits_keep_identifiers_distinct, one_identifier_is_equal, orders_keep_identifiers_distinct, swap_twice_changes_nothing};
