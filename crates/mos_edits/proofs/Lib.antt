@@ -3,4 +3,5 @@ pub mod Applying
 pub mod Distinct
 pub mod Swaps
 pub mod KeepsDistinct
+pub mod Journals
 mod Examples

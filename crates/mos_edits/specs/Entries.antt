@@ -1,5 +1,5 @@
 -- The server's journal as one list of entries, the order after the entries of one roID, and which edits are accepted.
-use Rattle.std.specs.Prelude.{ℕ, zero, suc, List, [], ◌∷◌, ◌++◌, length, take, get_or, Bool, true, false, Option, Some, None, if◌then◌else◌, nat_lt, ◌==◌}
+use Rattle.std.specs.Prelude.{◌≡◌, ℕ, zero, suc, List, [], ◌∷◌, ◌++◌, length, take, get_or, Bool, true, false, Option, Some, None, if◌then◌else◌, nat_lt, ◌==◌}
 use Rattle.mos_edits.specs.Texts.{Text, same_id}
 use Rattle.mos_edits.specs.KeyedLists.{ActFault, Applied}
 use Rattle.mos_edits.specs.KeyedLists.Applied.{Done, Fault}
@@ -147,3 +147,8 @@ refusal (Done o) None = None
 -- a limit that the result would pass.
 abbrev pub acceptance : List Entry → Entry → Option Refusal
 acceptance journal e = refusal (apply e.ro (order_now journal e.ro) e.edit) (over_limit (journal ++ e ∷ []) e.ro)
+
+-- each entry of the second list is accepted after those before it
+abbrev pub IsAccepted : List Entry → List Entry → Type 0
+IsAccepted before [] = Unit {0}
+IsAccepted before (e ∷ es) = (acceptance before e ≡ None) × IsAccepted (before ++ e ∷ []) es

@@ -13,8 +13,8 @@ pub record Item : Type 0 where
   pub slug : Option Text
   pub obj : Text
   pub mos : Text
-  pub abstract_ : Option Text
-  pub paths : Option Text
+  pub mos_abstract : Option Text
+  pub obj_paths : Option Text
   pub channel : Option Text
   pub ed_start : Option ℕ
   pub ed_dur : Option ℕ

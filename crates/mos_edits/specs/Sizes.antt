@@ -53,7 +53,7 @@ number_units letters (Some n) = tags_units letters + digits n
 -- itemTrigger, macroIn, macroOut, mosExternalMetadata and elements of other names, in `item`
 abbrev pub item_units : Item → ℕ
 item_units i =
-    tags_units 4 + field_units 6 i.id + optional_units 8 i.slug + field_units 5 i.obj + field_units 5 i.mos + optional_raw_units i.abstract_ + optional_raw_units i.paths
+    tags_units 4 + field_units 6 i.id + optional_units 8 i.slug + field_units 5 i.obj + field_units 5 i.mos + optional_raw_units i.mos_abstract + optional_raw_units i.obj_paths
     + optional_units 11 i.channel + number_units 11 i.ed_start + number_units 9 i.ed_dur + number_units 17 i.user_timing_dur + optional_units 11 i.trigger
     + optional_units 7 i.macro_in + optional_units 8 i.macro_out + raws_units i.metadata + raws_units i.others
 

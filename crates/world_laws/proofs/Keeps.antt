@@ -10,6 +10,7 @@ use Rattle.world_laws.proofs.Replication.Transfer.{TransferEntry, TransferAgain}
 use Rattle.world_laws.proofs.Replication.InFlight.{NotConnected, Nothing, Unread, Acknowledged, Lost}
 use Rattle.world_laws.proofs.Replication.Request.{NotRequested, RequestSent, RequestLost, AnsweredWith}
 use Rattle.world_laws.proofs.Replication.Incoming.{NoneComes, AskComes, BeatComes}
+use Rattle.mos_edits.proofs.Journals.{Grows}
 
 pub keeps_want : (l : Replication) → IsInvariant l → l.phase ≡ InStep → IsInvariant (record l { phase = OutOfStep })
 keeps_want l i e = grind arith
@@ -187,23 +188,6 @@ is_open (Lost i) = true
 abbrev pub given : Bool → Kind → ℕ → View → View
 given true IsWhole n Out = From n
 given b k n v = v
-
-get-left : (xs : List Kind) (x : Kind) (k : ℕ) (y : Kind) → slice_get xs k ≡ Some y → slice_get (xs ++ x ∷ []) k ≡ Some y
-get-left [] x k y h = cc
-get-left (z ∷ xs) x zero y h = h
-get-left (z ∷ xs) x (suc k) y h = get-left xs x k y h
-
-get-last : (xs : List Kind) (x : Kind) → slice_get (xs ++ x ∷ []) (length xs) ≡ Some x
-get-last [] x = refl
-get-last (z ∷ xs) x = get-last xs x
-
--- what was there stays
-pub record Grows (old new : List Kind) : Type 0 where
-  pub longer : length old ≤ length new
-  pub same_id : (k : ℕ) (y : Kind) → slice_get old k ≡ Some y → slice_get new k ≡ Some y
-
-pub grows_push : (xs : List Kind) (x : Kind) → Grows xs (xs ++ x ∷ [])
-grows_push xs x = record { longer = omega (arith, length-append xs (x ∷ [])); same_id = get-left xs x }
 
 pub keeps_grow : (l : Replication) → IsInvariant l → (ks : List Kind) → Grows l.kinds ks → IsInvariant (record l { kinds = ks })
 keeps_grow l i ks g = record {

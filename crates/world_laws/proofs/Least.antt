@@ -2,9 +2,9 @@
 use Rattle.std.proofs.Common.{◌≡◌, ℕ, zero, suc, ◌+◌, ◌<◌, List, [], ◌∷◌, length, take, slice_get, Bool, true, false, Some, arith, refl, if◌then◌else◌, ap, ◌∙◌, subst}
 use Rattle.mos_edits.specs.Texts.{Text, same_id, set_order}
 use Rattle.mos_edits.specs.Entries.{Entry, entry_count, entries}
-use Rattle.world_laws.proofs.Journals.{same-true}
 use Rattle.mos_machines.specs.Server.{ServerOut, View, due_at, first_due, first_of_two}
 use Rattle.mos_machines.specs.Server.ServerOut.{Idle, SendsEdit, SendsAgain, SendsBeat}
+use Rattle.mos_edits.proofs.Identifiers.{same-true}
 
 -- what is due at journal number n
 abbrev pub due_in : (Text → View) → (Text → ℕ) → List Entry → ℕ → ServerOut

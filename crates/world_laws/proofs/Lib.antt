@@ -2,7 +2,6 @@ pub mod Replication
 pub mod Keeps
 pub mod Channels
 pub mod Joining
-pub mod Journals
 pub mod Reading
 pub mod Invariant
 pub mod PairingRead
@@ -14,7 +13,6 @@ pub mod PairingLower
 pub mod PairingAsk
 pub mod PairingHear
 pub mod PairingGet
-pub mod Growth
 pub mod PairingGrow
 pub mod Worlds
 pub mod SafeRead

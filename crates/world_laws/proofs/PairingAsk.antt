@@ -18,8 +18,8 @@ use Rattle.world_laws.proofs.Replication.Incoming.{NoneComes, AskComes}
 use Rattle.world_laws.proofs.Channels.{Channels, ChannelsOk, PairingOk, replication, channels, ask_of, incoming_in, Requests, incoming_by}
 use Rattle.world_laws.proofs.Keeps.{comes, keeps_ask, keeps_ask_lost, keeps_tell}
 use Rattle.world_laws.proofs.Joining.{pushed}
-use Rattle.world_laws.proofs.Journals.{same-true, same-self}
 use Rattle.world_laws.proofs.Invariant.{PairingInvariant}
+use Rattle.mos_edits.proofs.Identifiers.{same-true, same-self}
 
 abbrev pub ask_channels : Channels → Bool → GateOut → Message → Channels
 ask_channels w lost a m = record w { out = a; sent = pushed lost (untagged m) w.sent; heard = if w.live then pushed lost (untagged m) w.heard else w.heard }

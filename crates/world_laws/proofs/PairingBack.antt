@@ -21,9 +21,9 @@ use Rattle.world_laws.proofs.Channels.UpperPart.{NotOpen, Greets, Opened}
 use Rattle.world_laws.proofs.Keeps.{keeps_greeted, keeps_back_success, keeps_back_bad, after_success}
 use Rattle.world_laws.proofs.PairingUpper.{inv_cut}
 use Rattle.world_laws.proofs.PairingLose.{inv_taken, pairing_with}
-use Rattle.world_laws.proofs.Journals.{same-true, same-self, same-false}
 use Rattle.world_laws.proofs.Invariant.{PairingInvariant}
 use Rattle.world_laws.proofs.Reading.{replication_of}
+use Rattle.mos_edits.proofs.Identifiers.{same-true, same-self, same-false}
 
 -- taken without effect, and cut
 back_unasked : (journal : List Entry) (count : ℕ) (l : Pairing) (c : ℕ) → PairingInvariant journal count l → upper_link l.peer.upper ≡ Some c → PairingInvariant journal count (takes_from l c (l.connections c) (peer_cut l.peer, Unasked)).0

@@ -19,10 +19,10 @@ use Rattle.world_laws.proofs.Replication.{Request, IsInvariant}
 use Rattle.world_laws.proofs.Replication.Request.{NotRequested, RequestLost, AnsweredWith}
 use Rattle.world_laws.proofs.Channels.{Channels, ChannelsOk, PairingOk, replication, channels, in_flight_by, ask_of, incoming_in, Answer_to, IsAnswer, list_tag}
 use Rattle.world_laws.proofs.Keeps.{keeps_got_list, keeps_got_crossed, keeps_got_other}
-use Rattle.world_laws.proofs.Journals.{same-true, same-self}
 use Rattle.world_laws.proofs.Invariant.{PairingInvariant}
 use Rattle.world_laws.proofs.Reading.{replication_of}
 use Rattle.mos_machines.specs.Messages.Tag.{Untagged, OfEntry, OfAgain, OfList}
+use Rattle.mos_edits.proofs.Identifiers.{same-true, same-self}
 
 abbrev pub got_channels : Channels → Channels
 got_channels w = record w { out = NotAsking; got = [] }

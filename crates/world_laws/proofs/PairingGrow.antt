@@ -14,7 +14,6 @@ use Rattle.world_laws.proofs.Replication.Request.{AnsweredWith}
 use Rattle.world_laws.proofs.Channels.{Channels, UpperPart, ChannelsOk, replication, channels, transfer_in, in_flight_by, ask_of, transfer_out, Answer_to, open_in_flight, is_some_packet, success_transfer, upper_part, Tagged, DownOk, Carries, UpperPartOk, success_front}
 use Rattle.world_laws.proofs.Channels.UpperPart.{NotOpen, Greets, Opened}
 use Rattle.world_laws.proofs.Joining.{readable-in_flight}
-use Rattle.world_laws.proofs.Journals.{same-true, same-self, kind_at, kinds_entry_count}
 use Rattle.world_laws.proofs.Invariant.{PairingInvariant}
 use Rattle.mos_edits.specs.Entries.Kind.{IsWhole, IsAction, IsReady, IsNotReady}
 use Rattle.mos_machines.specs.Messages.Tag.{Untagged, OfEntry, OfAgain, OfList}
@@ -22,8 +21,9 @@ use Rattle.mos_machines.specs.Server.Upper.{Down, Greeting, Open}
 use Rattle.mos_machines.specs.Server.ServerOut.{Idle, SendsEdit, SendsAgain, SendsBeat}
 use Rattle.world_laws.specs.World.{Pairing, pairing_given}
 use Rattle.world_laws.proofs.Keeps.{keeps_grow, keeps_given, is_open as in_flight_open}
-use Rattle.world_laws.proofs.Growth.{Grown, grown_push, entry_count_push, edit_push}
 use Rattle.world_laws.proofs.Replication.Transfer.{TransferEntry, TransferAgain}
+use Rattle.mos_edits.proofs.Identifiers.{same-true, same-self}
+use Rattle.mos_edits.proofs.Journals.{kind_at, kinds_entry_count, Grown, grown_push, entry_count_push, edit_push}
 
 -- what is on its way is in the journal
 pub record Bounds (journal : List Entry) (w : Channels) : Type 0 where

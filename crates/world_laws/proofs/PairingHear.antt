@@ -19,7 +19,6 @@ use Rattle.world_laws.proofs.Replication.Incoming.{NoneComes, AskComes, BeatCome
 use Rattle.world_laws.proofs.Channels.{Channels, ChannelsOk, PairingOk, replication, channels, in_flight_by, ask_of, incoming_in, incoming_by, IsAnswer, ask_by, upper_part}
 use Rattle.world_laws.proofs.Keeps.{heard, answers, keeps_hear_beat, keeps_hear_other, keeps_hear_not_now, keeps_hear_ask, keeps_lost_ask}
 use Rattle.world_laws.proofs.Joining.{pushed}
-use Rattle.world_laws.proofs.Journals.{same-true, same-self, same-false, kind_at, kinds_entry_count}
 use Rattle.world_laws.proofs.Invariant.{PairingInvariant}
 use Rattle.world_laws.proofs.Reading.{replication_of}
 use Rattle.mos_edits.specs.Entries.Kind.{IsReady}
@@ -28,6 +27,8 @@ use Rattle.std.proofs.Math.Seq.{take-length}
 use Rattle.mos_machines.specs.Messages.Status.{Okay, NotNow, NotSupported}
 use Rattle.mos_machines.specs.Server.Upper.{Down, Greeting, Open}
 use Rattle.mos_machines.specs.Server.ServerOut.{Idle, SendsEdit, SendsAgain, SendsBeat}
+use Rattle.mos_edits.proofs.Identifiers.{same-true, same-self, same-false}
+use Rattle.mos_edits.proofs.Journals.{kind_at, kinds_entry_count}
 
 abbrev pub FitsAnswer : List Entry → Message → Packet → Type 0
 FitsAnswer journal (Heartbeat time) a = a ≡ untagged (Heartbeat time)

@@ -16,9 +16,9 @@ use Rattle.world_laws.proofs.Replication.Request.{NotRequested, RequestSent}
 use Rattle.world_laws.proofs.Replication.Incoming.{AskComes}
 use Rattle.world_laws.proofs.Channels.{Channels, ChannelsOk, PairingOk, replication, channels, ask_of, incoming_in, same_link, IsShort}
 use Rattle.world_laws.proofs.Keeps.{dropped, keeps_hangup, keeps_miss, keeps_admit, keeps_admit_other, keeps_want, keeps_reboot}
-use Rattle.world_laws.proofs.Journals.{same-true}
 use Rattle.world_laws.proofs.PairingUpper.{in_flight_moved}
 use Rattle.world_laws.proofs.Invariant.{PairingInvariant}
+use Rattle.mos_edits.proofs.Identifiers.{same-true}
 
 -- the device drops its connection
 abbrev pub no_lower : Channels → Channels

@@ -14,7 +14,6 @@ use Rattle.world_laws.proofs.Replication.{Replication, IsInvariant, readable}
 use Rattle.world_laws.proofs.Channels.{Channels, PairingOk, replication, channels, transfer_in, in_flight_by, ask_of, incoming_in, DownOk, Tagged}
 use Rattle.world_laws.proofs.Joining.{SameLinks, read_pairing, channels_read, readable-in_flight}
 use Rattle.world_laws.proofs.Reading.{AnswerTo, read_channels, channels_ok_read, in_flight_read, in_flight_read_none, core_entry, held_entry, core_again, held_again, prefix_in_step}
-use Rattle.world_laws.proofs.Journals.{same-true, same-self, same-false, JournalOk, order-ready, kind_at, kind_of_at}
 use Rattle.mos_edits.specs.Entries.Kind.{IsWhole, IsReady}
 use Rattle.mos_machines.specs.Messages.Status.{NotSupported}
 use Rattle.mos_edits.specs.KeyedLists.Applied.{Done}
@@ -23,6 +22,8 @@ use Rattle.mos_machines.specs.Device.Phase.{InStep}
 use Rattle.world_laws.proofs.Replication.Transfer.{TransferEntry, TransferAgain}
 use Rattle.world_laws.proofs.Invariant.{PairingInvariant}
 use Rattle.mos_machines.specs.Server.{entry_packet, again_packet}
+use Rattle.mos_edits.proofs.Identifiers.{same-true, same-self, same-false}
+use Rattle.mos_edits.proofs.Journals.{JournalOk, order-ready, kind_at, kind_of_at}
 
 pub down_front : (journal : List Entry) (count : ℕ) (l : Pairing) (v : ℕ) (p : Packet) → PairingOk journal count l → l.gate.upper ≡ Some v → front (l.connections v).to_device ≡ Some p → (channels l).down ≡ p ∷ []
 down_front journal count l v p ok u f = let d = ok.channels_ok.down in grind arith

@@ -19,9 +19,10 @@ use Rattle.world_laws.proofs.Channels.{Channels, ChannelsOk, PairingOk, replicat
 use Rattle.world_laws.proofs.Channels.UpperPart.{Opened}
 use Rattle.world_laws.proofs.Keeps.{Due, keeps_send, keeps_send_lost}
 use Rattle.world_laws.proofs.Joining.{pushed}
-use Rattle.world_laws.proofs.Journals.{same-true, same-self, same-false, kinds_entry_count}
 use Rattle.world_laws.proofs.Invariant.{PairingInvariant}
 use Rattle.world_laws.proofs.Reading.{replication_of}
+use Rattle.mos_edits.proofs.Identifiers.{same-true, same-self, same-false}
+use Rattle.mos_edits.proofs.Journals.{kinds_entry_count}
 
 -- what is due is what its order's view makes due
 abbrev pub DueOk : (Text → View) → (Text → ℕ) → List Entry → ServerOut → Type 0

@@ -20,7 +20,8 @@ use Rattle.world_laws.proofs.Replication.InFlight.{Unread}
 use Rattle.world_laws.proofs.Channels.{Carries, NoEdits, open_in_flight, success_transfer, transfer_out, is_some_packet, answer_in_flight, Channels, ChannelsOk, transfer_in, in_flight_by, ready_transfer}
 use Rattle.world_laws.proofs.Keeps.{answered, keeps_reads_whole, keeps_reads_step, keeps_reads_passed, keeps_reads_again}
 use Rattle.world_laws.proofs.Joining.{pushed}
-use Rattle.world_laws.proofs.Journals.{same-true, same-self, JournalOk, order-whole, order-not_ready}
+use Rattle.mos_edits.proofs.Identifiers.{same-true, same-self}
+use Rattle.mos_edits.proofs.Journals.{JournalOk, order-whole, order-not_ready}
 
 abbrev pub AnswerTo : Message → Message → Type 0
 AnswerTo (Heartbeat time) a = a ≡ Heartbeat time

@@ -7,13 +7,14 @@ use Rattle.mos_machines.specs.Server.{Upper, upper_link, PeerState, peer_next, p
 use Rattle.mos_machines.specs.Device.{GateState, gate_read, gate_next}
 use Rattle.mos_machines.specs.Messages.Tag.{Untagged, OfEntry, OfAgain, OfList}
 use Rattle.world_laws.proofs.Channels.{Tagged}
-use Rattle.world_laws.proofs.Journals.{same-true, JournalOk}
 use Rattle.world_laws.proofs.Invariant.{PairingInvariant}
 use Rattle.world_laws.proofs.PairingRead.{entry_prefix}
 use Rattle.world_laws.proofs.SafeRead.{prefix_here, tagged_front}
 use Rattle.world_laws.specs.World.{own_time, Pairing, PairingEvent, Connection, Opener, front, reads_from, reads_front, reads_if, pairing_step, sends_on, sends_if, takes_if, takes_front, takes_from, asks_if, asks_on, hears_if, hears_front, hears_from, accepts_it, admits_it, cuts, leaves, hangs_if, misses_if, beats_if, device_beats_if}
 use Rattle.world_laws.specs.World.PairingEvent.{OpenTo, Accept, Cut, Leave, Send, Read, Back, Dial, Admit, Ask, Hear, Got, Hangup, Miss, Beat, DeviceBeat, Want, DecksLeft, Reboot}
 use Rattle.mos_machines.specs.Server.Upper.{Down, Greeting, Open}
+use Rattle.mos_edits.proofs.Identifiers.{same-true}
+use Rattle.mos_edits.proofs.Journals.{JournalOk}
 
 sends_applied : (l : Pairing) (o : Option ℕ) (x : PeerState × Option Packet) → (sends_on l o x).0.applied ≡ l.applied
 sends_applied l (Some c) (s, Some p) = refl

@@ -8,7 +8,6 @@ use Rattle.mos_machines.specs.Device.{GateOut, GateState, gate_got, got_by, got_
 use Rattle.mos_machines.specs.Messages.Tag.{Untagged, OfEntry, OfAgain, OfList}
 use Rattle.world_laws.proofs.Replication.{Replication, IsInvariant}
 use Rattle.world_laws.proofs.Channels.{replication, channels, ask_of, Answer_to, IsAnswer}
-use Rattle.world_laws.proofs.Journals.{same-true, same-self}
 use Rattle.mos_machines.specs.Device.Phase.{InStep, Asked}
 use Rattle.world_laws.proofs.Invariant.{PairingInvariant}
 use Rattle.world_laws.specs.World.{Effect, Pairing, Connection, front, applied_got, gets_if, gets_front, gets_from}
@@ -19,6 +18,7 @@ use Rattle.mos_machines.specs.Device.GateOut.{NotAsking, AsksFor, AsksAll, AsksB
 use Rattle.world_laws.proofs.Replication.Request.{AnsweredWith}
 use Rattle.world_laws.proofs.PairingGet.{got_front, ask_got}
 use Rattle.world_laws.proofs.PairingHear.{tag_list}
+use Rattle.mos_edits.proofs.Identifiers.{same-true, same-self}
 
 of_list_is : (r q : Text) (k m : ℕ) → OfList r k ≡ OfList q m → (r ≡ q) × (k ≡ m)
 of_list_is r q k m h = (cc, cc)

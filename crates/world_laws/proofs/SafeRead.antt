@@ -13,7 +13,6 @@ use Rattle.world_laws.proofs.Replication.{Replication, IsInvariant, readable}
 use Rattle.world_laws.proofs.Channels.{replication, channels, transfer_in, in_flight_by, DownOk, Tagged}
 use Rattle.world_laws.proofs.Joining.{readable-in_flight}
 use Rattle.world_laws.proofs.Reading.{prefix_in_step, grows_entry, status_entry}
-use Rattle.world_laws.proofs.Journals.{same-self, JournalOk, order-ready, kind_at, kind_of_at}
 use Rattle.mos_edits.specs.Entries.Kind.{IsReady}
 use Rattle.mos_machines.specs.Messages.Status.{Okay}
 use Rattle.mos_machines.specs.Server.ServerOut.{SendsEdit, SendsAgain}
@@ -24,6 +23,8 @@ use Rattle.world_laws.specs.World.Effect.{Wrote}
 use Rattle.world_laws.specs.Safe.{IsReadSafe, upper_front, in_step_status}
 use Rattle.world_laws.proofs.PairingRead.{each_entry, each_again, the_entry, entry_result, entry_prefix, again_result, again_facts, down_front}
 use Rattle.mos_machines.specs.Server.{entry_packet, again_packet}
+use Rattle.mos_edits.proofs.Identifiers.{same-self}
+use Rattle.mos_edits.proofs.Journals.{JournalOk, order-ready, kind_at, kind_of_at}
 
 pub tagged_front : (journal : List Entry) (count : ℕ) (l : Pairing) (v : ℕ) (p : Packet) → PairingInvariant journal count l → l.gate.upper ≡ Some v → front (l.connections v).to_device ≡ Some p → Tagged journal p p.tag
 tagged_front journal count l v p i u f = let d = down_front journal count l v p i.ok u f in subst (λ (ps : List Packet). DownOk journal ps) d i.ok.channels_ok.down

@@ -23,11 +23,12 @@ use Rattle.world_laws.specs.Safe.{IsConsistentAt, IsConsistent, IsEventSafe, Jou
 use Rattle.world_laws.proofs.Replication.{Replication, IsInvariant, NoEntry}
 use Rattle.world_laws.proofs.Channels.{replication, channels, in_flight_by, upper_part}
 use Rattle.world_laws.proofs.Invariant.{PairingInvariant}
-use Rattle.world_laws.proofs.Journals.{JournalOk, kinds_entry_count, same-false}
 use Rattle.world_laws.proofs.SafeRead.{consistent_read}
 use Rattle.world_laws.proofs.SafeApplied.{other_applied, same_applied, reads_grow}
 use Rattle.world_laws.proofs.SafeGot.{gets_grow, consistent_got}
 use Rattle.world_laws.proofs.Worlds.{WorldInvariant, world_keeps, opening_inv}
+use Rattle.mos_edits.proofs.Identifiers.{same-false}
+use Rattle.mos_edits.proofs.Journals.{JournalOk, kinds_entry_count}
 
 quiet_in_flight : (journal : List Entry) (l : Pairing) (r : Text) (u : Upper) → is_in_flight r u ≡ false → NoEntry (in_flight_by journal (channels l) r (upper_part u))
 quiet_in_flight journal l r Down h = tt

@@ -10,8 +10,6 @@ use Rattle.world_laws.specs.World.WorldEvent.{Command, AtDevice, Lose, FailNext,
 use Rattle.world_laws.specs.World.Direction.{ToServer, ToDevice}
 use Rattle.world_laws.specs.World.Effect.{Impossible, Performed}
 use Rattle.world_laws.proofs.Invariant.{PairingInvariant}
-use Rattle.world_laws.proofs.Journals.{JournalOk}
-use Rattle.world_laws.proofs.Growth.{grown_push, journal_ok_push}
 use Rattle.world_laws.proofs.PairingRead.{keeps_reads}
 use Rattle.world_laws.proofs.PairingUpper.{keeps_cuts, keeps_leaves, keeps_accepts, keeps_open_to, inv_cut}
 use Rattle.world_laws.proofs.PairingSend.{keeps_sends}
@@ -22,6 +20,7 @@ use Rattle.world_laws.proofs.PairingAsk.{keeps_asks}
 use Rattle.world_laws.proofs.PairingHear.{keeps_hears}
 use Rattle.world_laws.proofs.PairingGet.{keeps_gets}
 use Rattle.world_laws.proofs.PairingGrow.{inv_grow, inv_given}
+use Rattle.mos_edits.proofs.Journals.{JournalOk, grown_push, journal_ok_push}
 
 inv_count : (journal : List Entry) (count k : ℕ) (l : Pairing) → PairingInvariant journal count l → PairingInvariant journal (count + k) l
 inv_count journal count k l i = record {

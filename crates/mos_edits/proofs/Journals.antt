@@ -1,16 +1,67 @@
--- The journal grows by one entry.
+-- The journal: each entry applies to the order before it, and what stands in the journal stays as it grows.
 use Rattle.std.proofs.Common.{◌≡◌, ℕ, zero, suc, ◌+◌, ◌<◌, ◌≤◌, List, [], ◌∷◌, ◌++◌, length, map, take, get_or, slice_get, Bool, true, false, Option, Some, None, arith, refl, if◌then◌else◌, sym, ap, ◌∙◌, subst, inl, inr}
 use Rattle.std.proofs.lemmas.List.{length-append, length-map}
 use Rattle.std.proofs.Math.Seq.{take-length}
 use Rattle.std.proofs.lemmas.Bool.{cases_lt}
 use Rattle.mos_edits.specs.Texts.{Text, same_id}
-use Rattle.mos_edits.specs.Orders.{Order, Edit, apply}
-use Rattle.mos_edits.specs.Entries.{Kind, kind, result_or, Entry, entries, entry_count, edit_at, order_at, order_now, order_after, order_from, acceptance, refusal, over_limit}
 use Rattle.mos_edits.specs.KeyedLists.{Applied}
-use Rattle.mos_edits.specs.Orders.Edit.{NotReady}
 use Rattle.mos_edits.specs.KeyedLists.Applied.{Done, Fault}
-use Rattle.world_laws.proofs.Keeps.{Grows}
-use Rattle.world_laws.proofs.Journals.{same-true, same-self, JournalOk}
+use Rattle.mos_edits.specs.Orders.{Order, Edit, apply}
+use Rattle.mos_edits.specs.Orders.Edit.{NotReady}
+use Rattle.mos_edits.specs.Entries.{Kind, kind, body_of, result_or, Entry, entries, entry_count, edit_at, order_at, order_now, order_after, order_from, Refusal, acceptance, refusal, over_limit, IsAccepted}
+use Rattle.mos_edits.specs.Entries.Kind.{IsWhole, IsReady, IsNotReady}
+use Rattle.mos_edits.proofs.Identifiers.{same-true, same-self}
+use Rattle.mos_edits.proofs.Applying.{apply-whole, apply-ready, apply-not_ready}
+
+-- each entry applied to the order before it
+pub record JournalOk (journal : List Entry) : Type 0 where
+  pub applies : (r : Text) (k : ℕ) → k < entry_count journal r → apply r (order_at journal r k) (edit_at journal r k) ≡ Done (order_at journal r (k + 1))
+
+pub order-whole : (journal : List Entry) → JournalOk journal → (r : Text) (k : ℕ) → k < entry_count journal r → kind (edit_at journal r k) ≡ IsWhole → order_at journal r (k + 1) ≡ body_of (edit_at journal r k)
+order-whole journal ok r k h w = apply-whole r (order_at journal r k) (order_at journal r (k + 1)) (edit_at journal r k) w (ok.applies r k h)
+
+pub order-ready : (journal : List Entry) → JournalOk journal → (r : Text) (k : ℕ) → k < entry_count journal r → kind (edit_at journal r k) ≡ IsReady → order_at journal r (k + 1) ≡ order_at journal r k
+order-ready journal ok r k h w = apply-ready r (order_at journal r k) (order_at journal r (k + 1)) (edit_at journal r k) w (ok.applies r k h)
+
+pub order-not_ready : (journal : List Entry) → JournalOk journal → (r : Text) (k : ℕ) → k < entry_count journal r → kind (edit_at journal r k) ≡ IsNotReady → order_at journal r (k + 1) ≡ order_at journal r k
+order-not_ready journal ok r k h w = apply-not_ready r (order_at journal r k) (order_at journal r (k + 1)) (edit_at journal r k) w (ok.applies r k h)
+
+-- the replication's list of kinds
+kind_get : (cs : List Edit) (k : ℕ) → k < length cs → slice_get (map kind cs) k ≡ Some (kind (get_or cs k NotReady))
+kind_get [] k h = absurd (omega arith)
+kind_get (c ∷ cs) zero h = refl
+kind_get (c ∷ cs) (suc k) h = kind_get cs k (omega arith)
+
+kind_got : (cs : List Edit) (k : ℕ) (x : Kind) → slice_get (map kind cs) k ≡ Some x → (k < length cs) × (kind (get_or cs k NotReady) ≡ x)
+kind_got [] k x h = cc
+kind_got (c ∷ cs) zero x h = (omega arith, cc)
+kind_got (c ∷ cs) (suc k) x h = let i = kind_got cs k x h in (omega (arith, i), i.1)
+
+pub kind_at : (journal : List Entry) (r : Text) (k : ℕ) → k < entry_count journal r → slice_get (map kind (entries r journal)) k ≡ Some (kind (edit_at journal r k))
+kind_at journal r k h = kind_get (entries r journal) k h
+
+pub kind_of_at : (journal : List Entry) (r : Text) (k : ℕ) (x : Kind) → slice_get (map kind (entries r journal)) k ≡ Some x → (k < entry_count journal r) × (kind (edit_at journal r k) ≡ x)
+kind_of_at journal r k x h = kind_got (entries r journal) k x h
+
+pub kinds_entry_count : (journal : List Entry) (r : Text) → length (map kind (entries r journal)) ≡ entry_count journal r
+kinds_entry_count journal r = length-map (entries r journal) kind
+
+kind-left : (xs : List Kind) (x : Kind) (k : ℕ) (y : Kind) → slice_get xs k ≡ Some y → slice_get (xs ++ x ∷ []) k ≡ Some y
+kind-left [] x k y h = cc
+kind-left (z ∷ xs) x zero y h = h
+kind-left (z ∷ xs) x (suc k) y h = kind-left xs x k y h
+
+kind-last : (xs : List Kind) (x : Kind) → slice_get (xs ++ x ∷ []) (length xs) ≡ Some x
+kind-last [] x = refl
+kind-last (z ∷ xs) x = kind-last xs x
+
+-- what was there stays
+pub record Grows (old new : List Kind) : Type 0 where
+  pub longer : length old ≤ length new
+  pub same_id : (k : ℕ) (y : Kind) → slice_get old k ≡ Some y → slice_get new k ≡ Some y
+
+pub grows_push : (xs : List Kind) (x : Kind) → Grows xs (xs ++ x ∷ [])
+grows_push xs x = record { longer = omega (arith, length-append xs (x ∷ [])); same_id = kind-left xs x }
 
 abbrev last_if : Bool → Edit → List Edit
 last_if true c = c ∷ []
@@ -32,21 +83,21 @@ order_push : (r : Text) (o : Option Order) (cs : List Edit) (c : Edit) → order
 order_push r o [] c = refl
 order_push r o (x ∷ xs) c = order_push r (result_or o (apply r o x)) xs c
 
-take_left : (cs ds : List Edit) (m : ℕ) → m ≤ length cs → take m (cs ++ ds) ≡ take m cs
-take_left [] [] zero h = refl
-take_left [] (d ∷ ds) zero h = refl
-take_left [] ds (suc m) h = absurd (omega arith)
-take_left (c ∷ cs) ds zero h = refl
-take_left (c ∷ cs) ds (suc m) h = ap (λ (xs : List Edit). c ∷ xs) (take_left cs ds m (omega arith))
+take-left : (cs ds : List Edit) (m : ℕ) → m ≤ length cs → take m (cs ++ ds) ≡ take m cs
+take-left [] [] zero h = refl
+take-left [] (d ∷ ds) zero h = refl
+take-left [] ds (suc m) h = absurd (omega arith)
+take-left (c ∷ cs) ds zero h = refl
+take-left (c ∷ cs) ds (suc m) h = ap (λ (xs : List Edit). c ∷ xs) (take-left cs ds m (omega arith))
 
-get_left : (cs ds : List Edit) (k : ℕ) → k < length cs → get_or (cs ++ ds) k NotReady ≡ get_or cs k NotReady
-get_left [] ds k h = absurd (omega arith)
-get_left (c ∷ cs) ds zero h = refl
-get_left (c ∷ cs) ds (suc k) h = get_left cs ds k (omega arith)
+edit-left : (cs ds : List Edit) (k : ℕ) → k < length cs → get_or (cs ++ ds) k NotReady ≡ get_or cs k NotReady
+edit-left [] ds k h = absurd (omega arith)
+edit-left (c ∷ cs) ds zero h = refl
+edit-left (c ∷ cs) ds (suc k) h = edit-left cs ds k (omega arith)
 
-get_last : (cs : List Edit) (c : Edit) → get_or (cs ++ c ∷ []) (length cs) NotReady ≡ c
-get_last [] c = refl
-get_last (x ∷ xs) c = get_last xs c
+edit-last : (cs : List Edit) (c : Edit) → get_or (cs ++ c ∷ []) (length cs) NotReady ≡ c
+edit-last [] c = refl
+edit-last (x ∷ xs) c = edit-last xs c
 
 -- what was in the journal stays
 pub record Grown (journal new : List Entry) : Type 0 where
@@ -66,8 +117,8 @@ grows_more cs ds = record { longer = let a = length-map cs kind in let b = lengt
 pub grown_push : (journal : List Entry) (e : Entry) → Grown journal (journal ++ e ∷ [])
 grown_push journal e = record {
   longer = λ r. let p = entries_push journal e r in let n = length-append (entries r journal) (last_if (same_id r e.ro) e.edit) in let q = ap (λ (cs : List Edit). length cs) p in omega arith;
-  edit = λ r k h. rw (entries_push journal e r) (get_left (entries r journal) (last_if (same_id r e.ro) e.edit) k h);
-  order = λ r m h. let t : take m (entries r (journal ++ e ∷ [])) ≡ take m (entries r journal) = rw (entries_push journal e r) (take_left (entries r journal) (last_if (same_id r e.ro) e.edit) m h) in ap (λ (cs : List Edit). order_after r cs) t;
+  edit = λ r k h. rw (entries_push journal e r) (edit-left (entries r journal) (last_if (same_id r e.ro) e.edit) k h);
+  order = λ r m h. let t : take m (entries r (journal ++ e ∷ [])) ≡ take m (entries r journal) = rw (entries_push journal e r) (take-left (entries r journal) (last_if (same_id r e.ro) e.edit) m h) in ap (λ (cs : List Edit). order_after r cs) t;
   kinds = λ r. rw (entries_push journal e r) (grows_more (entries r journal) (last_if (same_id r e.ro) e.edit));
 }
 
@@ -78,7 +129,7 @@ pub entry_count_other : (journal : List Entry) (e : Entry) (r : Text) → same_i
 entry_count_other journal e r s = rw (entries_push journal e r, s) (let n = length-append (entries r journal) [] in omega arith)
 
 pub edit_push : (journal : List Entry) (e : Entry) → edit_at (journal ++ e ∷ []) e.ro (entry_count journal e.ro) ≡ e.edit
-edit_push journal e = let p = entries_push journal e e.ro in rw (p, same-self e.ro) (get_last (entries e.ro journal) e.edit)
+edit_push journal e = let p = entries_push journal e e.ro in rw (p, same-self e.ro) (edit-last (entries e.ro journal) e.edit)
 
 accepted_done : (journal : List Entry) (e : Entry) → acceptance journal e ≡ None → (o : Option Order) × (apply e.ro (order_now journal e.ro) e.edit ≡ Done o)
 accepted_done journal e h = go (apply e.ro (order_now journal e.ro) e.edit) (over_limit (journal ++ e ∷ []) e.ro) refl h
