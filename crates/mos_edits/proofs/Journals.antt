@@ -1,14 +1,15 @@
 -- The journal: each entry applies to the order before it, and what stands in the journal stays as it grows.
 use Rattle.std.proofs.Common.{◌≡◌, ℕ, zero, suc, ◌+◌, ◌<◌, ◌≤◌, List, [], ◌∷◌, ◌++◌, length, map, take, get_or, slice_get, Bool, true, false, Option, Some, None, arith, refl, if◌then◌else◌, sym, ap, ◌∙◌, subst, inl, inr}
-use Rattle.std.proofs.lemmas.List.{length-append, length-map}
+use Rattle.std.proofs.lemmas.List.{length-append, length-map, append_assoc, append-nil}
 use Rattle.std.proofs.Math.Seq.{take-length}
 use Rattle.std.proofs.lemmas.Bool.{cases_lt}
 use Rattle.mos_edits.specs.Texts.{Text, same_id}
-use Rattle.mos_edits.specs.KeyedLists.{Applied}
+use Rattle.mos_edits.specs.KeyedLists.{ActFault, Applied}
 use Rattle.mos_edits.specs.KeyedLists.Applied.{Done, Fault}
 use Rattle.mos_edits.specs.Orders.{Order, Edit, apply}
 use Rattle.mos_edits.specs.Orders.Edit.{NotReady}
 use Rattle.mos_edits.specs.Entries.{Kind, kind, body_of, result_or, Entry, entries, entry_count, edit_at, order_at, order_now, order_after, order_from, Refusal, acceptance, refusal, over_limit, IsAccepted}
+use Rattle.mos_edits.specs.Entries.Refusal.{Faulty, Full}
 use Rattle.mos_edits.specs.Entries.Kind.{IsWhole, IsReady, IsNotReady}
 use Rattle.mos_edits.proofs.Identifiers.{same-true, same-self}
 use Rattle.mos_edits.proofs.Applying.{apply-whole, apply-ready, apply-not_ready}
@@ -166,3 +167,34 @@ journal_ok_push journal e ok a = record { applies = λ r k h. go r k (same_id r 
     go : (r : Text) (k : ℕ) (b : Bool) → same_id r e.ro ≡ b → k < entry_count (journal ++ e ∷ []) r → apply r (order_at (journal ++ e ∷ []) r k) (edit_at (journal ++ e ∷ []) r k) ≡ Done (order_at (journal ++ e ∷ []) r (k + 1))
     go r k false s h = old r k (subst (λ (n : ℕ). k < n) (entry_count_other journal e r s) h)
     go r k true s h = let i = same-true r e.ro s in subst (λ (z : Text). apply z (order_at (journal ++ e ∷ []) z k) (edit_at (journal ++ e ∷ []) z k) ≡ Done (order_at (journal ++ e ∷ []) z (k + 1))) (sym i) (own k (subst (λ (z : Text). k < entry_count (journal ++ e ∷ []) z) i h))
+
+-- a journal each of whose entries was accepted
+accepted-after : (before rest : List Entry) → JournalOk before → IsAccepted before rest → JournalOk (before ++ rest)
+accepted-after before [] ok a = rw (append-nil before) ok
+accepted-after before (e ∷ rest) ok a = subst (λ (es : List Entry). JournalOk es) (append_assoc before (e ∷ []) rest) (accepted-after (before ++ e ∷ []) rest (journal_ok_push before e ok a.0) a.1)
+
+journal_ok_empty : JournalOk []
+journal_ok_empty = record { applies = λ r k h. absurd (omega (arith, h)) }
+
+pub accepted-journal : (journal : List Entry) → IsAccepted [] journal → JournalOk journal
+accepted-journal journal a = accepted-after [] journal journal_ok_empty a
+
+-- an order of its own, and the others
+pub order_now_other : (journal : List Entry) (e : Entry) (r : Text) → same_id r e.ro ≡ false → order_now (journal ++ e ∷ []) r ≡ order_now journal r
+order_now_other journal e r s = rw (entries_push journal e r, s, append-nil (entries r journal)) refl
+
+pub order_now_push : (journal : List Entry) (e : Entry) → order_now (journal ++ e ∷ []) e.ro ≡ result_or (order_now journal e.ro) (apply e.ro (order_now journal e.ro) e.edit)
+order_now_push journal e = rw (entries_push journal e e.ro, same-self e.ro) (order_push e.ro None (entries e.ro journal) e.edit)
+
+pub accepted_applies : (journal : List Entry) (e : Entry) → acceptance journal e ≡ None → apply e.ro (order_now journal e.ro) e.edit ≡ Done (order_now (journal ++ e ∷ []) e.ro)
+accepted_applies journal e a = let d = accepted_done journal e a in rw (order_now_push journal e, d.1) refl
+
+-- why an entry isn't accepted
+pub refused_fault : (journal : List Entry) (e : Entry) (f : ActFault) → apply e.ro (order_now journal e.ro) e.edit ≡ Fault f → acceptance journal e ≡ Some (Faulty f)
+refused_fault journal e f h = rw h refl
+
+pub refused_over : (journal : List Entry) (e : Entry) (p : Option Order) (units : ℕ) → apply e.ro (order_now journal e.ro) e.edit ≡ Done p → over_limit (journal ++ e ∷ []) e.ro ≡ Some units → acceptance journal e ≡ Some (Full units)
+refused_over journal e p units h o = rw (h, o) refl
+
+pub accepted_within : (journal : List Entry) (e : Entry) (p : Option Order) → apply e.ro (order_now journal e.ro) e.edit ≡ Done p → over_limit (journal ++ e ∷ []) e.ro ≡ None → acceptance journal e ≡ None
+accepted_within journal e p h o = rw (h, o) refl

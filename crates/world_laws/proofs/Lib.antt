@@ -19,7 +19,5 @@ pub mod SafeRead
 pub mod SafeApplied
 pub mod SafeGot
 pub mod SafeRun
-pub mod Extend
-pub mod Least
 pub mod RunWords
 pub mod Runs
