@@ -1,2 +1,4 @@
 pub mod Least
 pub mod Extend
+pub mod Views
+pub mod Growing

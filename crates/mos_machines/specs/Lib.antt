@@ -2,3 +2,4 @@ pub mod Messages
 pub mod Server
 pub mod Device
 pub mod Steps
+pub mod Views

@@ -21,30 +21,9 @@ use Rattle.world_laws.proofs.Keeps.{Due, keeps_send, keeps_send_lost}
 use Rattle.world_laws.proofs.Joining.{pushed}
 use Rattle.world_laws.proofs.Invariant.{PairingInvariant}
 use Rattle.world_laws.proofs.Reading.{replication_of}
+use Rattle.mos_machines.proofs.Least.{DueOk, due_ok}
 use Rattle.mos_edits.proofs.Identifiers.{same-true, same-self, same-false}
 use Rattle.mos_edits.proofs.Journals.{kinds_entry_count}
-
--- what is due is what its order's view makes due
-abbrev pub DueOk : (Text → View) → (Text → ℕ) → List Entry → ServerOut → Type 0
-DueOk views before xs Idle = Unit {0}
-DueOk views before xs SendsBeat = ⊥
-DueOk views before xs (SendsEdit r k) = (k < before r + entry_count xs r) × ((views r ≡ In k false) ⊎ (views r ≡ From k))
-DueOk views before xs (SendsAgain r m) = views r ≡ In m true
-
-due_here : (views : Text → View) (before : Text → ℕ) (x : Entry) (xs : List Entry) (v : View) → views x.ro ≡ v → DueOk views before (x ∷ xs) (due_at x.ro v (before x.ro))
-due_here views before x xs v e = grind (arith, nat_tests, same-self)
-
-due_or : (views : Text → View) (before : Text → ℕ) (xs : List Entry) (a b : ServerOut) → DueOk views before xs a → DueOk views before xs b → DueOk views before xs (first_of_two a b)
-due_or views before xs a b h k = grind arith
-
-due_more : (views : Text → View) (before : Text → ℕ) (x : Entry) (xs : List Entry) (o : ServerOut) → DueOk views (set_order before x.ro (before x.ro + 1)) xs o → DueOk views before (x ∷ xs) o
-due_more views before x xs o h = grind (arith, same-true, same-false)
-
-pub due_ok : (views : Text → View) (before : Text → ℕ) (xs : List Entry) → DueOk views before xs (first_due views before xs)
-due_ok views before [] = tt
-due_ok views before (x ∷ xs) =
-    due_or views before (x ∷ xs) (due_at x.ro (views x.ro) (before x.ro)) (first_due views (set_order before x.ro (before x.ro + 1)) xs)
-    (due_here views before x xs (views x.ro) refl) (due_more views before x xs (first_due views (set_order before x.ro (before x.ro + 1)) xs) (due_ok views (set_order before x.ro (before x.ro + 1)) xs))
 
 -- the connection carries one message more
 abbrev pub pairing_send : Pairing → ℕ → ServerOut → Bool → Packet → Pairing
