@@ -2,17 +2,11 @@
 use Rattle.std.proofs.Common.{◌≡◌, ℕ, zero, suc, ◌+◌, ◌<◌, ◌⊎◌, List, [], ◌∷◌, length, take, slice_get, Bool, true, false, Some, arith, refl, if◌then◌else◌, ap, ◌∙◌, subst}
 use Rattle.mos_edits.specs.Texts.{Text, same_id, set_order}
 use Rattle.mos_edits.specs.Entries.{Entry, entry_count, entries}
-use Rattle.mos_machines.specs.Server.{ServerOut, View, due_at, first_due, first_of_two}
+use Rattle.mos_machines.specs.Server.{ServerOut, View, due_at, due_in, first_due, first_of_two}
 use Rattle.mos_machines.specs.Server.View.{In, From}
 use Rattle.mos_machines.specs.Server.ServerOut.{Idle, SendsEdit, SendsAgain, SendsBeat}
 use Rattle.std.proofs.lemmas.Bool.Decides.{nat_tests}
 use Rattle.mos_edits.proofs.Identifiers.{same-true, same-self, same-false}
-
--- what is due at journal number n
-abbrev pub due_in : (Text → View) → (Text → ℕ) → List Entry → ℕ → ServerOut
-due_in views before [] n = Idle
-due_in views before (x ∷ xs) zero = due_at x.ro (views x.ro) (before x.ro)
-due_in views before (x ∷ xs) (suc n) = due_in views (set_order before x.ro (before x.ro + 1)) xs n
 
 first_idle : (a b : ServerOut) → a ≡ Idle → first_of_two a b ≡ b
 first_idle a b e = rw e refl

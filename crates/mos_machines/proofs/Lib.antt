@@ -2,3 +2,5 @@ pub mod Least
 pub mod Extend
 pub mod Views
 pub mod Growing
+pub mod ServerAnswers
+pub mod DeviceAnswers

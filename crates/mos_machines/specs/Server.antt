@@ -122,6 +122,12 @@ first_due views before [] = Idle
 first_due views before (x ∷ xs) =
     first_of_two (due_at x.ro (views x.ro) (before x.ro)) (first_due views (set_order before x.ro (before x.ro + 1)) xs)
 
+-- what is due at place `n` of this part of the journal
+abbrev pub due_in : (Text → View) → (Text → ℕ) → List Entry → ℕ → ServerOut
+due_in views before [] n = Idle
+due_in views before (x ∷ xs) zero = due_at x.ro (views x.ro) (before x.ro)
+due_in views before (x ∷ xs) (suc n) = due_in views (set_order before x.ro (before x.ro + 1)) xs n
+
 abbrev pub entry_packet : List Entry → Text → ℕ → Packet
 entry_packet journal r k = record { message = RoEdit (record { ro = r; edit = edit_at journal r k }); tag = OfEntry r k }
 

@@ -2,13 +2,15 @@
 -- and changes nothing.
 use Rattle.std.specs.Prelude.{◌≡◌, ℕ, ◌<◌, ◌≤◌, List, [], ◌∷◌, ◌++◌, Bool, true, false, Option, Some, None}
 use Rattle.mos_edits.specs.Texts.{Text, set_number}
+use Rattle.mos_edits.specs.Orders.{Order}
 use Rattle.mos_edits.specs.Entries.{Entry, entry_count, acceptance}
 use Rattle.mos_machines.specs.Messages.{Status, Message, Packet, untagged, Step, is_link}
 use Rattle.mos_machines.specs.Messages.Status.{Okay, StoreFault}
+use Rattle.mos_machines.specs.Messages.Message.{RoEdit, RoAck}
 use Rattle.mos_machines.specs.Messages.Step.{Taken}
 use Rattle.mos_machines.specs.Server.{PeerState, no_peer, upper_link, peer_opened, peer_cut, peer_answered, peer_next, peer_beat, peer_linked, peer_hear, peer_given, Verdict, verdict}
 use Rattle.mos_machines.specs.Server.Verdict.{Takes, Fails, Refuses}
-use Rattle.mos_machines.specs.Device.{GateState, no_gate, Decks, gate_accepted, gate_left, gate_read, gate_dropped, gate_opened, gate_next, gate_got, gate_want, gate_beat}
+use Rattle.mos_machines.specs.Device.{GateState, Phase, no_gate, Decks, gate_accepted, gate_left, gate_read, gate_dropped, gate_opened, gate_next, gate_got, gate_want, gate_beat}
 
 -- `faults` is the keeper's fault count; `stopped` says that an append of this run failed.
 pub record ServerState : Type 0 where
@@ -131,3 +133,8 @@ device_step g Restart = (Silent, no_gate)
 -- an event of the device with its answer and the state after it
 abbrev pub DeviceStep : GateState → DeviceEvent → StepAnswer → GateState → Type 0
 DeviceStep g e a h = ((device_step g e).0 ≡ a) × ((device_step g e).1 ≡ h)
+
+-- an edit that the device reads on this link is answered so, and leaves the order so
+abbrev pub ReadsTo : GateState → ℕ → Entry → Decks → Status → Option Order → Phase → Type 0
+ReadsTo g c e decks status held phase =
+    ((device_step g (ReadUpper c (RoEdit e) decks)).0 ≡ Say (untagged (RoAck e.ro status))) × ((device_step g (ReadUpper c (RoEdit e) decks)).1.held e.ro ≡ held) × ((device_step g (ReadUpper c (RoEdit e) decks)).1.phase e.ro ≡ phase)

@@ -1,13 +1,11 @@
-//! The two machines as plain data and functions: the server's steps for a device, and the device's steps. The crates
-//! that run them cite these definitions, and so does the world.
+//! The two machines as plain data and functions: the server's steps for a device, and the device's steps. The crates that
+//! run them cite these definitions, and so does the world.
+//!
+//! Each law stands as the contract of a function that does nothing.
 #![tactic(auto)]
 
-ghost use Rattle.std.specs.Prelude.{◌≡◌, ℕ, None};
-ghost use Rattle.mos_machines.specs.Messages.{Message};
-ghost use Rattle.mos_machines.specs.Steps.{ServerState, ServerEvent, StepAnswer, server_step, DeviceEvent, device_step};
-ghost use Rattle.mos_machines.specs.Device.{GateState};
+mod device;
+mod server;
 
-/// A message on a connection that isn't the gateway's current one changes nothing and is answered Stale.
-pub fn stale_answers_change_nothing()
-    ensures { (g : GateState) (c : ℕ) (m : Message) → g.link ≡ None → device_step g (DeviceEvent.ReadAnswer c m) ≡ (StepAnswer.Stale, g) }
-{}
+pub use device::{actions_that_apply_are_answered_ok, stale_links_leave_the_device, unfit_actions_leave_the_order};
+pub use server::{next_send_takes_the_first_due, no_entry_is_sent_twice, requests_are_answered_with_the_order, server_stays_within_its_journal, stale_links_leave_the_server};
