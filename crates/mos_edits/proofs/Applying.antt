@@ -1,12 +1,11 @@
 -- What the machines need of edits.
 use Rattle.std.proofs.Common.{◌≡◌, Option, Some, None, arith, refl}
 use Rattle.mos_edits.specs.Texts.{Text}
-use Rattle.mos_edits.specs.KeyedLists.{Applied}
 use Rattle.mos_edits.specs.KeyedLists.ActFault.{Missing, AlreadyThere}
 use Rattle.mos_edits.specs.KeyedLists.Applied.{Done, Fault}
 use Rattle.mos_edits.specs.Orders.{Order, Edit, apply}
 use Rattle.mos_edits.specs.Orders.Edit.{Create, Replace, Delete, Metadata, Act, Ready, NotReady}
-use Rattle.mos_edits.specs.Entries.{Kind, kind, body_of}
+use Rattle.mos_edits.specs.Entries.{kind, body_of}
 use Rattle.mos_edits.specs.Entries.Kind.{IsWhole, IsReady, IsNotReady}
 
 pub apply-whole : (r : Text) (o p : Option Order) (e : Edit) → kind e ≡ IsWhole → apply r o e ≡ Done p → p ≡ body_of e

@@ -1,12 +1,10 @@
 -- Actions keep the identifiers of a list distinct.
-use Rattle.std.proofs.Common.{◌≡◌, ◌⊎◌, inl, inr, List, [], ◌∷◌, ◌++◌, map, Bool, true, false, not, ◌&&◌, ◌||◌, Option, Some, None, arith, refl, if◌then◌else◌, sym, ap, ◌∙◌, subst}
+use Rattle.std.proofs.Common.{◌≡◌, List, [], ◌∷◌, ◌++◌, Bool, true, false, not, ◌&&◌, ◌||◌, Option, Some, None, arith, refl, if◌then◌else◌, sym, ap, ◌∙◌, subst}
 use Rattle.std.proofs.lemmas.List.{map-append}
 use Rattle.mos_edits.specs.Texts.{Text, same_id, has_id}
-use Rattle.mos_edits.specs.KeyedLists.{ActFault, Applied, ListAction, ids, find, with_found, picked, without, put_for, put_at, put_before, exchange, exchange_found, exchanged, first_of, missing_if_not, lacking, lacking_target, lacking_place, first_repeated, first_missing, done_unless, list_fault, list_result, act_list}
-use Rattle.mos_edits.specs.KeyedLists.Applied.{Done, Fault}
-use Rattle.mos_edits.specs.KeyedLists.ListAction.{Insert, Replace, Move, Delete, Swap}
+use Rattle.mos_edits.specs.KeyedLists.{ids, find, with_found, picked, without, put_for, put_at, put_before}
 use Rattle.mos_edits.specs.Distinct.{IsDistinct}
-use Rattle.mos_edits.proofs.Identifiers.{same-true, same-self, same-sym, has-append, has-without}
+use Rattle.mos_edits.proofs.Identifiers.{same-true, same-self, same-sym, has-append}
 
 -- no identifier of the one stands in the other
 abbrev pub AreDisjoint : List Text → List Text → Type 0

@@ -1,7 +1,7 @@
 -- Worked examples of actions, computed.
-use Rattle.std.proofs.Common.{◌≡◌, ℕ, List, [], ◌∷◌, Option, Some, None, refl}
+use Rattle.std.proofs.Common.{◌≡◌, List, [], ◌∷◌, refl}
 use Rattle.mos_edits.specs.Texts.{Text, same_id}
-use Rattle.mos_edits.specs.KeyedLists.{ActFault, Applied, ListAction, act_list}
+use Rattle.mos_edits.specs.KeyedLists.{Applied, ListAction, act_list}
 use Rattle.mos_edits.specs.KeyedLists.ActFault.{Missing, AlreadyThere}
 use Rattle.mos_edits.specs.KeyedLists.Applied.{Done, Fault}
 use Rattle.mos_edits.specs.KeyedLists.ListAction.{Insert, Replace, Move, Delete, Swap}

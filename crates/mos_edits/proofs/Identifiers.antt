@@ -1,5 +1,5 @@
 -- Identifiers are told apart as they are, and lists of them.
-use Rattle.std.proofs.Common.{◌≡◌, List, [], ◌∷◌, ◌++◌, map, Bool, true, false, not, ◌&&◌, ◌||◌, Option, Some, None, arith, refl, if◌then◌else◌}
+use Rattle.std.proofs.Common.{◌≡◌, List, [], ◌∷◌, ◌++◌, true, false, not, ◌&&◌, ◌||◌, arith, refl}
 use Rattle.std.proofs.lemmas.Slice.Eq.{bytes_eq-Decides}
 use Rattle.mos_edits.specs.Texts.{Text, same_id, has_id}
 use Rattle.mos_edits.specs.KeyedLists.{without}

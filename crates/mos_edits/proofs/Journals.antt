@@ -8,7 +8,7 @@ use Rattle.mos_edits.specs.KeyedLists.{ActFault, Applied}
 use Rattle.mos_edits.specs.KeyedLists.Applied.{Done, Fault}
 use Rattle.mos_edits.specs.Orders.{Order, Edit, apply}
 use Rattle.mos_edits.specs.Orders.Edit.{NotReady}
-use Rattle.mos_edits.specs.Entries.{Kind, kind, body_of, result_or, Entry, entries, entry_count, edit_at, order_at, order_now, order_after, order_from, Refusal, acceptance, refusal, over_limit, IsAccepted}
+use Rattle.mos_edits.specs.Entries.{Kind, kind, body_of, result_or, Entry, entries, entry_count, edit_at, order_at, order_now, order_after, order_from, acceptance, refusal, over_limit, IsAccepted}
 use Rattle.mos_edits.specs.Entries.Refusal.{Faulty, Full}
 use Rattle.mos_edits.specs.Entries.Kind.{IsWhole, IsReady, IsNotReady}
 use Rattle.mos_edits.proofs.Identifiers.{same-true, same-self}

@@ -1,5 +1,5 @@
 -- Actions and edits keep the identifiers of an order distinct.
-use Rattle.std.proofs.Common.{◌≡◌, List, [], ◌∷◌, ◌++◌, map, Bool, true, false, not, ◌&&◌, ◌||◌, Option, Some, None, arith, refl, if◌then◌else◌, sym, ap, ◌∙◌, subst}
+use Rattle.std.proofs.Common.{◌≡◌, List, [], ◌∷◌, ◌++◌, Bool, true, false, not, ◌&&◌, ◌||◌, Option, Some, None, arith, refl, if◌then◌else◌, sym, subst}
 use Rattle.mos_edits.specs.Texts.{Text, same_id, has_id}
 use Rattle.mos_edits.specs.KeyedLists.{ActFault, Applied, ListAction, ids, find, with_found, picked, without, put_for, put_at, put_before, exchange, exchange_found, exchanged, first_of, lacking, lacking_target, lacking_place, first_repeated, first_missing, list_fault, list_result, act_list}
 use Rattle.mos_edits.specs.KeyedLists.ActFault.{Missing, AlreadyThere}
@@ -7,10 +7,10 @@ use Rattle.mos_edits.specs.KeyedLists.Applied.{Done, Fault}
 use Rattle.mos_edits.specs.KeyedLists.ListAction.{Insert, Replace, Move, Delete, Swap}
 use Rattle.mos_edits.specs.Actions.{Action, act, act_in, put_items}
 use Rattle.mos_edits.specs.Actions.Action.{OnStories, OnItems}
-use Rattle.mos_edits.specs.Orders.{Item, Story, Header, Order, Edit, shape, with_stories, apply}
+use Rattle.mos_edits.specs.Orders.{Item, Story, Order, Edit, shape, with_stories, apply}
 use Rattle.mos_edits.specs.Orders.Edit.{Create, Delete as DeleteOrder, Metadata, Act, Ready, NotReady}
-use Rattle.mos_edits.specs.Distinct.{IsDistinct, Each, HasDistinctItems, HasDistinctIds, HasDistinctIdsIf, SourcesOk, ActionOk, BringsDistinctIds, story_ids, item_ids}
-use Rattle.mos_edits.proofs.Identifiers.{same-true, same-self, same-sym, has-without}
+use Rattle.mos_edits.specs.Distinct.{IsDistinct, Each, HasDistinctItems, HasDistinctIdsIf, SourcesOk, ActionOk, BringsDistinctIds, story_ids, item_ids}
+use Rattle.mos_edits.proofs.Identifiers.{same-true, same-self, has-without}
 use Rattle.mos_edits.proofs.Distinct.{AreDisjoint, distinct-put_before, distinct-put_for, has-without_key, distinct-without, key-find, has-picked, distinct-picked}
 use Rattle.mos_edits.proofs.Swaps.{distinct-exchanged, done-fault}
 

@@ -1,11 +1,11 @@
 -- SWAP exchanges two identifiers; done twice it changes nothing.
-use Rattle.std.proofs.Common.{◌≡◌, List, [], ◌∷◌, ◌++◌, map, Bool, true, false, not, ◌&&◌, ◌||◌, Option, Some, None, arith, refl, if◌then◌else◌, sym, ap, ◌∙◌, subst}
+use Rattle.std.proofs.Common.{◌≡◌, List, [], ◌∷◌, map, Bool, true, false, ◌||◌, Option, Some, None, arith, refl, if◌then◌else◌, sym, ap, ◌∙◌, subst}
 use Rattle.mos_edits.specs.Texts.{Text, same_id, has_id}
-use Rattle.mos_edits.specs.KeyedLists.{ActFault, ids, find, exchange, exchange_found, exchanged, first_of, missing_if_not, lacking, done_unless, act_list, ListAction, Applied}
+use Rattle.mos_edits.specs.KeyedLists.{ActFault, ids, find, exchange, exchange_found, exchanged, first_of, missing_if_not, lacking, done_unless, act_list}
 use Rattle.mos_edits.specs.KeyedLists.Applied.{Done}
 use Rattle.mos_edits.specs.KeyedLists.ListAction.{Swap}
 use Rattle.mos_edits.specs.Distinct.{IsDistinct}
-use Rattle.mos_edits.proofs.Identifiers.{same-true, same-self, same-sym}
+use Rattle.mos_edits.proofs.Identifiers.{same-true, same-self}
 use Rattle.mos_edits.proofs.Distinct.{key-find}
 
 abbrev pub swapped : Text → Text → Text → Text

@@ -2,7 +2,7 @@
 -- on the list of one story's items.
 use Rattle.std.specs.Prelude.{List, [], ◌∷◌, Option, Some, None}
 use Rattle.mos_edits.specs.Texts.{Text}
-use Rattle.mos_edits.specs.KeyedLists.{ActFault, Applied, ListAction, find, put_for, act_list}
+use Rattle.mos_edits.specs.KeyedLists.{Applied, ListAction, find, put_for, act_list}
 use Rattle.mos_edits.specs.KeyedLists.ActFault.{Missing}
 use Rattle.mos_edits.specs.KeyedLists.Applied.{Done, Fault}
 

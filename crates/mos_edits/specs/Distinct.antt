@@ -1,5 +1,5 @@
 -- Orders whose stories have distinct identifiers, and each of whose stories has items with distinct ones.
-use Rattle.std.specs.Prelude.{◌≡◌, List, [], ◌∷◌, Bool, true, false, Option, Some, None}
+use Rattle.std.specs.Prelude.{◌≡◌, List, [], ◌∷◌, false, Option, Some, None}
 use Rattle.mos_edits.specs.Texts.{Text, has_id}
 use Rattle.mos_edits.specs.KeyedLists.{ListAction, ids}
 use Rattle.mos_edits.specs.KeyedLists.ListAction.{Insert, Replace}

@@ -1,5 +1,5 @@
 -- The server's journal as one list of entries, the order after the entries of one roID, and which edits are accepted.
-use Rattle.std.specs.Prelude.{◌≡◌, ℕ, zero, suc, List, [], ◌∷◌, ◌++◌, length, take, get_or, Bool, true, false, Option, Some, None, if◌then◌else◌, nat_lt, ◌==◌}
+use Rattle.std.specs.Prelude.{◌≡◌, ℕ, List, [], ◌∷◌, ◌++◌, length, take, get_or, Bool, true, false, Option, Some, None, if◌then◌else◌, nat_lt, ◌==◌}
 use Rattle.mos_edits.specs.Texts.{Text, same_id}
 use Rattle.mos_edits.specs.KeyedLists.{ActFault, Applied}
 use Rattle.mos_edits.specs.KeyedLists.Applied.{Done, Fault}

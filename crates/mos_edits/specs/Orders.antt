@@ -1,7 +1,7 @@
 -- A running order as plain data, and the edits of one.
 use Rattle.std.specs.Prelude.{ℕ, List, [], ◌∷◌, Option, Some, None}
 use Rattle.mos_edits.specs.Texts.{Text}
-use Rattle.mos_edits.specs.KeyedLists.{ActFault, Applied}
+use Rattle.mos_edits.specs.KeyedLists.{Applied}
 use Rattle.mos_edits.specs.KeyedLists.ActFault.{Missing, AlreadyThere}
 use Rattle.mos_edits.specs.KeyedLists.Applied.{Done, Fault}
 use Rattle.mos_edits.specs.Actions.{Action, Shape, act}

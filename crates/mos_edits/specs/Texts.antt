@@ -1,5 +1,5 @@
 -- Texts and identifiers, and tables over them.
-use Rattle.std.specs.Prelude.{ℕ, List, [], ◌∷◌, Bool, true, false, if◌then◌else◌, bytes_eq, ◌==◌, ◌||◌}
+use Rattle.std.specs.Prelude.{ℕ, List, [], ◌∷◌, Bool, false, if◌then◌else◌, bytes_eq, ◌==◌, ◌||◌}
 
 -- a text is the list of the code points of its characters
 abbrev pub Text : Type 0

@@ -1,20 +1,16 @@
 -- What the device answers to an edit.
-use Rattle.std.proofs.Common.{◌≡◌, ℕ, Bool, true, false, Option, Some, None, arith, refl, if◌then◌else◌, sym, ap, ◌∙◌, subst, eq-eqb}
-use Rattle.mos_edits.specs.Texts.{Text, same_id}
-use Rattle.mos_edits.specs.KeyedLists.{ActFault, Applied}
+use Rattle.std.proofs.Common.{◌≡◌, ℕ, true, Option, refl}
+use Rattle.mos_edits.specs.KeyedLists.{ActFault}
 use Rattle.mos_edits.specs.KeyedLists.Applied.{Done, Fault}
-use Rattle.mos_edits.specs.Orders.{Order, Edit, apply}
-use Rattle.mos_edits.specs.Entries.{Kind, kind, Entry}
-use Rattle.mos_edits.specs.Entries.Kind.{IsWhole, IsAction, IsReady, IsNotReady}
+use Rattle.mos_edits.specs.Orders.{Order, apply}
+use Rattle.mos_edits.specs.Entries.{kind, Entry}
+use Rattle.mos_edits.specs.Entries.Kind.{IsAction, IsReady}
 use Rattle.mos_edits.proofs.Identifiers.{same-self}
-use Rattle.mos_machines.specs.Messages.{Status, Message, untagged, is_link}
+use Rattle.mos_machines.specs.Messages.{is_link}
 use Rattle.mos_machines.specs.Messages.Status.{Okay, NotInStep, Faulty}
-use Rattle.mos_machines.specs.Messages.Message.{RoEdit, RoAck}
-use Rattle.mos_machines.specs.Device.{GateState, Phase, Decks, ReadResult, read_by, read_edit, read_result, gate_with, gate_read, ready_status}
+use Rattle.mos_machines.specs.Device.{GateState, Decks, ReadResult, read_result, ready_status}
 use Rattle.mos_machines.specs.Device.Phase.{InStep, OutOfStep}
-use Rattle.mos_machines.specs.Steps.{DeviceEvent, StepAnswer, unless_stale, gate_says, device_step, ReadsTo}
-use Rattle.mos_machines.specs.Steps.DeviceEvent.{ReadUpper}
-use Rattle.mos_machines.specs.Steps.StepAnswer.{Say}
+use Rattle.mos_machines.specs.Steps.{ReadsTo}
 
 reads-by : (g : GateState) (c : ℕ) (e : Entry) (decks : Decks) (x : ReadResult) → is_link g.upper c ≡ true → read_result g decks e ≡ x → ReadsTo g c e decks x.status x.held x.phase
 reads-by g c e decks x l h = rw (l, h, same-self e.ro) (refl, refl, refl)

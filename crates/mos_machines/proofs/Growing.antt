@@ -1,24 +1,20 @@
 -- The journal grows by an entry: the server's views stay within it. Then the law of every event of the server.
-use Rattle.std.proofs.Common.{◌≡◌, ◌⊎◌, inl, inr, ℕ, ◌+◌, ◌-◌, ◌<◌, ◌≤◌, List, [], ◌∷◌, ◌++◌, Bool, true, false, ◌&&◌, ◌==◌, Option, Some, None, arith, refl, if◌then◌else◌, sym, ap, ◌∙◌, subst, eq-eqb}
+use Rattle.std.proofs.Common.{◌≡◌, ◌⊎◌, inl, inr, ℕ, ◌-◌, ◌≤◌, List, [], ◌∷◌, ◌++◌, Bool, true, false, ◌&&◌, ◌==◌, Some, None, arith, refl, if◌then◌else◌, sym, subst}
 use Rattle.std.proofs.lemmas.Bool.Decides.{nat_tests}
-use Rattle.mos_edits.specs.Texts.{Text, same_id, set_order, set_number}
-use Rattle.mos_edits.specs.Entries.{Entry, Refusal, Kind, kind, entry_count, edit_at, acceptance}
-use Rattle.mos_edits.specs.Entries.Kind.{IsWhole, IsReady}
-use Rattle.mos_edits.proofs.Identifiers.{same-true, same-self}
-use Rattle.mos_edits.proofs.Journals.{Grown, grown_push, entry_count_push, entry_count_other, edit_push}
-use Rattle.mos_machines.specs.Messages.{Message, Packet, Step, is_link}
-use Rattle.mos_machines.specs.Messages.Tag.{OfEntry, OfAgain}
-use Rattle.mos_machines.specs.Server.{ServerOut, Upper, View, PeerState, no_peer, upper_link, peer_opened, peer_cut, peer_answered, peer_next, peer_beat, peer_linked, peer_hear, view_given, peer_given, is_open, is_whole, Verdict, verdict, entry_packet, sent, next_by, beat_or_due, first_due}
+use Rattle.mos_edits.specs.Texts.{Text, same_id, set_order}
+use Rattle.mos_edits.specs.Entries.{Entry, Kind, kind, entry_count, acceptance}
+use Rattle.mos_edits.specs.Entries.Kind.{IsWhole}
+use Rattle.mos_edits.proofs.Identifiers.{same-true}
+use Rattle.mos_edits.proofs.Journals.{Grown, grown_push, entry_count_push, edit_push}
+use Rattle.mos_machines.specs.Server.{Upper, View, PeerState, peer_opened, peer_cut, peer_answered, peer_next, peer_beat, peer_linked, peer_hear, view_given, peer_given, is_open, is_whole, Verdict, verdict}
 use Rattle.mos_machines.specs.Server.ServerOut.{Idle, SendsEdit, SendsAgain, SendsBeat}
 use Rattle.mos_machines.specs.Server.Upper.{Down, Greeting, Open}
 use Rattle.mos_machines.specs.Server.View.{Out, Listed, In, From}
 use Rattle.mos_machines.specs.Server.Verdict.{Takes, Fails, Refuses}
-use Rattle.mos_machines.specs.Steps.{ServerState, started, ServerEvent, StepAnswer, with_peer, server_stepped, server_sent, server_says, sent_answer, server_told, unless_stale, is_upper, is_lower, server_step}
+use Rattle.mos_machines.specs.Steps.{ServerState, started, ServerEvent, StepAnswer, with_peer, server_stepped, server_sent, server_says, server_told, unless_stale, is_upper, is_lower, server_step}
 use Rattle.mos_machines.specs.Steps.ServerEvent.{Command, UpperOpened, UpperCut, UpperAnswer, Beat, DeviceAccepted, DeviceDropped, NextSend, Hear}
-use Rattle.mos_machines.specs.Steps.StepAnswer.{Sent}
-use Rattle.mos_machines.specs.Views.{IsViewWithin, IsOutWithin, IsPeerWithin, IsServerWithin, entry_after, entry_by, next_entry}
-use Rattle.mos_machines.proofs.Least.{DueOk, due_ok}
-use Rattle.mos_machines.proofs.Views.{Keeps, IsDue, due-next, entry-due, after-mono, keeps-opened, keeps-cut, keeps-beat, keeps-answered, keeps-next, keeps-linked, keeps-hear}
+use Rattle.mos_machines.specs.Views.{IsViewWithin, IsOutWithin, IsPeerWithin, IsServerWithin, entry_by, next_entry}
+use Rattle.mos_machines.proofs.Views.{Keeps, after-mono, keeps-opened, keeps-cut, keeps-beat, keeps-answered, keeps-next, keeps-linked, keeps-hear}
 
 grown-view : (journal new : List Entry) → Grown journal new → (r : Text) (v : View) → IsViewWithin journal r v → IsViewWithin new r v
 grown-view journal new g r Out h = tt

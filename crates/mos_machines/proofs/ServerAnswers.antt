@@ -1,19 +1,19 @@
 -- What the server's events answer.
-use Rattle.std.proofs.Common.{◌≡◌, ◌⊎◌, ℕ, ◌+◌, ◌<◌, ◌≤◌, List, [], ◌∷◌, length, Bool, true, false, Option, Some, None, arith, refl, if◌then◌else◌, sym, ap, ◌∙◌, subst, eq-eqb}
-use Rattle.mos_edits.specs.Texts.{Text, same_id, set_number}
+use Rattle.std.proofs.Common.{◌≡◌, ℕ, ◌+◌, List, Bool, true, false, Option, Some, None, refl, ap, ◌∙◌, subst, eq-eqb}
+use Rattle.mos_edits.specs.Texts.{Text}
 use Rattle.mos_edits.specs.Entries.{Entry, entry_count, order_now}
 use Rattle.mos_edits.proofs.Identifiers.{same-self}
-use Rattle.mos_machines.specs.Messages.{Message, Tag, Packet, untagged, is_link}
+use Rattle.mos_machines.specs.Messages.{Tag, Packet, untagged}
 use Rattle.mos_machines.specs.Messages.Status.{NotNow}
 use Rattle.mos_machines.specs.Messages.Message.{RoAck, RoReq}
 use Rattle.mos_machines.specs.Messages.Tag.{Untagged, OfEntry, OfAgain}
-use Rattle.mos_machines.specs.Server.{ServerOut, Upper, View, PeerState, peer_settled, settled, is_busy, list_of, peer_hear, entry_packet, again_packet, sent, next_by, peer_next, beat_or_due, first_due}
+use Rattle.mos_machines.specs.Server.{ServerOut, Upper, PeerState, is_busy, list_of, sent, next_by, peer_next, beat_or_due, first_due}
 use Rattle.mos_machines.specs.Server.ServerOut.{Idle, SendsEdit, SendsAgain, SendsBeat}
 use Rattle.mos_machines.specs.Server.Upper.{Down, Greeting, Open}
-use Rattle.mos_machines.specs.Steps.{ServerState, ServerEvent, StepAnswer, with_peer, server_sent, server_says, sent_answer, unless_stale, is_upper, is_lower, server_step}
+use Rattle.mos_machines.specs.Steps.{ServerState, server_sent, sent_answer, unless_stale, is_upper, is_lower, server_step}
 use Rattle.mos_machines.specs.Steps.ServerEvent.{NextSend, Hear}
-use Rattle.mos_machines.specs.Steps.StepAnswer.{Stale, Sent, Nothing, Say}
-use Rattle.mos_machines.specs.Views.{IsPeerWithin, IsServerWithin, entry_after, entry_by, next_entry}
+use Rattle.mos_machines.specs.Steps.StepAnswer.{Sent, Say}
+use Rattle.mos_machines.specs.Views.{entry_after, entry_by, next_entry}
 use Rattle.mos_machines.proofs.Least.{due_ok}
 use Rattle.mos_machines.proofs.Views.{IsDue, due-next, entry-due}
 

@@ -1,14 +1,13 @@
 -- The server's views stay within its journal, and the entry that a device is sent next never falls.
-use Rattle.std.proofs.Common.{◌≡◌, ◌⊎◌, inl, inr, ℕ, zero, suc, ◌+◌, ◌-◌, ◌<◌, ◌≤◌, List, [], ◌∷◌, ◌++◌, Bool, true, false, not, ◌&&◌, ◌||◌, ◌==◌, Option, Some, None, arith, refl, if◌then◌else◌, sym, ap, ◌∙◌, subst, eq-eqb}
-use Rattle.std.proofs.lemmas.Bool.Decides.{nat_tests}
+use Rattle.std.proofs.Common.{◌≡◌, ◌⊎◌, inl, inr, ℕ, zero, suc, ◌+◌, ◌-◌, ◌<◌, ◌≤◌, List, Bool, true, false, Option, arith, refl, if◌then◌else◌, sym, ap, ◌∙◌, subst}
 use Rattle.mos_edits.specs.Texts.{Text, same_id, set_order}
 use Rattle.mos_edits.specs.Entries.{Entry, Kind, kind, entry_count, edit_at, order_now}
-use Rattle.mos_edits.specs.Entries.Kind.{IsWhole, IsReady}
+use Rattle.mos_edits.specs.Entries.Kind.{IsReady}
 use Rattle.mos_edits.proofs.Identifiers.{same-true, same-self, same-sym}
 use Rattle.mos_machines.specs.Messages.{Status, Message, Packet, untagged}
 use Rattle.mos_machines.specs.Messages.Status.{NotNow}
-use Rattle.mos_machines.specs.Messages.Message.{Heartbeat, RoEdit, RoAck, RoReq, RoReqAll, RoList, RoListAll, RoElementStat, OtherMessage}
-use Rattle.mos_machines.specs.Server.{ServerOut, Upper, View, PeerState, no_peer, peer_opened, peer_cut, is_ready, ready_before, is_success, view_if, back_to, unasked, answered_by, peer_answered, due_at, first_due, first_of_two, beat_or_due, sent, next_by, peer_next, peer_beat, unlisted, peer_linked, settled, peer_settled, is_busy, list_of, peer_hear, view_given, peer_given, is_open, is_whole}
+use Rattle.mos_machines.specs.Messages.Message.{Heartbeat, RoAck, RoReq}
+use Rattle.mos_machines.specs.Server.{ServerOut, Upper, View, PeerState, peer_opened, peer_cut, is_ready, ready_before, is_success, view_if, back_to, unasked, answered_by, peer_answered, first_due, beat_or_due, sent, next_by, peer_next, peer_beat, unlisted, peer_linked, settled, peer_settled, is_busy, list_of, peer_hear}
 use Rattle.mos_machines.specs.Server.ServerOut.{Idle, SendsEdit, SendsAgain, SendsBeat}
 use Rattle.mos_machines.specs.Server.Upper.{Down, Greeting, Open}
 use Rattle.mos_machines.specs.Server.View.{Out, Listed, In, From}

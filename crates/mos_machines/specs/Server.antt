@@ -4,8 +4,8 @@ use Rattle.mos_edits.specs.Texts.{Text, same_id, set_order}
 use Rattle.mos_edits.specs.Orders.{Order}
 use Rattle.mos_edits.specs.Entries.{Kind, kind, Entry, Refusal, entry_count, edit_at, order_now, headers}
 use Rattle.mos_edits.specs.Entries.Kind.{IsWhole, IsReady}
-use Rattle.mos_machines.specs.Messages.{Status, Message, Tag, Packet, untagged, not_supported, Step}
-use Rattle.mos_machines.specs.Messages.Status.{Okay, NoDeck, NotNow, NoRunningOrder, StoreFault, Stopped, Faulty, Full}
+use Rattle.mos_machines.specs.Messages.{Status, Message, Packet, untagged, not_supported, Step}
+use Rattle.mos_machines.specs.Messages.Status.{Okay, NoDeck, NotNow, NoRunningOrder, Stopped}
 use Rattle.mos_machines.specs.Messages.Message.{Heartbeat, RoEdit, RoAck, RoReq, RoReqAll, RoList, RoListAll, RoElementStat}
 use Rattle.mos_machines.specs.Messages.Tag.{OfEntry, OfAgain, OfList}
 use Rattle.mos_machines.specs.Messages.Step.{Taken, Unasked}

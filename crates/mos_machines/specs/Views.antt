@@ -1,11 +1,11 @@
 -- How the server's views stand to its journal, and which entry a device is sent next.
-use Rattle.std.specs.Prelude.{◌≡◌, ◌⊎◌, ℕ, ◌+◌, ◌-◌, ◌<◌, ◌≤◌, List, Bool, true, false, if◌then◌else◌}
+use Rattle.std.specs.Prelude.{◌≡◌, ◌⊎◌, ℕ, ◌+◌, ◌-◌, ◌<◌, ◌≤◌, List, true, false, if◌then◌else◌}
 use Rattle.mos_edits.specs.Texts.{Text, same_id}
 use Rattle.mos_edits.specs.Entries.{Entry, kind, entry_count, edit_at}
 use Rattle.mos_edits.specs.Entries.Kind.{IsWhole, IsReady}
-use Rattle.mos_machines.specs.Server.{ServerOut, Upper, View, PeerState}
-use Rattle.mos_machines.specs.Server.ServerOut.{Idle, SendsEdit, SendsAgain, SendsBeat}
-use Rattle.mos_machines.specs.Server.Upper.{Down, Greeting, Open}
+use Rattle.mos_machines.specs.Server.{Upper, View, PeerState}
+use Rattle.mos_machines.specs.Server.ServerOut.{SendsEdit, SendsAgain}
+use Rattle.mos_machines.specs.Server.Upper.{Open}
 use Rattle.mos_machines.specs.Server.View.{Out, Listed, In, From}
 use Rattle.mos_machines.specs.Steps.{ServerState}
 

@@ -7,5 +7,10 @@
 mod device;
 mod server;
 
-pub use device::{actions_that_apply_are_answered_ok, stale_links_leave_the_device, unfit_actions_leave_the_order};
-pub use server::{next_send_takes_the_first_due, no_entry_is_sent_twice, requests_are_answered_with_the_order, server_stays_within_its_journal, stale_links_leave_the_server};
+pub use device::{
+    actions_that_apply_are_answered_ok, stale_links_leave_the_device, unfit_actions_leave_the_order,
+};
+pub use server::{
+    next_send_takes_the_first_due, no_entry_is_sent_twice, requests_are_answered_with_the_order,
+    server_stays_within_its_journal, stale_links_leave_the_server,
+};

@@ -19,23 +19,17 @@ pub fn server_stays_within_its_journal()
 /// never falls, and a sent entry was the next and isn't from then on.
 pub fn no_entry_is_sent_twice()
     ensures never_falls { (fails : Bool) (s : ServerState) (e : ServerEvent) → IsServerWithin s → (d : ℕ) (r : Text) → next_entry s.journal (s.peers d) r ≤ next_entry (server_step fails s e).1.journal ((server_step fails s e).1.peers d) r }
-    ensures sent {
-        (fails : Bool) (s : ServerState) (d c : ℕ) (now : Text) (p : Packet) (r : Text) (k : ℕ) → (server_step fails s (ServerEvent.NextSend d c now)).0 ≡ StepAnswer.Sent p → p.tag ≡ Tag.OfEntry r k
-        → (next_entry s.journal (s.peers d) r ≡ k) × (next_entry s.journal ((server_step fails s (ServerEvent.NextSend d c now)).1.peers d) r ≡ k + 1)
-    }
+    ensures sent { (fails : Bool) (s : ServerState) (d c : ℕ) (now : Text) (p : Packet) (r : Text) (k : ℕ) → (server_step fails s (ServerEvent.NextSend d c now)).0 ≡ StepAnswer.Sent p → p.tag ≡ Tag.OfEntry r k
+        → (next_entry s.journal (s.peers d) r ≡ k) × (next_entry s.journal ((server_step fails s (ServerEvent.NextSend d c now)).1.peers d) r ≡ k + 1) }
 {}
 
 /// A request of an order is answered with the order, or that there is none, where the server's connection to the device is
 /// open and no edit of that order is in flight to it. Else it is put off.
 pub fn requests_are_answered_with_the_order()
-    ensures answered {
-        (fails : Bool) (s : ServerState) (d c : ℕ) (r : Text) → is_lower s d c ≡ true → is_busy r (s.peers d).upper ≡ false
-        → (server_step fails s (ServerEvent.Hear d c (Message.RoReq r))).0 ≡ StepAnswer.Say (list_of r (entry_count s.journal r) (order_now s.journal r))
-    }
-    ensures put_off {
-        (fails : Bool) (s : ServerState) (d c : ℕ) (r : Text) → is_lower s d c ≡ true → is_busy r (s.peers d).upper ≡ true
-        → (server_step fails s (ServerEvent.Hear d c (Message.RoReq r))).0 ≡ StepAnswer.Say (untagged (Message.RoAck r Status.NotNow))
-    }
+    ensures answered { (fails : Bool) (s : ServerState) (d c : ℕ) (r : Text) → is_lower s d c ≡ true → is_busy r (s.peers d).upper ≡ false
+        → (server_step fails s (ServerEvent.Hear d c (Message.RoReq r))).0 ≡ StepAnswer.Say (list_of r (entry_count s.journal r) (order_now s.journal r)) }
+    ensures put_off { (fails : Bool) (s : ServerState) (d c : ℕ) (r : Text) → is_lower s d c ≡ true → is_busy r (s.peers d).upper ≡ true
+        → (server_step fails s (ServerEvent.Hear d c (Message.RoReq r))).0 ≡ StepAnswer.Say (untagged (Message.RoAck r Status.NotNow)) }
 {}
 
 /// Of the entries that are due, the one that stands first in the journal is sent; and none where none is due.

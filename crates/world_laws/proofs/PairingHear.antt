@@ -10,7 +10,7 @@ use Rattle.mos_machines.specs.Device.{Phase, is_for}
 use Rattle.mos_machines.specs.Server.View.{Out, Listed, In, From}
 use Rattle.mos_machines.specs.Device.GateOut.{AsksFor}
 use Rattle.mos_machines.specs.Messages.Message.{Heartbeat, RoEdit, RoAck, RoReq, RoReqAll, RoList, RoListAll, RoElementStat, OtherMessage}
-use Rattle.world_laws.specs.World.{Pairing, write_device, rest, front, pairing_step, hears_if, hears_front, hears_from, own_beat}
+use Rattle.world_laws.specs.World.{Pairing, write_device, rest, front, pairing_step, hears_if, hears_front, hears_from}
 use Rattle.world_laws.specs.World.PairingEvent.{Hear}
 use Rattle.world_laws.proofs.Replication.{Request, IsInvariant, ReadyBefore}
 use Rattle.world_laws.proofs.Replication.InFlight.{Nothing}

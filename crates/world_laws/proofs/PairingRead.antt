@@ -8,7 +8,7 @@ use Rattle.mos_machines.specs.Messages.{Message, Tag, Packet, untagged}
 use Rattle.mos_machines.specs.Device.{GateState, ReadResult, read_result, gate_read, gate_with, is_in}
 use Rattle.mos_machines.specs.Messages.Message.{Heartbeat, RoEdit, RoAck, RoReq, RoReqAll, RoList, RoListAll, RoElementStat, OtherMessage}
 use Rattle.mos_machines.specs.Messages.Tag.{Untagged, OfEntry, OfAgain, OfList}
-use Rattle.world_laws.specs.World.{Pairing, front, applied_step, reads_from, reads_front, reads_if, pairing_step, own_beat}
+use Rattle.world_laws.specs.World.{Pairing, front, applied_step, reads_from, reads_front, reads_if, pairing_step}
 use Rattle.world_laws.specs.World.PairingEvent.{Read}
 use Rattle.world_laws.proofs.Replication.{Replication, IsInvariant, readable}
 use Rattle.world_laws.proofs.Channels.{Channels, PairingOk, replication, channels, transfer_in, in_flight_by, ask_of, incoming_in, DownOk, Tagged}
@@ -17,7 +17,6 @@ use Rattle.world_laws.proofs.Reading.{AnswerTo, read_channels, channels_ok_read,
 use Rattle.mos_edits.specs.Entries.Kind.{IsWhole, IsReady}
 use Rattle.mos_machines.specs.Messages.Status.{NotSupported}
 use Rattle.mos_edits.specs.KeyedLists.Applied.{Done}
-use Rattle.mos_machines.specs.Server.ServerOut.{SendsEdit, SendsAgain}
 use Rattle.mos_machines.specs.Device.Phase.{InStep}
 use Rattle.world_laws.proofs.Replication.Transfer.{TransferEntry, TransferAgain}
 use Rattle.world_laws.proofs.Invariant.{PairingInvariant}

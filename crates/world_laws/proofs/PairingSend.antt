@@ -1,10 +1,10 @@
 -- The events `send d` and `back d`.
-use Rattle.std.proofs.Common.{◌≡◌, ℕ, ◌+◌, ◌<◌, ◌⊎◌, List, [], ◌∷◌, map, Bool, true, false, Option, Some, None, arith, refl, if◌then◌else◌, not, ◌&&◌, sym, subst}
+use Rattle.std.proofs.Common.{◌≡◌, ℕ, ◌<◌, ◌⊎◌, List, map, Bool, true, false, Option, Some, None, arith, refl, if◌then◌else◌, not, ◌&&◌, sym, subst}
 use Rattle.std.proofs.lemmas.Bool.Decides.{nat_tests}
-use Rattle.mos_edits.specs.Texts.{Text, same_id, set_order, set_number}
+use Rattle.mos_edits.specs.Texts.{Text, same_id, set_number}
 use Rattle.mos_edits.specs.Entries.{kind, Entry, entries, entry_count}
 use Rattle.mos_machines.specs.Messages.{Packet}
-use Rattle.mos_machines.specs.Server.{ServerOut, Upper, View, next_by, sent, beat_or_due, first_due, first_of_two, due_at, upper_link, entry_packet, again_packet}
+use Rattle.mos_machines.specs.Server.{ServerOut, Upper, View, next_by, sent, beat_or_due, first_due, upper_link, entry_packet, again_packet}
 use Rattle.mos_machines.specs.Device.{Phase}
 use Rattle.mos_machines.specs.Server.Upper.{Down, Greeting, Open}
 use Rattle.mos_machines.specs.Server.View.{In, From}
@@ -22,7 +22,7 @@ use Rattle.world_laws.proofs.Joining.{pushed}
 use Rattle.world_laws.proofs.Invariant.{PairingInvariant}
 use Rattle.world_laws.proofs.Reading.{replication_of}
 use Rattle.mos_machines.proofs.Least.{DueOk, due_ok}
-use Rattle.mos_edits.proofs.Identifiers.{same-true, same-self, same-false}
+use Rattle.mos_edits.proofs.Identifiers.{same-true}
 use Rattle.mos_edits.proofs.Journals.{kinds_entry_count}
 
 -- the connection carries one message more

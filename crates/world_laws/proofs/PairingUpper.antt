@@ -3,12 +3,11 @@ use Rattle.std.proofs.Common.{◌≡◌, ℕ, ◌+◌, List, [], ◌∷◌, map,
 use Rattle.std.proofs.lemmas.Bool.Decides.{nat_tests}
 use Rattle.mos_edits.specs.Texts.{Text, set_number}
 use Rattle.mos_edits.specs.Entries.{kind, Entry, entries}
-use Rattle.mos_machines.specs.Messages.{Packet, untagged}
+use Rattle.mos_machines.specs.Messages.{Packet}
 use Rattle.mos_machines.specs.Server.{ServerOut, Upper, View, peer_opened, peer_cut, upper_link}
 use Rattle.mos_machines.specs.Device.{Phase, gate_accepted, gate_left, crossed}
 use Rattle.mos_machines.specs.Server.Upper.{Down, Greeting, Open}
 use Rattle.mos_machines.specs.Server.View.{Out}
-use Rattle.mos_machines.specs.Messages.Message.{Heartbeat}
 use Rattle.world_laws.specs.World.{Pairing, Opener, pairing_step, cuts, leaves, accepts_it, new_connection, own_beat}
 use Rattle.world_laws.specs.World.Opener.{Nobody, TheServer, TheDevice}
 use Rattle.world_laws.specs.World.PairingEvent.{OpenTo, Accept, Cut, Leave}

@@ -1,10 +1,10 @@
 -- Worked runs of the world, computed: the outcome of each event, and the state at the end.
-use Rattle.std.proofs.Common.{◌≡◌, ℕ, List, [], ◌∷◌, Bool, true, false, Option, Some, None, refl}
-use Rattle.mos_edits.specs.Texts.{Text, same_id}
+use Rattle.std.proofs.Common.{◌≡◌, List, [], ◌∷◌, true, false, Some, None, refl}
+use Rattle.mos_edits.specs.Texts.{same_id}
 use Rattle.mos_edits.specs.KeyedLists.{ListAction}
 use Rattle.mos_edits.specs.KeyedLists.ListAction.{Insert, Move, Swap}
 use Rattle.mos_edits.specs.Actions.Action.{OnStories, OnItems}
-use Rattle.mos_edits.specs.Orders.{Order, Story, Item, Edit, apply}
+use Rattle.mos_edits.specs.Orders.{Edit, apply}
 use Rattle.mos_edits.specs.Orders.Edit.{Create, Act, Ready}
 use Rattle.mos_edits.specs.Entries.{entry_count, order_now, over_limit}
 use Rattle.mos_machines.specs.Server.Upper.{Down, Open}

@@ -15,7 +15,6 @@ use Rattle.world_laws.proofs.Joining.{readable-in_flight}
 use Rattle.world_laws.proofs.Reading.{prefix_in_step, grows_entry, status_entry}
 use Rattle.mos_edits.specs.Entries.Kind.{IsReady}
 use Rattle.mos_machines.specs.Messages.Status.{Okay}
-use Rattle.mos_machines.specs.Server.ServerOut.{SendsEdit, SendsAgain}
 use Rattle.mos_machines.specs.Device.Phase.{InStep, OutOfStep, Asked, Crossed}
 use Rattle.world_laws.proofs.Replication.Transfer.{TransferEntry, TransferAgain}
 use Rattle.world_laws.proofs.Invariant.{PairingInvariant}

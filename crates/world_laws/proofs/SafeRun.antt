@@ -1,14 +1,10 @@
 -- The invariant gives `safe`, and so does each run.
-use Rattle.std.proofs.Common.{◌≡◌, ℕ, ◌+◌, ◌≤◌, List, [], ◌∷◌, ◌++◌, Bool, true, false, Option, Some, None, arith, refl, if◌then◌else◌, ◌&&◌, nat_le, sym, ap, ◌∙◌, subst, inl, inr, eq-eqb}
+use Rattle.std.proofs.Common.{◌≡◌, ℕ, ◌+◌, ◌≤◌, List, [], ◌∷◌, ◌++◌, Bool, true, false, Option, Some, None, arith, refl, if◌then◌else◌, ◌&&◌, nat_le, sym, ap, subst, inl, inr, eq-eqb}
 use Rattle.std.proofs.lemmas.Bool.Decides.{nat_tests}
 use Rattle.mos_edits.specs.Texts.{Text, same_id, set_number}
-use Rattle.mos_edits.specs.KeyedLists.{Applied}
-use Rattle.mos_edits.specs.Orders.{apply}
 use Rattle.mos_edits.specs.Entries.Refusal.{Faulty, Full}
-use Rattle.mos_edits.specs.Entries.{Refusal, Entry, entry_count, acceptance, refusal, over_limit, order_now}
-use Rattle.mos_machines.specs.Messages.{Status}
+use Rattle.mos_edits.specs.Entries.{Refusal, Entry, entry_count, acceptance}
 use Rattle.mos_machines.specs.Messages.Status.{Okay}
-use Rattle.mos_edits.specs.KeyedLists.Applied.{Done, Fault}
 use Rattle.mos_machines.specs.Server.{refusal_status, Upper, Verdict, verdict}
 use Rattle.mos_machines.specs.Server.ServerOut.{Idle, SendsEdit, SendsAgain, SendsBeat}
 use Rattle.mos_machines.specs.Server.Upper.{Down, Greeting, Open}

@@ -1,7 +1,6 @@
 -- The invariant of the world, and that each event keeps it.
 use Rattle.std.proofs.Common.{◌≡◌, ℕ, ◌+◌, List, [], ◌∷◌, ◌++◌, Bool, true, false, Option, Some, None, arith, refl, if◌then◌else◌, ◌&&◌, ◌==◌, nat_le, subst, inl}
 use Rattle.mos_edits.specs.Entries.{Refusal, Entry, acceptance}
-use Rattle.mos_machines.specs.Messages.{Status}
 use Rattle.mos_machines.specs.Server.{no_peer, peer_linked, verdict}
 use Rattle.world_laws.specs.World.{Pairing, no_pairing, PairingEvent, WorldEvent, World, Effect, Direction, opening, world_step, pairing_step, at_device, opens_one, has_device, commanded, kept_journal, lose}
 use Rattle.mos_edits.specs.Texts.{set_number}

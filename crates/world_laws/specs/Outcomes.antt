@@ -1,7 +1,7 @@
 -- What a script's player is told of an event.
 use Rattle.std.specs.Prelude.{ℕ, List as Listing, [], ◌∷◌, length}
 use Rattle.mos_edits.specs.Texts.{Text}
-use Rattle.mos_machines.specs.Messages.{Message, Tag, Packet, Step, status_text}
+use Rattle.mos_machines.specs.Messages.{Message, Tag, status_text}
 use Rattle.mos_machines.specs.Messages.Message.{Heartbeat as BeatMessage, RoAck, RoReq, RoReqAll, RoList, RoListAll}
 use Rattle.mos_machines.specs.Messages.Tag.{OfEntry, OfAgain, OfList}
 use Rattle.mos_machines.specs.Messages.Step.{Taken as IsTaken, Unasked as IsUnasked}

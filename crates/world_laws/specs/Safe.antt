@@ -8,7 +8,7 @@ use Rattle.mos_machines.specs.Messages.{Status, Packet, untagged}
 use Rattle.mos_machines.specs.Messages.Status.{Okay}
 use Rattle.mos_machines.specs.Messages.Message.{RoEdit, RoAck}
 use Rattle.mos_machines.specs.Messages.Tag.{OfEntry, OfAgain, OfList}
-use Rattle.mos_machines.specs.Server.{Upper, View}
+use Rattle.mos_machines.specs.Server.{Upper}
 use Rattle.mos_machines.specs.Server.Upper.{Open}
 use Rattle.mos_machines.specs.Server.ServerOut.{SendsEdit, SendsAgain}
 use Rattle.mos_machines.specs.Server.View.{In}

@@ -8,7 +8,7 @@ use Rattle.mos_machines.specs.Messages.Message.{Heartbeat, RoEdit, RoAck}
 use Rattle.mos_machines.specs.Messages.Tag.{OfEntry, OfList}
 use Rattle.mos_machines.specs.Messages.Step.{Taken}
 use Rattle.mos_machines.specs.Server.{Upper, PeerState, no_peer, upper_link, peer_opened, peer_cut, is_whole, peer_answered, peer_next, peer_beat, peer_linked, peer_hear, peer_given, is_open, Verdict, verdict}
-use Rattle.mos_machines.specs.Server.Upper.{Down, Greeting, Open}
+use Rattle.mos_machines.specs.Server.Upper.{Down}
 use Rattle.mos_machines.specs.Server.Verdict.{Takes, Fails, Refuses}
 use Rattle.mos_machines.specs.Device.{GateState, no_gate, Decks, gate_accepted, gate_left, gate_read, gate_dropped, gate_opened, gate_next, gate_got, gate_want, gate_beat, is_in}
 
