@@ -1,0 +1,11 @@
+pub mod Characters
+pub mod Fields
+pub mod Names
+pub mod References
+pub mod Raw
+pub mod Forms
+pub mod Escapes
+pub mod Limits
+pub mod Zones
+pub mod Values
+pub mod Faults

@@ -1,0 +1,43 @@
+//! The types of fields in MOS messages, and the names of those fields.
+//!
+//! Each type has `try_new`, which reads a text of the type, and `push_to`, which appends the canonical text of a
+//! value. Texts are those of MOS Protocol 2.8.5 in this project's profile.
+#![tactic(auto)]
+
+pub mod air;
+pub mod fault;
+pub mod field;
+pub mod form;
+pub mod id;
+pub mod ids;
+pub mod level;
+pub mod name;
+pub mod obj_type;
+pub mod operation;
+pub mod opt_id;
+pub mod opt_ids;
+pub mod rev;
+pub mod samples;
+pub mod slug;
+pub mod text;
+pub mod time;
+pub mod unread;
+
+pub use air::Air;
+pub use fault::{FieldFault, NoMemory};
+pub use field::Field;
+pub use form::Form;
+pub use id::Id;
+pub use ids::Ids;
+pub use level::Level;
+pub use name::Name;
+pub use obj_type::ObjType;
+pub use operation::Operation;
+pub use opt_id::OptId;
+pub use opt_ids::OptIds;
+pub use rev::Rev;
+pub use samples::Samples;
+pub use slug::Slug;
+pub use text::Text;
+pub use time::{MosTime, Zone};
+pub use unread::Unread;

@@ -1,0 +1,4 @@
+pub mod Distinct
+pub mod StoryValue
+pub mod OrderValue
+pub mod Headers

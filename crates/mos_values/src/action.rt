@@ -1,0 +1,135 @@
+//! Actions on the stories and items of a running order.
+ghost use Rattle.std.specs.Prelude.{◌≡◌, IfOk};
+
+use crate::{Items, Stories};
+use mos_fields::{NoMemory, OptId, OptIds};
+
+/// What a roElementAction does to a running order. Its ten forms are INSERT, REPLACE, MOVE, DELETE and SWAP, each of
+/// stories and of items.
+///
+/// An empty `target` stands for the end of the list where something is inserted or moved.
+#[derive(Drop)]
+pub enum Action {
+    /// Puts stories before the target.
+    InsertStories {
+        target: OptId,
+        sources: Stories,
+    },
+    /// Puts stories in place of the target.
+    ReplaceStory {
+        target: OptId,
+        sources: Stories,
+    },
+    /// Puts items before the target in a story.
+    InsertItems {
+        story: OptId,
+        target: OptId,
+        sources: Items,
+    },
+    /// Puts items in place of the target in a story.
+    ReplaceItem {
+        story: OptId,
+        target: OptId,
+        sources: Items,
+    },
+    /// Moves stories before the target.
+    MoveStories {
+        target: OptId,
+        sources: OptIds,
+    },
+    /// Moves items before the target in a story.
+    MoveItems {
+        story: OptId,
+        target: OptId,
+        sources: OptIds,
+    },
+    /// Removes stories.
+    DeleteStories {
+        sources: OptIds,
+    },
+    /// Removes items of a story.
+    DeleteItems {
+        story: OptId,
+        sources: OptIds,
+    },
+    /// Exchanges two stories.
+    SwapStories {
+        first: OptId,
+        second: OptId,
+    },
+    /// Exchanges two items of a story.
+    SwapItems {
+        story: OptId,
+        first: OptId,
+        second: OptId,
+    },
+}
+
+impl Action {
+    /// The same action again, in memory of its own. The only error is that memory runs out.
+    pub fn try_clone(&self) -> Result<Self, NoMemory>
+        ensures { IfOk result (λ t. t ≡ self.now) }
+    {
+        Ok(match self {
+            Action::InsertStories { target, sources } => Action::InsertStories {
+                target: target.try_clone()?,
+                sources: sources.try_clone()?,
+            },
+            Action::ReplaceStory { target, sources } => Action::ReplaceStory {
+                target: target.try_clone()?,
+                sources: sources.try_clone()?,
+            },
+            Action::InsertItems {
+                story,
+                target,
+                sources,
+            } => Action::InsertItems {
+                story: story.try_clone()?,
+                target: target.try_clone()?,
+                sources: sources.try_clone()?,
+            },
+            Action::ReplaceItem {
+                story,
+                target,
+                sources,
+            } => Action::ReplaceItem {
+                story: story.try_clone()?,
+                target: target.try_clone()?,
+                sources: sources.try_clone()?,
+            },
+            Action::MoveStories { target, sources } => Action::MoveStories {
+                target: target.try_clone()?,
+                sources: sources.try_clone()?,
+            },
+            Action::MoveItems {
+                story,
+                target,
+                sources,
+            } => Action::MoveItems {
+                story: story.try_clone()?,
+                target: target.try_clone()?,
+                sources: sources.try_clone()?,
+            },
+            Action::DeleteStories { sources } => Action::DeleteStories {
+                sources: sources.try_clone()?,
+            },
+            Action::DeleteItems { story, sources } => Action::DeleteItems {
+                story: story.try_clone()?,
+                sources: sources.try_clone()?,
+            },
+            Action::SwapStories { first, second } => Action::SwapStories {
+                first: first.try_clone()?,
+                second: second.try_clone()?,
+            },
+            Action::SwapItems {
+                story,
+                first,
+                second,
+            } => Action::SwapItems {
+                story: story.try_clone()?,
+                first: first.try_clone()?,
+                second: second.try_clone()?,
+            },
+        })
+    }
+}

@@ -1,0 +1,46 @@
+//! Edits of running orders.
+ghost use Rattle.std.specs.Prelude.{◌≡◌, IfOk};
+
+use crate::action::Action;
+use crate::header::HeaderPatch;
+use crate::order_body::OrderBody;
+use mos_fields::{Air, Id, NoMemory};
+
+/// An edit of a running order: what an editor commands, and what the server sends on to devices.
+#[derive(Drop)]
+pub enum Edit {
+    /// roCreate: the order comes to be.
+    Create(OrderBody),
+    /// roReplace: the order is this one from now on.
+    Replace(OrderBody),
+    /// roDelete: the order is removed.
+    Delete(Id),
+    /// roMetadataReplace: the fields given replace those of the header.
+    Metadata(HeaderPatch),
+    /// roElementAction: stories or items are put in, replaced, moved, removed or exchanged.
+    Act { ro: Id, action: Action },
+    /// roReadyToAir: the order is released, or no longer.
+    Air { ro: Id, air: Air },
+}
+
+impl Edit {
+    /// The same edit again, in memory of its own. The only error is that memory runs out.
+    pub fn try_clone(&self) -> Result<Self, NoMemory>
+        ensures { IfOk result (λ t. t ≡ self.now) }
+    {
+        Ok(match self {
+            Edit::Create(body) => Edit::Create(body.try_clone()?),
+            Edit::Replace(body) => Edit::Replace(body.try_clone()?),
+            Edit::Delete(ro) => Edit::Delete(ro.try_clone()?),
+            Edit::Metadata(patch) => Edit::Metadata(patch.try_clone()?),
+            Edit::Act { ro, action } => Edit::Act {
+                ro: ro.try_clone()?,
+                action: action.try_clone()?,
+            },
+            Edit::Air { ro, air } => Edit::Air {
+                ro: ro.try_clone()?,
+                air: *air,
+            },
+        })
+    }
+}

@@ -1,0 +1,93 @@
+//! Copies of values.
+ghost use Rattle.std.specs.Prelude.{◌≡◌, IfOk};
+
+use crate::ack_group::AckGroup;
+use crate::header::HeaderPatch;
+use crate::item::Item;
+use crate::mos_obj::MosObj;
+use crate::profile::{Profile, SupportedProfiles};
+use crate::story::Story;
+use mos_fields::{NoMemory, OptId, Slug, Text, Unread};
+
+/// A value that stands in lists and in optional fields, and that can be copied where there is memory for it.
+pub trait TryClone: Drop {
+    /// An equal value, in memory of its own. The only error is that memory runs out.
+    fn try_clone(&self) -> Result<Self, NoMemory>
+        ensures { IfOk result (λ t. t ≡ self.now) };
+}
+
+/// A copy of an optional field.
+pub fn copied<T: TryClone>(field: &Option<T>) -> Result<Option<T>, NoMemory>
+    ensures { IfOk result (λ t. t ≡ field.now) }
+{
+    match field {
+        None => Ok(None),
+        Some(t) => Ok(Some(t.try_clone()?)),
+    }
+}
+
+impl TryClone for Unread {
+    fn try_clone(&self) -> Result<Self, NoMemory> {
+        self.try_clone()
+    }
+}
+
+impl TryClone for Text {
+    fn try_clone(&self) -> Result<Self, NoMemory> {
+        self.try_clone()
+    }
+}
+
+impl TryClone for Slug {
+    fn try_clone(&self) -> Result<Self, NoMemory> {
+        self.try_clone()
+    }
+}
+
+impl TryClone for OptId {
+    fn try_clone(&self) -> Result<Self, NoMemory> {
+        self.try_clone()
+    }
+}
+
+impl TryClone for Item {
+    fn try_clone(&self) -> Result<Self, NoMemory> {
+        self.try_clone()
+    }
+}
+
+impl TryClone for Story {
+    fn try_clone(&self) -> Result<Self, NoMemory> {
+        self.try_clone()
+    }
+}
+
+impl TryClone for MosObj {
+    fn try_clone(&self) -> Result<Self, NoMemory> {
+        self.try_clone()
+    }
+}
+
+impl TryClone for HeaderPatch {
+    fn try_clone(&self) -> Result<Self, NoMemory> {
+        self.try_clone()
+    }
+}
+
+impl TryClone for AckGroup {
+    fn try_clone(&self) -> Result<Self, NoMemory> {
+        self.try_clone()
+    }
+}
+
+impl TryClone for Profile {
+    fn try_clone(&self) -> Result<Self, NoMemory> {
+        Ok(*self)
+    }
+}
+
+impl TryClone for SupportedProfiles {
+    fn try_clone(&self) -> Result<Self, NoMemory> {
+        self.try_clone()
+    }
+}
