@@ -4,7 +4,7 @@ use Rattle.mos_edits.specs.Texts.{Text}
 use Rattle.mos_edits.specs.KeyedLists.ActFault.{Missing, AlreadyThere}
 use Rattle.mos_edits.specs.KeyedLists.Applied.{Done, Fault}
 use Rattle.mos_edits.specs.Orders.{Order, Edit, apply}
-use Rattle.mos_edits.specs.Orders.Edit.{Create, Replace, Delete, Metadata, Act, Ready, NotReady}
+use Rattle.mos_values.specs.declared.edit.Edit.TheVariants.{Create, Replace, Delete, Metadata, Act, Air}
 use Rattle.mos_edits.specs.Entries.{kind, body_of}
 use Rattle.mos_edits.specs.Entries.Kind.{IsWhole, IsReady, IsNotReady}
 
@@ -25,11 +25,10 @@ pub apply-none : (r : Text) (e : Edit) → ((body : Order) → e ≡ Create body
 unfolding apply
 apply-none r (Create body) h = absurd (h body refl)
 apply-none r (Replace body) h = refl
-apply-none r Delete h = refl
+apply-none r (Delete ro) h = refl
 apply-none r (Metadata patch) h = refl
-apply-none r (Act action) h = refl
-apply-none r Ready h = refl
-apply-none r NotReady h = refl
+apply-none r (Act ro action) h = refl
+apply-none r (Air ro air) h = refl
 
 pub apply-create : (r : Text) (body : Order) → apply r None (Create body) ≡ Done (Some body)
 unfolding apply

@@ -7,8 +7,7 @@ use Rattle.mos_edits.specs.Texts.{Text, same_id}
 use Rattle.mos_edits.specs.KeyedLists.{ActFault, Applied}
 use Rattle.mos_edits.specs.KeyedLists.Applied.{Done, Fault}
 use Rattle.mos_edits.specs.Orders.{Order, Edit, apply}
-use Rattle.mos_edits.specs.Orders.Edit.{NotReady}
-use Rattle.mos_edits.specs.Entries.{Kind, kind, body_of, result_or, Entry, entries, entry_count, edit_at, order_at, order_now, order_after, order_from, acceptance, refusal, over_limit, IsAccepted}
+use Rattle.mos_edits.specs.Entries.{Kind, kind, body_of, result_or, Entry, entries, entry_count, no_edit, edit_at, order_at, order_now, order_after, order_from, acceptance, refusal, over_limit, IsAccepted}
 use Rattle.mos_edits.specs.Entries.Refusal.{Faulty, Full}
 use Rattle.mos_edits.specs.Entries.Kind.{IsWhole, IsReady, IsNotReady}
 use Rattle.mos_edits.proofs.Identifiers.{same-true, same-self}
@@ -28,12 +27,12 @@ pub order-not_ready : (journal : List Entry) → JournalOk journal → (r : Text
 order-not_ready journal ok r k h w = apply-not_ready r (order_at journal r k) (order_at journal r (k + 1)) (edit_at journal r k) w (ok.applies r k h)
 
 -- the replication's list of kinds
-kind_get : (cs : List Edit) (k : ℕ) → k < length cs → slice_get (map kind cs) k ≡ Some (kind (get_or cs k NotReady))
+kind_get : (cs : List Edit) (k : ℕ) → k < length cs → slice_get (map kind cs) k ≡ Some (kind (get_or cs k no_edit))
 kind_get [] k h = absurd (omega arith)
 kind_get (c ∷ cs) zero h = refl
 kind_get (c ∷ cs) (suc k) h = kind_get cs k (omega arith)
 
-kind_got : (cs : List Edit) (k : ℕ) (x : Kind) → slice_get (map kind cs) k ≡ Some x → (k < length cs) × (kind (get_or cs k NotReady) ≡ x)
+kind_got : (cs : List Edit) (k : ℕ) (x : Kind) → slice_get (map kind cs) k ≡ Some x → (k < length cs) × (kind (get_or cs k no_edit) ≡ x)
 kind_got [] k x h = cc
 kind_got (c ∷ cs) zero x h = (omega arith, cc)
 kind_got (c ∷ cs) (suc k) x h = let i = kind_got cs k x h in (omega (arith, i), i.1)
@@ -91,12 +90,12 @@ take-left [] ds (suc m) h = absurd (omega arith)
 take-left (c ∷ cs) ds zero h = refl
 take-left (c ∷ cs) ds (suc m) h = ap (λ (xs : List Edit). c ∷ xs) (take-left cs ds m (omega arith))
 
-edit-left : (cs ds : List Edit) (k : ℕ) → k < length cs → get_or (cs ++ ds) k NotReady ≡ get_or cs k NotReady
+edit-left : (cs ds : List Edit) (k : ℕ) → k < length cs → get_or (cs ++ ds) k no_edit ≡ get_or cs k no_edit
 edit-left [] ds k h = absurd (omega arith)
 edit-left (c ∷ cs) ds zero h = refl
 edit-left (c ∷ cs) ds (suc k) h = edit-left cs ds k (omega arith)
 
-edit-last : (cs : List Edit) (c : Edit) → get_or (cs ++ c ∷ []) (length cs) NotReady ≡ c
+edit-last : (cs : List Edit) (c : Edit) → get_or (cs ++ c ∷ []) (length cs) no_edit ≡ c
 edit-last [] c = refl
 edit-last (x ∷ xs) c = edit-last xs c
 

@@ -7,8 +7,9 @@ use Rattle.mos_edits.specs.KeyedLists.Applied.{Done, Fault}
 use Rattle.mos_edits.specs.KeyedLists.ListAction.{Insert, Replace, Move, Delete, Swap}
 use Rattle.mos_edits.specs.Actions.{Action, act, act_in, put_items}
 use Rattle.mos_edits.specs.Actions.Action.{OnStories, OnItems}
-use Rattle.mos_edits.specs.Orders.{Item, Story, Order, Edit, shape, with_stories, apply}
-use Rattle.mos_edits.specs.Orders.Edit.{Create, Delete as DeleteOrder, Metadata, Act, Ready, NotReady}
+use Rattle.mos_edits.specs.Orders.{Item, Story, Order, Edit, shape, form_of, with_stories, apply}
+use Rattle.mos_values.specs.declared.edit.Edit.TheVariants as Edits
+use Rattle.mos_values.specs.declared.edit.Edit.TheVariants.{Create, Delete as DeleteOrder, Metadata, Act, Air}
 use Rattle.mos_edits.specs.Distinct.{IsDistinct, Each, HasDistinctItems, HasDistinctIdsIf, SourcesOk, ActionOk, BringsDistinctIds, story_ids, item_ids}
 use Rattle.mos_edits.proofs.Identifiers.{same-true, same-self, has-without}
 use Rattle.mos_edits.proofs.Distinct.{AreDisjoint, distinct-put_before, distinct-put_for, has-without_key, distinct-without, key-find, has-picked, distinct-picked}
@@ -194,20 +195,18 @@ distinct-act (OnItems story action) stories ys o a h = ok-items story action sto
 pub distinct-apply : (r : Text) (o p : Option Order) (e : Edit) → HasDistinctIdsIf o → BringsDistinctIds e → apply r o e ≡ Done p → HasDistinctIdsIf p
 unfolding apply
 distinct-apply r None p (Create body) a b h = let p_is : Some body ≡ p = cc in subst (λ (q : Option Order). HasDistinctIdsIf q) p_is b
-distinct-apply r None p (Edit.Replace body) a b h = absurd (cc)
-distinct-apply r None p DeleteOrder a b h = absurd (cc)
+distinct-apply r None p (Edits.Replace body) a b h = absurd (cc)
+distinct-apply r None p (DeleteOrder ro) a b h = absurd (cc)
 distinct-apply r None p (Metadata patch) a b h = absurd (cc)
-distinct-apply r None p (Act action) a b h = absurd (cc)
-distinct-apply r None p Ready a b h = absurd (cc)
-distinct-apply r None p NotReady a b h = absurd (cc)
+distinct-apply r None p (Act ro action) a b h = absurd (cc)
+distinct-apply r None p (Air ro air) a b h = absurd (cc)
 distinct-apply r (Some o) p (Create body) a b h = absurd (cc)
-distinct-apply r (Some o) p (Edit.Replace body) a b h = let p_is : Some body ≡ p = cc in subst (λ (q : Option Order). HasDistinctIdsIf q) p_is b
-distinct-apply r (Some o) p DeleteOrder a b h = let p_is : None ≡ p = cc in subst (λ (q : Option Order). HasDistinctIdsIf q) p_is tt
+distinct-apply r (Some o) p (Edits.Replace body) a b h = let p_is : Some body ≡ p = cc in subst (λ (q : Option Order). HasDistinctIdsIf q) p_is b
+distinct-apply r (Some o) p (DeleteOrder ro) a b h = let p_is : None ≡ p = cc in subst (λ (q : Option Order). HasDistinctIdsIf q) p_is tt
 distinct-apply r (Some o) p (Metadata patch) a b h = grind arith
-distinct-apply r (Some o) p (Act action) a b h = go (act shape action o.stories) refl h
+distinct-apply r (Some o) p (Act ro action) a b h = go (act shape (form_of action) o.stories) refl h
   where
-    go : (x : Applied (List Story)) → act shape action o.stories ≡ x → with_stories o.header x ≡ Done p → HasDistinctIdsIf p
+    go : (x : Applied (List Story)) → act shape (form_of action) o.stories ≡ x → with_stories o.header x ≡ Done p → HasDistinctIdsIf p
     go (Fault f) e h = absurd (cc)
-    go (Done ys) e h = let p_is : Some (record { header = o.header; stories = ys }) ≡ p = cc in subst (λ (q : Option Order). HasDistinctIdsIf q) p_is (distinct-act action o.stories ys b a e)
-distinct-apply r (Some o) p Ready a b h = let p_is : Some o ≡ p = cc in subst (λ (q : Option Order). HasDistinctIdsIf q) p_is a
-distinct-apply r (Some o) p NotReady a b h = let p_is : Some o ≡ p = cc in subst (λ (q : Option Order). HasDistinctIdsIf q) p_is a
+    go (Done ys) e h = let p_is : Some (record { header = o.header; stories = ys }) ≡ p = cc in subst (λ (q : Option Order). HasDistinctIdsIf q) p_is (distinct-act (form_of action) o.stories ys b a e)
+distinct-apply r (Some o) p (Air ro air) a b h = let p_is : Some o ≡ p = cc in subst (λ (q : Option Order). HasDistinctIdsIf q) p_is a

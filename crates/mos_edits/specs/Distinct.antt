@@ -5,8 +5,9 @@ use Rattle.mos_edits.specs.KeyedLists.{ListAction, ids}
 use Rattle.mos_edits.specs.KeyedLists.ListAction.{Insert, Replace}
 use Rattle.mos_edits.specs.Actions.{Action}
 use Rattle.mos_edits.specs.Actions.Action.{OnStories}
-use Rattle.mos_edits.specs.Orders.{Item, Story, Order, Edit}
-use Rattle.mos_edits.specs.Orders.Edit.{Create, Act}
+use Rattle.mos_edits.specs.Orders.{Item, Story, Order, Edit, form_of}
+use Rattle.mos_values.specs.declared.edit.Edit.TheVariants as Edits
+use Rattle.mos_values.specs.declared.edit.Edit.TheVariants.{Create, Act}
 
 -- no identifier stands twice
 abbrev pub IsDistinct : List Text → Type 0
@@ -46,6 +47,6 @@ ActionOk action = Unit {0}
 
 abbrev pub BringsDistinctIds : Edit → Type 0
 BringsDistinctIds (Create body) = HasDistinctIds body
-BringsDistinctIds (Edit.Replace body) = HasDistinctIds body
-BringsDistinctIds (Act action) = ActionOk action
+BringsDistinctIds (Edits.Replace body) = HasDistinctIds body
+BringsDistinctIds (Act ro action) = ActionOk (form_of action)
 BringsDistinctIds e = Unit {0}

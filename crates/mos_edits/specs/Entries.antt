@@ -4,7 +4,8 @@ use Rattle.mos_edits.specs.Texts.{Text, same_id}
 use Rattle.mos_edits.specs.KeyedLists.{ActFault, Applied}
 use Rattle.mos_edits.specs.KeyedLists.Applied.{Done, Fault}
 use Rattle.mos_edits.specs.Orders.{Order, Header, HeaderPatch, Edit, apply}
-use Rattle.mos_edits.specs.Orders.Edit.{Create, Replace, Delete, Metadata, Act, Ready, NotReady}
+use Rattle.mos_values.specs.declared.edit.Edit.TheVariants.{Create, Replace, Delete, Metadata, Act, Air}
+use Rattle.mos_fields.specs.declared.air.Air.TheVariants.{Ready, NotReady}
 use Rattle.mos_edits.specs.Sizes.{list_units, list_all_units, list_limit, list_all_limit, at_most_64_bits}
 
 -- What the machines tell apart: an edit that says what the whole order is, one that changes the order that is
@@ -18,11 +19,11 @@ pub data Kind : Type 0 where
 abbrev pub kind : Edit → Kind
 kind (Create body) = IsWhole
 kind (Replace body) = IsWhole
-kind Delete = IsWhole
+kind (Delete ro) = IsWhole
 kind (Metadata patch) = IsAction
-kind (Act action) = IsAction
-kind Ready = IsReady
-kind NotReady = IsNotReady
+kind (Act ro action) = IsAction
+kind (Air ro Ready) = IsReady
+kind (Air ro NotReady) = IsNotReady
 
 -- what stands after a whole-order edit, whatever stood before
 abbrev pub body_of : Edit → Option Order
@@ -44,9 +45,13 @@ entries r (x ∷ xs) = if same_id r x.ro then x.edit ∷ entries r xs else entri
 abbrev pub entry_count : List Entry → Text → ℕ
 entry_count journal r = length (entries r journal)
 
+-- what stands for an entry that isn't there
+abbrev pub no_edit : Edit
+no_edit = Air [] NotReady
+
 -- the edit of entry `k` of `r`
 abbrev pub edit_at : List Entry → Text → ℕ → Edit
-edit_at journal r k = get_or (entries r journal) k NotReady
+edit_at journal r k = get_or (entries r journal) k no_edit
 
 -- the result of an edit, or what was there where the edit has a fault
 abbrev pub result_or : Option Order → Applied (Option Order) → Option Order

@@ -1,66 +1,22 @@
--- A running order as plain data, and the edits of one.
-use Rattle.std.specs.Prelude.{ℕ, List, [], ◌∷◌, Option, Some, None}
+-- What edits do to a running order. Orders and edits are the values of mos_values.
+use Rattle.std.specs.Prelude.{List, [], ◌∷◌, Option, Some, None}
 use Rattle.mos_edits.specs.Texts.{Text}
-use Rattle.mos_edits.specs.KeyedLists.{Applied}
+use Rattle.mos_edits.specs.KeyedLists.{ActFault, Applied, ListAction}
 use Rattle.mos_edits.specs.KeyedLists.ActFault.{Missing, AlreadyThere}
 use Rattle.mos_edits.specs.KeyedLists.Applied.{Done, Fault}
+use Rattle.mos_edits.specs.KeyedLists.ListAction.{Insert, Move, Swap}
 use Rattle.mos_edits.specs.Actions.{Action, Shape, act}
-
--- Raw elements (mosAbstract, objPaths, mosExternalMetadata and elements of other names) stand as their raw text.
-
-pub record Item : Type 0 where
-  pub id : Text
-  pub slug : Option Text
-  pub obj : Text
-  pub mos : Text
-  pub mos_abstract : Option Text
-  pub obj_paths : Option Text
-  pub channel : Option Text
-  pub ed_start : Option ℕ
-  pub ed_dur : Option ℕ
-  pub user_timing_dur : Option ℕ
-  pub trigger : Option Text
-  pub macro_in : Option Text
-  pub macro_out : Option Text
-  pub metadata : List Text
-  pub others : List Text
-
-pub record Story : Type 0 where
-  pub id : Text
-  pub slug : Option Text
-  pub num : Option Text
-  pub metadata : List Text
-  pub others : List Text
-  pub items : List Item
-
-pub record Header : Type 0 where
-  pub ro : Text
-  pub slug : Text
-  pub channel : Option Text
-  pub ed_start : Option Text
-  pub ed_dur : Option Text
-  pub trigger : Option Text
-  pub macro_in : Option Text
-  pub macro_out : Option Text
-  pub metadata : List Text
-  pub others : List Text
-
--- what a roMetadataReplace gives, and what an `ro` of roListAll says
-pub record HeaderPatch : Type 0 where
-  pub ro : Text
-  pub slug : Option Text
-  pub channel : Option Text
-  pub ed_start : Option Text
-  pub ed_dur : Option Text
-  pub trigger : Option Text
-  pub macro_in : Option Text
-  pub macro_out : Option Text
-  pub metadata : List Text
-  pub others : List Text
-
-pub record Order : Type 0 where
-  pub header : Header
-  pub stories : List Story
+use Rattle.mos_edits.specs.Actions.Action.{OnStories, OnItems}
+use Rattle.mos_values.specs.declared.action.Action as values
+use Rattle.mos_values.specs.declared.action.Action.TheVariants.{InsertStories, ReplaceStory, InsertItems, ReplaceItem, MoveStories, MoveItems, DeleteStories, DeleteItems, SwapStories, SwapItems}
+use Rattle.mos_values.specs.declared.edit.Edit.TheVariants as Edits
+use Rattle.mos_values.specs.declared.edit.Edit.TheVariants.{Create, Metadata, Act, Air}
+pub use Rattle.mos_values.specs.declared.edit.Edit.{Edit}
+pub use Rattle.mos_values.specs.declared.header.Header.{Header}
+pub use Rattle.mos_values.specs.declared.header.HeaderPatch.{HeaderPatch}
+pub use Rattle.mos_values.specs.declared.item.Item.{Item}
+pub use Rattle.mos_values.specs.StoryValue.{Story}
+pub use Rattle.mos_values.specs.OrderValue.{OrderBody as Order}
 
 -- the actions' view of stories and items
 abbrev pub shape : Shape Story Item
@@ -71,15 +27,27 @@ shape = record {
   with_items = λ s items. record s { items = items };
 }
 
--- the six kinds of edit: roCreate, roReplace, roDelete, roMetadataReplace, roElementAction, roReadyToAir
-pub data Edit : Type 0 where
-  Create : (body : Order) → Edit
-  Replace : (body : Order) → Edit
-  Delete : Edit
-  Metadata : (patch : HeaderPatch) → Edit
-  Act : (action : Action Story Item) → Edit
-  Ready : Edit
-  NotReady : Edit
+-- the ten variants of a roElementAction, as the five forms on the stories or on the items of a story
+abbrev pub form_of : values.Action → Action Story Item
+form_of (InsertStories target sources) = OnStories (Insert target sources)
+form_of (ReplaceStory target sources) = OnStories (ListAction.Replace target sources)
+form_of (InsertItems story target sources) = OnItems story (Insert target sources)
+form_of (ReplaceItem story target sources) = OnItems story (ListAction.Replace target sources)
+form_of (MoveStories target sources) = OnStories (Move target sources)
+form_of (MoveItems story target sources) = OnItems story (Move target sources)
+form_of (DeleteStories sources) = OnStories (ListAction.Delete sources)
+form_of (DeleteItems story sources) = OnItems story (ListAction.Delete sources)
+form_of (SwapStories first second) = OnStories (Swap first second)
+form_of (SwapItems story first second) = OnItems story (Swap first second)
+
+-- the roID that an edit names
+abbrev pub edit_ro : Edit → Text
+edit_ro (Create body) = body.header.ro
+edit_ro (Edits.Replace body) = body.header.ro
+edit_ro (Edits.Delete ro) = ro
+edit_ro (Metadata patch) = patch.ro
+edit_ro (Act ro action) = ro
+edit_ro (Air ro air) = ro
 
 abbrev pub given_or : {X : Type 0} → Option X → X → X
 given_or None old = old
@@ -118,9 +86,8 @@ unfoldable pub apply : Text → Option Order → Edit → Applied (Option Order)
 apply r None (Create body) = Done (Some body)
 apply r None e = Fault (Missing r)
 apply r (Some o) (Create body) = Fault (AlreadyThere r)
-apply r (Some o) (Replace body) = Done (Some body)
-apply r (Some o) Delete = Done None
+apply r (Some o) (Edits.Replace body) = Done (Some body)
+apply r (Some o) (Edits.Delete ro) = Done None
 apply r (Some o) (Metadata patch) = Done (Some (record { header = patched patch o.header; stories = o.stories }))
-apply r (Some o) (Act action) = with_stories o.header (act shape action o.stories)
-apply r (Some o) Ready = Done (Some o)
-apply r (Some o) NotReady = Done (Some o)
+apply r (Some o) (Act ro action) = with_stories o.header (act shape (form_of action) o.stories)
+apply r (Some o) (Air ro air) = Done (Some o)

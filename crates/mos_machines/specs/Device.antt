@@ -4,7 +4,6 @@ use Rattle.mos_edits.specs.Texts.{Text, same_id, set_order}
 use Rattle.mos_edits.specs.KeyedLists.{Applied}
 use Rattle.mos_edits.specs.KeyedLists.Applied.{Done, Fault}
 use Rattle.mos_edits.specs.Orders.{Order, HeaderPatch, Edit, apply}
-use Rattle.mos_edits.specs.Orders.Edit.{Ready}
 use Rattle.mos_edits.specs.Entries.{Kind, kind, body_of, Entry, insert_id}
 use Rattle.mos_edits.specs.Entries.Kind.{IsWhole, IsReady, IsNotReady}
 use Rattle.mos_machines.specs.Messages.{Status, Message, not_supported, Step, is_link}
@@ -298,10 +297,10 @@ abbrev pub is_some_order : Option Order → Bool
 is_some_order None = false
 is_some_order (Some o) = true
 
-abbrev pub is_ready_edit : Edit → Bool
-is_ready_edit Ready = true
-is_ready_edit e = false
+abbrev pub is_ready_kind : Kind → Bool
+is_ready_kind IsReady = true
+is_ready_kind k = false
 
 abbrev pub would_arm : GateState → ℕ → Message → Bool
-would_arm g c (RoEdit e) = is_link g.upper c && (is_ready_edit e.edit && (is_in (g.phase e.ro) && is_some_order (g.held e.ro)))
+would_arm g c (RoEdit e) = is_link g.upper c && (is_ready_kind (kind e.edit) && (is_in (g.phase e.ro) && is_some_order (g.held e.ro)))
 would_arm g c m = false

@@ -1,8 +1,9 @@
 -- Words for worked runs: names and texts as code points, stories of a script, and a session that is opened.
-use Rattle.std.proofs.Common.{◌≡◌, List, [], ◌∷◌, None, refl}
+use Rattle.std.proofs.Common.{◌≡◌, ℕ, List, [], ◌∷◌, Option, None, refl}
+use Rattle.std.specs.Prelude.{codes}
 use Rattle.mos_edits.specs.Texts.{Text, same_id}
 use Rattle.mos_edits.specs.Orders.{Order, Story, Item, apply}
-use Rattle.mos_edits.specs.Orders.Edit.{Create}
+use Rattle.mos_values.specs.declared.edit.Edit.TheVariants.{Create}
 use Rattle.mos_edits.specs.Entries.{over_limit}
 use Rattle.world_laws.specs.World.{World, WorldEvent, opening, run, own_time}
 use Rattle.world_laws.specs.World.WorldEvent.{Command, AtDevice}
@@ -11,87 +12,87 @@ use Rattle.world_laws.specs.Outcomes.{Outcome, outcomes}
 
 -- `A`
 abbrev pub a : Text
-a = 65 ∷ []
+a = codes "A"
 
 -- `B`
 abbrev pub b : Text
-b = 66 ∷ []
+b = codes "B"
 
 -- `C`
 abbrev pub c : Text
-c = 67 ∷ []
+c = codes "C"
 
 -- `D`
 abbrev pub d : Text
-d = 68 ∷ []
+d = codes "D"
 
 -- `E`
 abbrev pub e : Text
-e = 69 ∷ []
+e = codes "E"
 
 -- `q`
 abbrev pub q : Text
-q = 113 ∷ []
+q = codes "q"
 
 -- `r`
 abbrev pub r : Text
-r = 114 ∷ []
+r = codes "r"
 
 -- `x`
 abbrev pub x : Text
-x = 120 ∷ []
+x = codes "x"
 
 -- `y`
 abbrev pub y : Text
-y = 121 ∷ []
+y = codes "y"
 
 -- `z`
 abbrev pub z : Text
-z = 122 ∷ []
+z = codes "z"
 
 -- `OK`
 abbrev pub okay : Text
-okay = 79 ∷ 75 ∷ []
+okay = codes "OK"
 
 -- `MISSING A`
 abbrev pub missing_a : Text
-missing_a = 77 ∷ 73 ∷ 83 ∷ 83 ∷ 73 ∷ 78 ∷ 71 ∷ 32 ∷ 65 ∷ []
+missing_a = codes "MISSING A"
 
 -- `MISSING B`
 abbrev pub missing_b : Text
-missing_b = 77 ∷ 73 ∷ 83 ∷ 83 ∷ 73 ∷ 78 ∷ 71 ∷ 32 ∷ 66 ∷ []
+missing_b = codes "MISSING B"
 
 -- `MISSING z`
 abbrev pub missing_z : Text
-missing_z = 77 ∷ 73 ∷ 83 ∷ 83 ∷ 73 ∷ 78 ∷ 71 ∷ 32 ∷ 122 ∷ []
+missing_z = codes "MISSING z"
 
 -- `ALREADY THERE C`
 abbrev pub there_c : Text
-there_c = 65 ∷ 76 ∷ 82 ∷ 69 ∷ 65 ∷ 68 ∷ 89 ∷ 32 ∷ 84 ∷ 72 ∷ 69 ∷ 82 ∷ 69 ∷ 32 ∷ 67 ∷ []
+there_c = codes "ALREADY THERE C"
 
 -- `ALREADY THERE D`
 abbrev pub there_d : Text
-there_d = 65 ∷ 76 ∷ 82 ∷ 69 ∷ 65 ∷ 68 ∷ 89 ∷ 32 ∷ 84 ∷ 72 ∷ 69 ∷ 82 ∷ 69 ∷ 32 ∷ 68 ∷ []
+there_d = codes "ALREADY THERE D"
 
 -- `NOT NOW`
 abbrev pub not_now : Text
-not_now = 78 ∷ 79 ∷ 84 ∷ 32 ∷ 78 ∷ 79 ∷ 87 ∷ []
+not_now = codes "NOT NOW"
 
 -- `NOT IN STEP`
 abbrev pub not_in_step : Text
-not_in_step = 78 ∷ 79 ∷ 84 ∷ 32 ∷ 73 ∷ 78 ∷ 32 ∷ 83 ∷ 84 ∷ 69 ∷ 80 ∷ []
+not_in_step = codes "NOT IN STEP"
 
 -- `NO RUNNING ORDER`
 abbrev pub no_running_order : Text
-no_running_order = 78 ∷ 79 ∷ 32 ∷ 82 ∷ 85 ∷ 78 ∷ 78 ∷ 73 ∷ 78 ∷ 71 ∷ 32 ∷ 79 ∷ 82 ∷ 68 ∷ 69 ∷ 82 ∷ []
+no_running_order = codes "NO RUNNING ORDER"
 
 -- `STORE FAULT`
 abbrev pub store_fault : Text
-store_fault = 83 ∷ 84 ∷ 79 ∷ 82 ∷ 69 ∷ 32 ∷ 70 ∷ 65 ∷ 85 ∷ 76 ∷ 84 ∷ []
+store_fault = codes "STORE FAULT"
 
 -- `STOPPED`
 abbrev pub stopped : Text
-stopped = 83 ∷ 84 ∷ 79 ∷ 80 ∷ 80 ∷ 69 ∷ 68 ∷ []
+stopped = codes "STOPPED"
 
 -- an item with that identifier, of a device `m1`
 abbrev pub item : Text → Item
@@ -99,7 +100,7 @@ item id = record {
   id = id;
   slug = None;
   obj = id;
-  mos = 109 ∷ 49 ∷ [];
+  mos = codes "m1";
   mos_abstract = None;
   obj_paths = None;
   channel = None;

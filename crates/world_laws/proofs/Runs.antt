@@ -1,11 +1,11 @@
 -- Worked runs of the world, computed: the outcome of each event, and the state at the end.
-use Rattle.std.proofs.Common.{◌≡◌, List, [], ◌∷◌, true, false, Some, None, refl}
-use Rattle.mos_edits.specs.Texts.{same_id}
-use Rattle.mos_edits.specs.KeyedLists.{ListAction}
-use Rattle.mos_edits.specs.KeyedLists.ListAction.{Insert, Move, Swap}
-use Rattle.mos_edits.specs.Actions.Action.{OnStories, OnItems}
-use Rattle.mos_edits.specs.Orders.{Edit, apply}
-use Rattle.mos_edits.specs.Orders.Edit.{Create, Act, Ready}
+use Rattle.std.proofs.Common.{◌≡◌, ℕ, List, [], ◌∷◌, Bool, true, false, Option, Some, None, refl}
+use Rattle.mos_edits.specs.Texts.{Text, same_id}
+use Rattle.mos_edits.specs.Orders.{Order, Story, Item, Edit, apply}
+use Rattle.mos_values.specs.declared.edit.Edit.TheVariants as Edits
+use Rattle.mos_values.specs.declared.edit.Edit.TheVariants.{Create, Act, Air}
+use Rattle.mos_values.specs.declared.action.Action.TheVariants.{InsertStories, ReplaceStory, InsertItems, MoveStories, MoveItems, DeleteStories, DeleteItems, SwapStories, SwapItems}
+use Rattle.mos_fields.specs.declared.air.Air.TheVariants.{Ready}
 use Rattle.mos_edits.specs.Entries.{entry_count, order_now, over_limit}
 use Rattle.mos_machines.specs.Server.Upper.{Down, Open}
 use Rattle.mos_machines.specs.Server.ServerOut.{Idle, SendsEdit}
@@ -22,10 +22,10 @@ use Rattle.world_laws.proofs.RunWords.{a, b, c, d, e, q, r, x, y, z, okay, missi
 abbrev moves : List WorldEvent
 moves =
     Command (record { ro = r; edit = Create (body r ((plain a) ∷ (plain b) ∷ (plain c) ∷ [])) }) ∷
-    Command (record { ro = r; edit = Act (OnStories (Move a (c ∷ []))) }) ∷
-    Command (record { ro = r; edit = Act (OnStories (Move a (a ∷ []))) }) ∷
-    Command (record { ro = r; edit = Act (OnStories (Swap a a)) }) ∷
-    Command (record { ro = r; edit = Act (OnStories (ListAction.Delete (b ∷ b ∷ []))) }) ∷ []
+    Command (record { ro = r; edit = Act r (MoveStories a (c ∷ [])) }) ∷
+    Command (record { ro = r; edit = Act r (MoveStories a (a ∷ [])) }) ∷
+    Command (record { ro = r; edit = Act r (SwapStories a a) }) ∷
+    Command (record { ro = r; edit = Act r (DeleteStories (b ∷ b ∷ [])) }) ∷ []
 
 abbrev after_moves : World
 after_moves = run (opening 1) moves
@@ -46,14 +46,14 @@ moves_ends = (refl, refl, refl, refl, refl, refl)
 abbrev items : List WorldEvent
 items =
     Command (record { ro = r; edit = Create (body r ((plain a) ∷ (plain b) ∷ (plain c) ∷ [])) }) ∷
-    Command (record { ro = r; edit = Act (OnStories (Insert [] ((plain d) ∷ []))) }) ∷
-    Command (record { ro = r; edit = Act (OnStories (ListAction.Replace b ((plain b) ∷ (plain e) ∷ []))) }) ∷
-    Command (record { ro = r; edit = Act (OnStories (Insert a ((plain c) ∷ []))) }) ∷
-    Command (record { ro = r; edit = Act (OnStories (ListAction.Replace b ((plain d) ∷ []))) }) ∷
-    Command (record { ro = r; edit = Act (OnItems a (Insert [] (item x ∷ item y ∷ []))) }) ∷
-    Command (record { ro = r; edit = Act (OnItems a (Move x (y ∷ []))) }) ∷
-    Command (record { ro = r; edit = Act (OnItems a (Swap x z)) }) ∷
-    Command (record { ro = r; edit = Act (OnItems a (ListAction.Delete (x ∷ []))) }) ∷ []
+    Command (record { ro = r; edit = Act r (InsertStories [] ((plain d) ∷ [])) }) ∷
+    Command (record { ro = r; edit = Act r (ReplaceStory b ((plain b) ∷ (plain e) ∷ [])) }) ∷
+    Command (record { ro = r; edit = Act r (InsertStories a ((plain c) ∷ [])) }) ∷
+    Command (record { ro = r; edit = Act r (ReplaceStory b ((plain d) ∷ [])) }) ∷
+    Command (record { ro = r; edit = Act r (InsertItems a [] (item x ∷ item y ∷ [])) }) ∷
+    Command (record { ro = r; edit = Act r (MoveItems a x (y ∷ [])) }) ∷
+    Command (record { ro = r; edit = Act r (SwapItems a x z) }) ∷
+    Command (record { ro = r; edit = Act r (DeleteItems a (x ∷ [])) }) ∷ []
 
 abbrev after_items : World
 after_items = run (opening 1) items
@@ -76,7 +76,7 @@ list_waits =
     AtDevice 1 (Want r) ∷
     AtDevice 1 Ask ∷
     AtDevice 1 Hear ∷
-    Command (record { ro = r; edit = Act (OnStories (Swap a c)) }) ∷
+    Command (record { ro = r; edit = Act r (SwapStories a c) }) ∷
     AtDevice 1 Send ∷
     AtDevice 1 Got ∷
     AtDevice 1 Ask ∷
@@ -104,7 +104,7 @@ list_waits_ends = (refl, refl, refl, refl, refl, refl, refl, refl, refl)
 -- A cut with an edit in flight: the device takes the list on the new connection, and the edit is never read on the old one.
 abbrev cut_in_a_swap : List WorldEvent
 cut_in_a_swap =
-    Command (record { ro = r; edit = Act (OnStories (Swap a c)) }) ∷
+    Command (record { ro = r; edit = Act r (SwapStories a c) }) ∷
     AtDevice 1 Send ∷
     AtDevice 1 Cut ∷
     AtDevice 1 (Want r) ∷
@@ -147,7 +147,7 @@ cut_in_a_swap_ends = (refl, refl, refl, refl, refl, refl, refl, refl, refl)
 -- The same over a restart of the server.
 abbrev restart_of_the_server : List WorldEvent
 restart_of_the_server =
-    Command (record { ro = r; edit = Act (OnStories (Swap a c)) }) ∷
+    Command (record { ro = r; edit = Act r (SwapStories a c) }) ∷
     AtDevice 1 Send ∷
     Restart false ∷
     AtDevice 1 Hangup ∷
@@ -193,7 +193,7 @@ unconfirmed_list =
     AtDevice 1 Ask ∷
     AtDevice 1 Hear ∷
     AtDevice 1 Hangup ∷
-    Command (record { ro = r; edit = Act (OnStories (Swap a c)) }) ∷
+    Command (record { ro = r; edit = Act r (SwapStories a c) }) ∷
     AtDevice 1 Send ∷
     AtDevice 1 Read ∷
     AtDevice 1 Back ∷
@@ -234,7 +234,7 @@ restart_of_the_device =
     AtDevice 1 Ask ∷
     AtDevice 1 Hear ∷
     AtDevice 1 Got ∷
-    Command (record { ro = r; edit = Act (OnStories (Swap a c)) }) ∷
+    Command (record { ro = r; edit = Act r (SwapStories a c) }) ∷
     AtDevice 1 Send ∷
     AtDevice 1 Read ∷ []
 
@@ -258,7 +258,7 @@ abbrev crossed : List WorldEvent
 crossed =
     AtDevice 1 (Want r) ∷
     AtDevice 1 Ask ∷
-    Command (record { ro = r; edit = Edit.Replace (body r ((plain d) ∷ [])) }) ∷
+    Command (record { ro = r; edit = Edits.Replace (body r ((plain d) ∷ [])) }) ∷
     AtDevice 1 Send ∷
     AtDevice 1 Read ∷
     AtDevice 1 Back ∷
@@ -291,7 +291,7 @@ abbrev crossed_held : List WorldEvent
 crossed_held =
     AtDevice 1 (Want r) ∷
     AtDevice 1 Ask ∷
-    Command (record { ro = r; edit = Edit.Replace (body r ((plain d) ∷ [])) }) ∷
+    Command (record { ro = r; edit = Edits.Replace (body r ((plain d) ∷ [])) }) ∷
     AtDevice 1 Send ∷
     AtDevice 1 Read ∷
     AtDevice 1 Back ∷
@@ -316,7 +316,7 @@ crossed_held_ends = (refl, refl, refl, refl, refl, refl, refl, refl, refl)
 -- A READY that a list may have overtaken is sent again.
 abbrev ready_again : List WorldEvent
 ready_again =
-    Command (record { ro = r; edit = Ready }) ∷
+    Command (record { ro = r; edit = Air r Ready }) ∷
     AtDevice 1 Send ∷
     AtDevice 1 Read ∷
     AtDevice 1 Back ∷
@@ -332,7 +332,7 @@ ready_again =
     AtDevice 1 Got ∷
     AtDevice 1 (Want r) ∷
     AtDevice 1 Ask ∷
-    Command (record { ro = r; edit = Act (OnStories (Swap a c)) }) ∷
+    Command (record { ro = r; edit = Act r (SwapStories a c) }) ∷
     AtDevice 1 Hear ∷
     AtDevice 1 Got ∷
     AtDevice 1 Ask ∷
@@ -385,12 +385,12 @@ no_such_order_ends = (refl, refl, refl, refl, refl, refl, refl, refl, refl, refl
 abbrev append_fails_and_is_kept : List WorldEvent
 append_fails_and_is_kept =
     Command (record { ro = r; edit = Create (body r ((plain a) ∷ [])) }) ∷
-    Command (record { ro = r; edit = Act (OnStories (Insert [] ((plain b) ∷ []))) }) ∷
+    Command (record { ro = r; edit = Act r (InsertStories [] ((plain b) ∷ [])) }) ∷
     FailNext ∷
-    Command (record { ro = r; edit = Act (OnStories (Insert [] ((plain c) ∷ []))) }) ∷
-    Command (record { ro = r; edit = Act (OnStories (Swap a b)) }) ∷
+    Command (record { ro = r; edit = Act r (InsertStories [] ((plain c) ∷ [])) }) ∷
+    Command (record { ro = r; edit = Act r (SwapStories a b) }) ∷
     Restart true ∷
-    Command (record { ro = r; edit = Act (OnStories (Swap a b)) }) ∷ []
+    Command (record { ro = r; edit = Act r (SwapStories a b) }) ∷ []
 
 abbrev after_append_fails_and_is_kept : World
 after_append_fails_and_is_kept = run (opening 1) append_fails_and_is_kept
@@ -411,12 +411,12 @@ append_fails_and_is_kept_ends = (refl, refl, refl, refl, refl, refl)
 abbrev append_fails_and_is_lost : List WorldEvent
 append_fails_and_is_lost =
     Command (record { ro = r; edit = Create (body r ((plain a) ∷ [])) }) ∷
-    Command (record { ro = r; edit = Act (OnStories (Insert [] ((plain b) ∷ []))) }) ∷
+    Command (record { ro = r; edit = Act r (InsertStories [] ((plain b) ∷ [])) }) ∷
     FailNext ∷
-    Command (record { ro = r; edit = Act (OnStories (Insert [] ((plain c) ∷ []))) }) ∷
-    Command (record { ro = r; edit = Act (OnStories (Swap a b)) }) ∷
+    Command (record { ro = r; edit = Act r (InsertStories [] ((plain c) ∷ [])) }) ∷
+    Command (record { ro = r; edit = Act r (SwapStories a b) }) ∷
     Restart false ∷
-    Command (record { ro = r; edit = Act (OnStories (Swap a b)) }) ∷ []
+    Command (record { ro = r; edit = Act r (SwapStories a b) }) ∷ []
 
 abbrev after_append_fails_and_is_lost : World
 after_append_fails_and_is_lost = run (opening 1) append_fails_and_is_lost
