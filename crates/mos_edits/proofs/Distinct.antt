@@ -3,8 +3,40 @@ use Rattle.std.proofs.Common.{◌≡◌, List, [], ◌∷◌, ◌++◌, Bool, tr
 use Rattle.std.proofs.lemmas.List.{map-append}
 use Rattle.mos_edits.specs.Texts.{Text, same_id, has_id}
 use Rattle.mos_edits.specs.KeyedLists.{ids, find, with_found, picked, without, put_for, put_at, put_before}
-use Rattle.mos_edits.specs.Distinct.{IsDistinct}
-use Rattle.mos_edits.proofs.Identifiers.{same-true, same-self, same-sym, has-append}
+use Rattle.std.specs.List.{AllByRecursion, IsDistinct as ListDistinct}
+use Rattle.std.proofs.lemmas.Map.Made.{AllPairs-from_IsDistinct, IsDistinct-from_AllPairs}
+use Rattle.mos_values.specs.Distinct.{AreDistinct}
+use Rattle.mos_edits.proofs.Identifiers.{same-Decides, same-true, same-self, same-sym, has-append}
+
+-- no identifier stands twice
+abbrev pub IsDistinct : List Text → Type 0
+IsDistinct [] = Unit {0}
+IsDistinct (x ∷ xs) = (has_id x xs ≡ false) × IsDistinct xs
+
+-- the same in the words of lists at large
+all-apart : (x : Text) (xs : List Text) → has_id x xs ≡ false → AllByRecursion (λ y. same_id x y ≡ false) xs
+all-apart x [] h = tt
+all-apart x (y ∷ xs) h = (grind (arith, h), all-apart x xs (grind (arith, h)))
+
+apart-all : (x : Text) (xs : List Text) → AllByRecursion (λ y. same_id x y ≡ false) xs → has_id x xs ≡ false
+apart-all x [] h = refl
+apart-all x (y ∷ xs) h = let r = apart-all x xs h.1 in grind (arith, h.0, r)
+
+to-distinct : (xs : List Text) → IsDistinct xs → ListDistinct same_id xs
+unfolding ListDistinct
+to-distinct [] h = tt
+to-distinct (x ∷ xs) h = (all-apart x xs h.0, to-distinct xs h.1)
+
+of-distinct : (xs : List Text) → ListDistinct same_id xs → IsDistinct xs
+unfolding ListDistinct
+of-distinct [] h = tt
+of-distinct (x ∷ xs) h = (apart-all x xs h.0, of-distinct xs h.1)
+
+pub are-distinct : (xs : List Text) → IsDistinct xs → AreDistinct xs
+are-distinct xs h = AllPairs-from_IsDistinct same-Decides xs (to-distinct xs h)
+
+pub is-distinct : (xs : List Text) → AreDistinct xs → IsDistinct xs
+is-distinct xs h = of-distinct xs (IsDistinct-from_AllPairs same-Decides xs h)
 
 -- no identifier of the one stands in the other
 abbrev pub AreDisjoint : List Text → List Text → Type 0

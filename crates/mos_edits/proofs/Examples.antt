@@ -1,5 +1,9 @@
--- Worked examples of actions, computed.
-use Rattle.std.proofs.Common.{◌≡◌, List, [], ◌∷◌, refl}
+-- Worked examples of actions and of sizes, computed.
+use Rattle.std.proofs.Common.{◌≡◌, List, [], ◌∷◌, refl, Some, None}
+use Rattle.std.specs.Prelude.{codes}
+use Rattle.mos_values.specs.Headers.{patch_of}
+use Rattle.mos_edits.specs.Orders.{Header}
+use Rattle.mos_edits.specs.Sizes.{list_units, list_all_units, field_units}
 use Rattle.mos_edits.specs.Texts.{Text, same_id}
 use Rattle.mos_edits.specs.KeyedLists.{Applied, ListAction, act_list}
 use Rattle.mos_edits.specs.KeyedLists.ActFault.{Missing, AlreadyThere}
@@ -95,3 +99,19 @@ replace_present = refl
 replace_nothing : on (Replace [] (d ∷ [])) abc ≡ Fault (Missing [])
 unfolding same_id
 replace_nothing = refl
+
+-- sizes: roID and roSlug of one letter, and a roChannel of three
+abbrev header : Header
+header = record { ro = codes "R"; slug = codes "S"; channel = Some (codes "xxx"); ed_start = None; ed_dur = None; trigger = None; macro_in = None; macro_out = None; metadata = []; others = [] }
+
+-- `<roList><roID>R</roID><roSlug>S</roSlug><roChannel>xxx</roChannel></roList>`
+list_of_three : list_units (record { header = header; stories = [] }) ≡ 75
+list_of_three = refl
+
+-- `<roListAll><ro><roID>R</roID><roSlug>S</roSlug><roChannel>xxx</roChannel></ro></roListAll>`
+list_all_of_three : list_all_units (patch_of header ∷ []) ≡ 90
+list_all_of_three = refl
+
+-- `<roSlug>a&amp;b</roSlug>`: an escaped character counts as it is written
+escaped_slug : field_units 6 (codes "a&b") ≡ 24
+escaped_slug = refl

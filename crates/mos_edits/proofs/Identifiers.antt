@@ -1,8 +1,13 @@
 -- Identifiers are told apart as they are, and lists of them.
 use Rattle.std.proofs.Common.{◌≡◌, List, [], ◌∷◌, ◌++◌, true, false, not, ◌&&◌, ◌||◌, arith, refl}
 use Rattle.std.proofs.lemmas.Slice.Eq.{bytes_eq-Decides}
+use Rattle.std.specs.Bool.{Decides}
 use Rattle.mos_edits.specs.Texts.{Text, same_id, has_id}
 use Rattle.mos_edits.specs.KeyedLists.{without}
+
+pub same-Decides : (q r : Text) → Decides (same_id q r) (q ≡ r)
+unfolding same_id
+same-Decides q r = bytes_eq-Decides q r
 
 pub same-true : (q r : Text) → same_id q r ≡ true → q ≡ r
 unfolding same_id

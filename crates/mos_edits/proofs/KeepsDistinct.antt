@@ -10,9 +10,10 @@ use Rattle.mos_edits.specs.Actions.Action.{OnStories, OnItems}
 use Rattle.mos_edits.specs.Orders.{Item, Story, Order, Edit, shape, form_of, with_stories, apply}
 use Rattle.mos_values.specs.declared.edit.Edit.TheVariants as Edits
 use Rattle.mos_values.specs.declared.edit.Edit.TheVariants.{Create, Delete as DeleteOrder, Metadata, Act, Air}
-use Rattle.mos_edits.specs.Distinct.{IsDistinct, Each, HasDistinctItems, HasDistinctIdsIf, SourcesOk, ActionOk, BringsDistinctIds, story_ids, item_ids}
+use Rattle.mos_values.specs.Distinct.{AreDistinct, story_ids, item_ids}
+use Rattle.mos_edits.specs.Distinct.{Each, HasDistinctItems, HasDistinctIdsIf, SourcesOk, ActionOk, BringsDistinctIds}
 use Rattle.mos_edits.proofs.Identifiers.{same-true, same-self, has-without}
-use Rattle.mos_edits.proofs.Distinct.{AreDisjoint, distinct-put_before, distinct-put_for, has-without_key, distinct-without, key-find, has-picked, distinct-picked}
+use Rattle.mos_edits.proofs.Distinct.{IsDistinct, are-distinct, is-distinct, AreDisjoint, distinct-put_before, distinct-put_for, has-without_key, distinct-without, key-find, has-picked, distinct-picked}
 use Rattle.mos_edits.proofs.Swaps.{distinct-exchanged, done-fault}
 
 -- sources that aren't there, and none of which equals one before it
@@ -80,10 +81,10 @@ distinct-result key (Move target sources) xs d h =
 distinct-result key (Delete sources) xs d h = distinct-without key sources xs d
 distinct-result key (Swap a b) xs d h = distinct-exchanged key a b xs d
 
-pub distinct-act_list : {X : Type 0} (key : X → Text) (action : ListAction X) (xs ys : List X) → IsDistinct (ids key xs) → act_list key action xs ≡ Done ys → IsDistinct (ids key ys)
+pub distinct-act_list : {X : Type 0} (key : X → Text) (action : ListAction X) (xs ys : List X) → AreDistinct (ids key xs) → act_list key action xs ≡ Done ys → AreDistinct (ids key ys)
 distinct-act_list {X = X} key action xs ys d h =
     let f = done-fault (list_fault key action (ids key xs)) (list_result key action xs) ys h in
-    subst (λ (zs : List X). IsDistinct (ids key zs)) f.1 (distinct-result key action xs d f.0)
+    subst (λ (zs : List X). AreDistinct (ids key zs)) f.1 (are-distinct (ids key (list_result key action xs)) (distinct-result key action xs (is-distinct (ids key xs) d) f.0))
 
 -- what holds of each element of a list stays true of what actions make of it
 each-append : {X : Type 0} (P : X → Type 0) (xs ys : List X) → Each P xs → Each P ys → Each P (xs ++ ys)
@@ -156,39 +157,39 @@ each-exchanged {X = X} P key a b xs h = go (find key a xs) (find key b xs) (each
     go (Some x) (Some y) i j = each-exchange P key a b x y xs i j h
 
 items-result : (action : ListAction Story) (stories : List Story) → SourcesOk action → HasDistinctItems stories → HasDistinctItems (list_result (λ s. s.id) action stories)
-items-result (Insert target sources) stories o h = each-put_before (λ s. IsDistinct (item_ids s.items)) (λ s. s.id) target sources stories o h
-items-result (Replace target sources) stories o h = each-put_for (λ s. IsDistinct (item_ids s.items)) (λ s. s.id) target sources stories o h
+items-result (Insert target sources) stories o h = each-put_before (λ s. AreDistinct (item_ids s.items)) (λ s. s.id) target sources stories o h
+items-result (Replace target sources) stories o h = each-put_for (λ s. AreDistinct (item_ids s.items)) (λ s. s.id) target sources stories o h
 items-result (Move target sources) stories o h =
-    each-put_before (λ s. IsDistinct (item_ids s.items)) (λ s. s.id) target (picked (λ s. s.id) sources stories) (without (λ s. s.id) sources stories)
-    (each-picked (λ s. IsDistinct (item_ids s.items)) (λ s. s.id) sources stories h) (each-without (λ s. IsDistinct (item_ids s.items)) (λ s. s.id) sources stories h)
-items-result (Delete sources) stories o h = each-without (λ s. IsDistinct (item_ids s.items)) (λ s. s.id) sources stories h
-items-result (Swap a b) stories o h = each-exchanged (λ s. IsDistinct (item_ids s.items)) (λ s. s.id) a b stories h
+    each-put_before (λ s. AreDistinct (item_ids s.items)) (λ s. s.id) target (picked (λ s. s.id) sources stories) (without (λ s. s.id) sources stories)
+    (each-picked (λ s. AreDistinct (item_ids s.items)) (λ s. s.id) sources stories h) (each-without (λ s. AreDistinct (item_ids s.items)) (λ s. s.id) sources stories h)
+items-result (Delete sources) stories o h = each-without (λ s. AreDistinct (item_ids s.items)) (λ s. s.id) sources stories h
+items-result (Swap a b) stories o h = each-exchanged (λ s. AreDistinct (item_ids s.items)) (λ s. s.id) a b stories h
 
 -- an action on the stories of an order
 abbrev AreOk : List Story → Type 0
-AreOk stories = IsDistinct (story_ids stories) × HasDistinctItems stories
+AreOk stories = AreDistinct (story_ids stories) × HasDistinctItems stories
 
 ok-items : (story : Text) (action : ListAction Item) (stories ys : List Story) → AreOk stories → act_in shape story action stories (find (λ s. s.id) story stories) ≡ Done ys → AreOk ys
-ok-items story action stories ys a h = go (find (λ s. s.id) story stories) refl (each-find (λ s. IsDistinct (item_ids s.items)) (λ s. s.id) story stories a.1) h
+ok-items story action stories ys a h = go (find (λ s. s.id) story stories) refl (each-find (λ s. AreDistinct (item_ids s.items)) (λ s. s.id) story stories a.1) h
   where
-    put : (s : Story) (items : List Item) → s.id ≡ story → IsDistinct (item_ids items) → AreOk (put_for (λ s. s.id) story (record s { items = items } ∷ []) stories)
+    put : (s : Story) (items : List Item) → s.id ≡ story → AreDistinct (item_ids items) → AreOk (put_for (λ s. s.id) story (record s { items = items } ∷ []) stories)
     put s items k d = (
-      distinct-put_for (λ s. s.id) story (record s { items = items } ∷ []) stories (refl, tt) a.0 (λ z i n. absurd (let j = rw k at i in grind (arith, j, n))),
-      each-put_for (λ s. IsDistinct (item_ids s.items)) (λ s. s.id) story (record s { items = items } ∷ []) stories (d, tt) a.1,
+      are-distinct (story_ids (put_for (λ s. s.id) story (record s { items = items } ∷ []) stories)) (distinct-put_for (λ s. s.id) story (record s { items = items } ∷ []) stories (refl, tt) (is-distinct (story_ids stories) a.0) (λ z i n. absurd (let j = rw k at i in grind (arith, j, n)))),
+      each-put_for (λ s. AreDistinct (item_ids s.items)) (λ s. s.id) story (record s { items = items } ∷ []) stories (d, tt) a.1,
     )
 
-    inner : (s : Story) (r : Applied (List Item)) → act_list (λ i. i.id) action s.items ≡ r → s.id ≡ story → IsDistinct (item_ids s.items) → put_items shape story s stories r ≡ Done ys → AreOk ys
+    inner : (s : Story) (r : Applied (List Item)) → act_list (λ i. i.id) action s.items ≡ r → s.id ≡ story → AreDistinct (item_ids s.items) → put_items shape story s stories r ≡ Done ys → AreOk ys
     inner s (Fault f) e k d h = absurd (cc)
     inner s (Done items) e k d h = let ys_is : put_for (λ s. s.id) story (record s { items = items } ∷ []) stories ≡ ys = cc in subst (λ (zs : List Story). AreOk zs) ys_is (put s items k (distinct-act_list (λ i. i.id) action s.items items d e))
 
-    go : (o : Option Story) → find (λ s. s.id) story stories ≡ o → EachIn (λ s. IsDistinct (item_ids s.items)) o → act_in shape story action stories o ≡ Done ys → AreOk ys
+    go : (o : Option Story) → find (λ s. s.id) story stories ≡ o → EachIn (λ s. AreDistinct (item_ids s.items)) o → act_in shape story action stories o ≡ Done ys → AreOk ys
     go None e i h = absurd (cc)
     go (Some s) e i h = inner s (act_list (λ i. i.id) action s.items) refl (key-find (λ s. s.id) story stories s e) i h
 
-pub distinct-act : (action : Action Story Item) (stories ys : List Story) → ActionOk action → IsDistinct (story_ids stories) × HasDistinctItems stories → act shape action stories ≡ Done ys → IsDistinct (story_ids ys) × HasDistinctItems ys
+pub distinct-act : (action : Action Story Item) (stories ys : List Story) → ActionOk action → AreDistinct (story_ids stories) × HasDistinctItems stories → act shape action stories ≡ Done ys → AreDistinct (story_ids ys) × HasDistinctItems ys
 distinct-act (OnStories action) stories ys o a h =
     let f = done-fault (list_fault (λ s. s.id) action (story_ids stories)) (list_result (λ s. s.id) action stories) ys h in
-    subst (λ (zs : List Story). AreOk zs) f.1 (distinct-result (λ s. s.id) action stories a.0 f.0, items-result action stories o a.1)
+    subst (λ (zs : List Story). AreOk zs) f.1 (are-distinct (story_ids (list_result (λ s. s.id) action stories)) (distinct-result (λ s. s.id) action stories (is-distinct (story_ids stories) a.0) f.0), items-result action stories o a.1)
 distinct-act (OnItems story action) stories ys o a h = ok-items story action stories ys a h
 
 -- an edit

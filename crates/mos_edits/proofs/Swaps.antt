@@ -4,9 +4,9 @@ use Rattle.mos_edits.specs.Texts.{Text, same_id, has_id}
 use Rattle.mos_edits.specs.KeyedLists.{ActFault, ids, find, exchange, exchange_found, exchanged, first_of, missing_if_not, lacking, done_unless, act_list}
 use Rattle.mos_edits.specs.KeyedLists.Applied.{Done}
 use Rattle.mos_edits.specs.KeyedLists.ListAction.{Swap}
-use Rattle.mos_edits.specs.Distinct.{IsDistinct}
 use Rattle.mos_edits.proofs.Identifiers.{same-true, same-self}
-use Rattle.mos_edits.proofs.Distinct.{key-find}
+use Rattle.mos_values.specs.Distinct.{AreDistinct}
+use Rattle.mos_edits.proofs.Distinct.{IsDistinct, is-distinct, key-find}
 
 abbrev pub swapped : Text → Text → Text → Text
 swapped a b z = if same_id a z then b else (if same_id b z then a else z)
@@ -142,7 +142,7 @@ exchange-sym key a b x y (z ∷ zs) g = go (same_id a (key z)) refl (same_id b (
     go true s false t h = rw h refl
     go false s q t h = rw h refl
 
-pub swap-twice : {X : Type 0} (key : X → Text) (a b : Text) (xs ys : List X) → IsDistinct (ids key xs) → act_list key (Swap a b) xs ≡ Done ys → act_list key (Swap a b) ys ≡ Done xs
+pub swap-twice : {X : Type 0} (key : X → Text) (a b : Text) (xs ys : List X) → AreDistinct (ids key xs) → act_list key (Swap a b) xs ≡ Done ys → act_list key (Swap a b) ys ≡ Done xs
 swap-twice {X = X} key a b xs ys d h =
     let f = done-fault (first_of (lacking (ids key xs) a) (lacking (ids key xs) b)) (exchanged key a b xs) ys h in
     let t = swap-fault (ids key xs) a b f.0 in
@@ -164,7 +164,7 @@ swap-twice {X = X} key a b xs ys d h =
         let hb : has_id b (ids key (exchange key a b x y xs)) ≡ true = rw (i, has-swapped a b b (ids key xs)) (by (same_id a b) refl t) in
         let ga : find key a (exchange key a b x y xs) ≡ Some x = find-exchange key a b x y xs kx ky same fy in
         let gb : find key b (exchange key a b x y xs) ≡ Some y = gb_of x y kx ky same fx fy in
-        rw (ha, hb, ga, gb, exchange-back key a b x y xs kx ky same (only-found key a x xs d fx) (only-found key b y xs d fy)) refl
+        rw (ha, hb, ga, gb, exchange-back key a b x y xs kx ky same (only-found key a x xs (is-distinct (ids key xs) d) fx) (only-found key b y xs (is-distinct (ids key xs) d) fy)) refl
       where
         by : (c : Bool) → same_id a b ≡ c → (has_id a (ids key xs) ≡ true) × (has_id b (ids key xs) ≡ true) → has_id (if c then b else (if same_id b b then a else b)) (ids key xs) ≡ true
         by true u t = t.1

@@ -1,7 +1,8 @@
 -- Orders whose stories have distinct identifiers, and each of whose stories has items with distinct ones.
 use Rattle.std.specs.Prelude.{◌≡◌, List, [], ◌∷◌, false, Option, Some, None}
 use Rattle.mos_edits.specs.Texts.{Text, has_id}
-use Rattle.mos_edits.specs.KeyedLists.{ListAction, ids}
+use Rattle.mos_values.specs.Distinct.{AreDistinct, story_ids, item_ids}
+use Rattle.mos_edits.specs.KeyedLists.{ListAction}
 use Rattle.mos_edits.specs.KeyedLists.ListAction.{Insert, Replace}
 use Rattle.mos_edits.specs.Actions.{Action}
 use Rattle.mos_edits.specs.Actions.Action.{OnStories}
@@ -9,27 +10,17 @@ use Rattle.mos_edits.specs.Orders.{Item, Story, Order, Edit, form_of}
 use Rattle.mos_values.specs.declared.edit.Edit.TheVariants as Edits
 use Rattle.mos_values.specs.declared.edit.Edit.TheVariants.{Create, Act}
 
--- no identifier stands twice
-abbrev pub IsDistinct : List Text → Type 0
-IsDistinct [] = Unit {0}
-IsDistinct (x ∷ xs) = (has_id x xs ≡ false) × IsDistinct xs
-
-abbrev pub story_ids : List Story → List Text
-story_ids stories = ids (λ s. s.id) stories
-
-abbrev pub item_ids : List Item → List Text
-item_ids items = ids (λ i. i.id) items
-
+-- what holds of each element of a list
 abbrev pub Each : {X : Type 0} → (X → Type 0) → List X → Type 0
 Each P [] = Unit {0}
 Each P (x ∷ xs) = P x × Each P xs
 
 -- the items of each story have distinct identifiers
 abbrev pub HasDistinctItems : List Story → Type 0
-HasDistinctItems stories = Each (λ s. IsDistinct (item_ids s.items)) stories
+HasDistinctItems stories = Each (λ s. AreDistinct (item_ids s.items)) stories
 
 abbrev pub HasDistinctIds : Order → Type 0
-HasDistinctIds o = IsDistinct (story_ids o.stories) × HasDistinctItems o.stories
+HasDistinctIds o = AreDistinct (story_ids o.stories) × HasDistinctItems o.stories
 
 abbrev pub HasDistinctIdsIf : Option Order → Type 0
 HasDistinctIdsIf None = Unit {0}

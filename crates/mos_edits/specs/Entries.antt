@@ -6,6 +6,7 @@ use Rattle.mos_edits.specs.KeyedLists.Applied.{Done, Fault}
 use Rattle.mos_edits.specs.Orders.{Order, Header, HeaderPatch, Edit, apply}
 use Rattle.mos_values.specs.declared.edit.Edit.TheVariants.{Create, Replace, Delete, Metadata, Act, Air}
 use Rattle.mos_fields.specs.declared.air.Air.TheVariants.{Ready, NotReady}
+use Rattle.mos_values.specs.Headers.{patch_of}
 use Rattle.mos_edits.specs.Sizes.{list_units, list_all_units, list_limit, list_all_limit, at_most_64_bits}
 
 -- What the machines tell apart: an edit that says what the whole order is, one that changes the order that is
@@ -97,24 +98,9 @@ listed_from journal (x ∷ xs) ros = listed_from journal xs (insert_if (order_no
 abbrev pub listed : List Entry → List Text
 listed journal = listed_from journal journal []
 
--- what roListAll says of an order: all that its header has
-abbrev pub listed_header : Header → HeaderPatch
-listed_header h = record {
-  ro = h.ro;
-  slug = Some h.slug;
-  channel = h.channel;
-  ed_start = h.ed_start;
-  ed_dur = h.ed_dur;
-  trigger = h.trigger;
-  macro_in = h.macro_in;
-  macro_out = h.macro_out;
-  metadata = h.metadata;
-  others = h.others;
-}
-
 abbrev pub with_header : Option Order → List HeaderPatch → List HeaderPatch
 with_header None headers = headers
-with_header (Some o) headers = listed_header o.header ∷ headers
+with_header (Some o) headers = patch_of o.header ∷ headers
 
 abbrev pub headers_of : List Entry → List Text → List HeaderPatch
 headers_of journal [] = []

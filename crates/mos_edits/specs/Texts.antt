@@ -1,9 +1,6 @@
 -- Texts and identifiers, and tables over them.
 use Rattle.std.specs.Prelude.{ℕ, List, [], ◌∷◌, Bool, false, if◌then◌else◌, bytes_eq, ◌==◌, ◌||◌}
-
--- a text is the list of the code points of its characters
-abbrev pub Text : Type 0
-Text = List ℕ
+pub use Rattle.mos_fields.specs.Characters.{Text}
 
 -- Whether two identifiers are one. The one that is looked up stands first, the one that is written second.
 unfoldable pub same_id : Text → Text → Bool

@@ -1,5 +1,5 @@
 -- What the two machines say to each other, as plain data.
-use Rattle.std.specs.Prelude.{ℕ, List, [], ◌∷◌, ◌++◌, take, Bool, false, Option, Some, None, if◌then◌else◌, ◌==◌}
+use Rattle.std.specs.Prelude.{codes, ℕ, List, [], ◌∷◌, ◌++◌, take, Bool, false, Option, Some, None, if◌then◌else◌, ◌==◌}
 use Rattle.mos_edits.specs.Texts.{Text, same_id}
 use Rattle.mos_edits.specs.KeyedLists.{ActFault}
 use Rattle.mos_edits.specs.KeyedLists.ActFault.{Missing, AlreadyThere}
@@ -25,23 +25,23 @@ pub data Status : Type 0 where
 abbrev pub status_limit : ℕ
 status_limit = 128
 
--- the texts, as code points: `MISSING id`, `ALREADY THERE id`
+-- the texts of faults
 abbrev pub fault_text : ActFault → Text
-fault_text (Missing id) = take status_limit ((77 ∷ 73 ∷ 83 ∷ 83 ∷ 73 ∷ 78 ∷ 71 ∷ 32 ∷ []) ++ id)
-fault_text (AlreadyThere id) = take status_limit ((65 ∷ 76 ∷ 82 ∷ 69 ∷ 65 ∷ 68 ∷ 89 ∷ 32 ∷ 84 ∷ 72 ∷ 69 ∷ 82 ∷ 69 ∷ 32 ∷ []) ++ id)
+fault_text (Missing id) = take status_limit (codes "MISSING " ++ id)
+fault_text (AlreadyThere id) = take status_limit (codes "ALREADY THERE " ++ id)
 
--- `OK`, `NO DECK`, `NOT IN STEP`, `FULL`, `STORE FAULT`, `STOPPED`, `NOT NOW`, `NO RUNNING ORDER`, `NOT SUPPORTED`
+-- the texts
 abbrev pub status_text : Status → Text
-status_text Okay = 79 ∷ 75 ∷ []
-status_text NoDeck = 78 ∷ 79 ∷ 32 ∷ 68 ∷ 69 ∷ 67 ∷ 75 ∷ []
-status_text NotInStep = 78 ∷ 79 ∷ 84 ∷ 32 ∷ 73 ∷ 78 ∷ 32 ∷ 83 ∷ 84 ∷ 69 ∷ 80 ∷ []
+status_text Okay = codes "OK"
+status_text NoDeck = codes "NO DECK"
+status_text NotInStep = codes "NOT IN STEP"
 status_text (Faulty f) = fault_text f
-status_text (Full units) = 70 ∷ 85 ∷ 76 ∷ 76 ∷ []
-status_text StoreFault = 83 ∷ 84 ∷ 79 ∷ 82 ∷ 69 ∷ 32 ∷ 70 ∷ 65 ∷ 85 ∷ 76 ∷ 84 ∷ []
-status_text Stopped = 83 ∷ 84 ∷ 79 ∷ 80 ∷ 80 ∷ 69 ∷ 68 ∷ []
-status_text NotNow = 78 ∷ 79 ∷ 84 ∷ 32 ∷ 78 ∷ 79 ∷ 87 ∷ []
-status_text NoRunningOrder = 78 ∷ 79 ∷ 32 ∷ 82 ∷ 85 ∷ 78 ∷ 78 ∷ 73 ∷ 78 ∷ 71 ∷ 32 ∷ 79 ∷ 82 ∷ 68 ∷ 69 ∷ 82 ∷ []
-status_text NotSupported = 78 ∷ 79 ∷ 84 ∷ 32 ∷ 83 ∷ 85 ∷ 80 ∷ 80 ∷ 79 ∷ 82 ∷ 84 ∷ 69 ∷ 68 ∷ []
+status_text (Full units) = codes "FULL"
+status_text StoreFault = codes "STORE FAULT"
+status_text Stopped = codes "STOPPED"
+status_text NotNow = codes "NOT NOW"
+status_text NoRunningOrder = codes "NO RUNNING ORDER"
+status_text NotSupported = codes "NOT SUPPORTED"
 status_text (OtherStatus text) = text
 
 -- what a reader makes of a status: it tells apart the three that it acts on
