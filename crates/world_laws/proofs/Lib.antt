@@ -21,3 +21,4 @@ pub mod SafeGot
 pub mod SafeRun
 pub mod RunWords
 pub mod Runs
+pub mod MachineCalls

@@ -2,8 +2,11 @@
 //! each replica is the server's order after a prefix of its accepted edits.
 #![tactic(auto)]
 
-ghost use Rattle.std.specs.Prelude.{ℕ, List};
-ghost use Rattle.world_laws.specs.World.{WorldEvent, opening};
+ghost use Rattle.std.specs.Prelude.{◌≡◌, ℕ, ◌+◌, List, Bool, true};
+ghost use Rattle.mos_edits.specs.Entries.{Entry};
+ghost use Rattle.mos_machines.specs.Steps.{ServerEvent, started, server_step};
+ghost use Rattle.world_laws.specs.World.{World, WorldEvent, PairingEvent, opening, has_device, kept_journal, world_step};
+ghost use Rattle.world_laws.specs.Machines.{server_of, server_call, device_call, server_after, device_after};
 ghost use Rattle.world_laws.specs.Safe.{IsSafe};
 
 /// Prefix consistency: every run is safe, for any number of devices and any list of commands, deliveries, cut
@@ -15,4 +18,13 @@ ghost use Rattle.world_laws.specs.Safe.{IsSafe};
 /// this asks that they are sound.
 pub fn prefix_consistency()
     ensures { (devices : ℕ) (events : List WorldEvent) → IsSafe (opening devices) events }
+{}
+
+/// The ends of a world are the two machines: each event at a device is a call of the server, a call of that device, or
+/// neither; a command is the server's command, and a restart leaves the server as its start does.
+pub fn worlds_run_the_machines()
+    ensures server { (w : World) (d : ℕ) (e : PairingEvent) → has_device w d ≡ true → server_of (world_step w (WorldEvent.AtDevice d e)).0 ≡ server_after (server_of w) (server_call d (w.count + 1) (w.pairings d) e) }
+    ensures device { (w : World) (d : ℕ) (e : PairingEvent) → has_device w d ≡ true → ((world_step w (WorldEvent.AtDevice d e)).0.pairings d).gate ≡ device_after (w.pairings d).gate (device_call (w.count + 1) (w.pairings d) e) }
+    ensures command { (w : World) (e : Entry) → server_of (world_step w (WorldEvent.Command e)).0 ≡ (server_step w.failing (server_of w) (ServerEvent.Command e)).1 }
+    ensures restart { (w : World) (keeps : Bool) → server_of (world_step w (WorldEvent.Restart keeps)).0 ≡ started (kept_journal w.journal keeps w.uncertain) 0 }
 {}
