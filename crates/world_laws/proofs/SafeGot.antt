@@ -2,16 +2,18 @@
 use Rattle.std.proofs.Common.{◌≡◌, ℕ, ◌≤◌, List, [], ◌∷◌, Bool, true, false, Option, Some, None, arith, refl, if◌then◌else◌, sym, ap, ◌∙◌, subst, inl, inr}
 use Rattle.mos_edits.specs.Texts.{Text, same_id}
 use Rattle.mos_edits.specs.Orders.{Order}
-use Rattle.mos_edits.specs.Entries.{Entry, order_at}
-use Rattle.mos_machines.specs.Messages.{Tag, Packet, Step}
-use Rattle.mos_machines.specs.Device.{GateOut, GateState, gate_got, got_by, got_order}
+use Rattle.mos_edits.specs.Entries.{Entry, entry_count, order_at}
+use Rattle.mos_machines.specs.Messages.{Status, Message, Tag, Packet, Step}
+use Rattle.mos_machines.specs.Messages.Status.{Okay, NoDeck, NotInStep, StoreFault, Stopped, NotNow, NoRunningOrder, NotSupported, OtherStatus}
+use Rattle.mos_machines.specs.Messages.Message.{RoAck}
+use Rattle.mos_machines.specs.Device.{GateOut, GateState, gate_got, got_by, got_order, is_no_order}
 use Rattle.mos_machines.specs.Messages.Tag.{Untagged, OfEntry, OfAgain, OfList}
 use Rattle.world_laws.proofs.Replication.{Replication, IsInvariant}
 use Rattle.world_laws.proofs.Channels.{replication, channels, ask_of, Answer_to, IsAnswer}
 use Rattle.mos_machines.specs.Device.Phase.{InStep, Asked}
 use Rattle.world_laws.proofs.Invariant.{PairingInvariant}
 use Rattle.world_laws.specs.World.{Effect, Pairing, Connection, front, applied_got, gets_if, gets_front, gets_from}
-use Rattle.world_laws.specs.Safe.{upper_front, IsAnswerSafe}
+use Rattle.world_laws.specs.Safe.{upper_front, IsList, IsAnswerSafe}
 use Rattle.mos_machines.specs.Server.{list_of}
 use Rattle.mos_machines.specs.Messages.Step.{Taken, Unasked}
 use Rattle.mos_machines.specs.Device.GateOut.{NotAsking, AsksFor, AsksAll, AsksBeat}
@@ -101,5 +103,30 @@ got_facts_by journal count l (Some v) p r m i e f t o ph =
     (subst (λ (a : GateOut). GotFacts (gets_from l v (l.connections v) p (got_by l.gate a p.message)) r m) (sym o)
     (got_facts journal count l v p r m i e f t o ph (subst (λ (a : GateOut). Answer_to journal a (p ∷ [])) o (answer_front journal count l v p i e f))))
 
-pub consistent_got : (journal : List Entry) (count : ℕ) (l : Pairing) (r : Text) → PairingInvariant journal count l → IsAnswerSafe l (gets_if l l.gate.link).0 r
-consistent_got journal count l r i = record { lists = λ m p f t o ph. got_facts_by journal count l l.gate.link p r m i refl f t o ph }
+-- a list that is an answer
+list_answer : (journal : List Entry) (r : Text) (p : Packet) → IsAnswer journal r p → IsList p.message → (m : ℕ) × (m ≤ entry_count journal r) × (p ≡ list_of r m (order_at journal r m))
+list_answer journal r p (inl x) h = x
+list_answer journal r p (inr x) h = absurd (no_list x.0 (subst (λ (m : Message). IsList m) (ap (λ (y : Packet). y.message) x.1) h) x.2)
+  where
+    no_list : (t : Status) → IsList (RoAck r t) → is_no_order t ≡ false → ⊥
+    no_list NoRunningOrder h e = cc
+    no_list Okay h e = h
+    no_list NoDeck h e = h
+    no_list NotInStep h e = h
+    no_list (Status.Faulty f) h e = h
+    no_list (Status.Full n) h e = h
+    no_list StoreFault h e = h
+    no_list Stopped h e = h
+    no_list NotNow h e = h
+    no_list NotSupported h e = h
+    no_list (OtherStatus t) h e = h
+
+list_read : (journal : List Entry) (count : ℕ) (l : Pairing) (u : Option ℕ) (p : Packet) (r : Text) → PairingInvariant journal count l → l.gate.link ≡ u → upper_front l u ≡ Some p → l.gate.out ≡ AsksFor r → IsList p.message → (m : ℕ) × (m ≤ entry_count journal r) × (p ≡ list_of r m (order_at journal r m))
+list_read journal count l None p r i u f o h = absurd (cc)
+list_read journal count l (Some v) p r i u f o h = list_answer journal r p (subst (λ (a : GateOut). Answer_to journal a (p ∷ [])) o (answer_front journal count l v p i u f)) h
+
+pub consistent_got : (journal : List Entry) (count : ℕ) (l : Pairing) (r : Text) → PairingInvariant journal count l → IsAnswerSafe journal l (gets_if l l.gate.link).0 r
+consistent_got journal count l r i = record {
+  answers = λ p f o h. list_read journal count l l.gate.link p r i refl f o h;
+  lists = λ m p f t o ph. got_facts_by journal count l l.gate.link p r m i refl f t o ph;
+}

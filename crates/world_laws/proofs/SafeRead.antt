@@ -1,5 +1,5 @@
 -- What `safe` says of `read d`.
-use Rattle.std.proofs.Common.{◌≡◌, ℕ, ◌+◌, ◌-◌, ◌<◌, ◌≤◌, List, Bool, Option, Some, None, arith, refl, sym, ap, ◌∙◌, subst}
+use Rattle.std.proofs.Common.{◌⊎◌, inl, inr, ◌≡◌, ℕ, ◌+◌, ◌-◌, ◌<◌, ◌≤◌, List, Bool, Option, Some, None, arith, refl, sym, ap, ◌∙◌, subst}
 use Rattle.mos_edits.specs.Texts.{Text}
 use Rattle.mos_edits.specs.Orders.{Order, Edit, apply}
 use Rattle.mos_edits.specs.Entries.{Kind, kind, Entry, entry_count, edit_at, order_at}
@@ -114,7 +114,7 @@ prefix_here journal count l v q k i u f =
     read_bound : (l : Replication) → IsInvariant l → (k : ℕ) → readable l.in_flight ≡ Some (TransferEntry k) → l.prefix ≤ k
     read_bound l i k r = grind arith
 
--- SoundRead, at the packet that is read
+-- what holds of the packet that is read
 abbrev ReadFacts : List Entry → Pairing → Pairing × Effect → Entry → Tag → Type 0
 ReadFacts journal l x e (OfEntry r k) =
     (kind e.edit ≡ IsReady → x.1 ≡ Wrote (untagged (RoAck r Okay)) → x.0.gate.held r ≡ order_at journal r k)
@@ -149,8 +149,37 @@ facts_read journal count l e t None lok i u f = absurd (cc)
 facts_read journal count l e t (Some v) lok i u f =
     subst (λ (x : Pairing × Effect). ReadFacts journal l x e t) (sym (reads_is l v (packet_with e t) u f)) (facts_here journal count l v e t lok i u f (tagged_front journal count l v (packet_with e t) i u f))
 
+-- an edit that is read is what its tag says
+abbrev IsEntryOf : List Entry → Text → Packet → Type 0
+IsEntryOf journal r p = ((k : ℕ) × (k < entry_count journal r) × (p ≡ entry_packet journal r k)) ⊎ ((m : ℕ) × (p ≡ again_packet journal r m))
+
+edit_of_tag : (journal : List Entry) (p : Packet) (e : Entry) (t : Tag) → Tagged journal p t → p.message ≡ RoEdit e → IsEntryOf journal e.ro p
+edit_of_tag journal p e Untagged t m = absurd (t e m)
+edit_of_tag journal p e (OfList r k) t m = absurd t
+edit_of_tag journal p e (OfEntry r k) t m =
+    let n : RoEdit (record { ro = r; edit = edit_at journal r k }) ≡ RoEdit e = sym (ap (λ (x : Packet). x.message) t.0) ∙ m in
+    let y : record { ro = r; edit = edit_at journal r k } ≡ e = edit_in n in
+    let i : r ≡ e.ro = ap (λ (x : Entry). x.ro) y in
+    subst (λ (z : Text). IsEntryOf journal z p) i (inl (k, t.1, t.0))
+  where
+    edit_in : {x y : Entry} → RoEdit x ≡ RoEdit y → x ≡ y
+    edit_in h = cc
+edit_of_tag journal p e (OfAgain r k) t m =
+    let n : RoEdit (record { ro = r; edit = edit_at journal r (k - 1) }) ≡ RoEdit e = sym (ap (λ (x : Packet). x.message) t) ∙ m in
+    let y : record { ro = r; edit = edit_at journal r (k - 1) } ≡ e = edit_in n in
+    let i : r ≡ e.ro = ap (λ (x : Entry). x.ro) y in
+    subst (λ (z : Text). IsEntryOf journal z p) i (inr (k, t))
+  where
+    edit_in : {x y : Entry} → RoEdit x ≡ RoEdit y → x ≡ y
+    edit_in h = cc
+
+edit_read : (journal : List Entry) (count : ℕ) (l : Pairing) (u : Option ℕ) (p : Packet) (e : Entry) → PairingInvariant journal count l → l.gate.upper ≡ u → upper_front l u ≡ Some p → p.message ≡ RoEdit e → IsEntryOf journal e.ro p
+edit_read journal count l None p e i u f m = absurd (cc)
+edit_read journal count l (Some v) p e i u f m = edit_of_tag journal p e p.tag (tagged_front journal count l v p i u f) m
+
 pub consistent_read : (journal : List Entry) (count : ℕ) (l : Pairing) (r : Text) → JournalOk journal → PairingInvariant journal count l → IsReadSafe journal l (reads_if l l.gate.upper).0 (reads_if l l.gate.upper).1 r
 consistent_read journal count l r lok i = record {
+  edits = λ p e f m q. subst (λ (z : Text). IsEntryOf journal z p) q (edit_read journal count l l.gate.upper p e i refl f m);
   at_ready = λ k e f. (facts_read journal count l e (OfEntry r k) l.gate.upper lok i refl f).0;
   at_ready_again = λ m e f. (facts_read journal count l e (OfAgain r m) l.gate.upper lok i refl f).0;
   in_step = λ k e f. (facts_read journal count l e (OfEntry r k) l.gate.upper lok i refl f).1;

@@ -1,14 +1,14 @@
 -- What holds of every run: each replica is the server's order after a prefix of its accepted edits.
-use Rattle.std.specs.Prelude.{◌≡◌, ℕ, ◌-◌, ◌≤◌, ◌⊎◌, List, [], ◌∷◌, ◌++◌, Bool, true, false, Option, Some, None}
+use Rattle.std.specs.Prelude.{◌≡◌, ℕ, ◌<◌, ◌-◌, ◌≤◌, ◌⊎◌, List, [], ◌∷◌, ◌++◌, Bool, true, false, Option, Some, None}
 use Rattle.mos_edits.specs.Texts.{Text, same_id}
 use Rattle.mos_edits.specs.Orders.{Order}
 use Rattle.mos_edits.specs.Entries.{Kind, kind, Entry, entry_count, order_at}
 use Rattle.mos_edits.specs.Entries.Kind.{IsReady}
-use Rattle.mos_machines.specs.Messages.{Status, Packet, untagged}
-use Rattle.mos_machines.specs.Messages.Status.{Okay}
-use Rattle.mos_machines.specs.Messages.Message.{RoEdit, RoAck}
+use Rattle.mos_machines.specs.Messages.{Status, Message, Packet, untagged}
+use Rattle.mos_machines.specs.Messages.Status.{Okay, NoRunningOrder}
+use Rattle.mos_machines.specs.Messages.Message.{RoEdit, RoAck, RoList}
 use Rattle.mos_machines.specs.Messages.Tag.{OfEntry, OfAgain, OfList}
-use Rattle.mos_machines.specs.Server.{Upper}
+use Rattle.mos_machines.specs.Server.{Upper, entry_packet, again_packet, list_of}
 use Rattle.mos_machines.specs.Server.Upper.{Open}
 use Rattle.mos_machines.specs.Server.ServerOut.{SendsEdit, SendsAgain}
 use Rattle.mos_machines.specs.Server.View.{In}
@@ -57,24 +57,33 @@ abbrev pub in_step_status : Kind → Decks → Status
 in_step_status IsReady decks = ready_status decks
 in_step_status k decks = Okay
 
--- A device that answers `OK` to a READY, sent first or again, holds the order that it releases. A device in step answers
--- `OK` to each entry of the order, but for `NO DECK`.
+-- An edit that a device reads is an entry of its order, or a READY of it that is sent again. A device that answers `OK` to a
+-- READY, sent first or again, holds the order that it releases. A device in step answers `OK` to each entry of the order, but
+-- for `NO DECK`.
 pub record IsReadSafe (journal : List Entry) (l l' : Pairing) (o : Effect) (r : Text) : Type 0 where
+  pub edits : (p : Packet) (e : Entry) → upper_front l l.gate.upper ≡ Some p → p.message ≡ RoEdit e → e.ro ≡ r → ((k : ℕ) × (k < entry_count journal r) × (p ≡ entry_packet journal r k)) ⊎ ((m : ℕ) × (p ≡ again_packet journal r m))
   pub at_ready : (k : ℕ) (e : Entry) → upper_front l l.gate.upper ≡ Some (record { message = RoEdit e; tag = OfEntry r k }) → kind e.edit ≡ IsReady → o ≡ Wrote (untagged (RoAck r Okay)) → l'.gate.held r ≡ released journal r k
   pub at_ready_again : (m : ℕ) (e : Entry) → upper_front l l.gate.upper ≡ Some (record { message = RoEdit e; tag = OfAgain r m }) → o ≡ Wrote (untagged (RoAck r Okay)) → l'.gate.held r ≡ released journal r (m - 1)
   pub in_step : (k : ℕ) (e : Entry) → upper_front l l.gate.upper ≡ Some (record { message = RoEdit e; tag = OfEntry r k }) → IsInStep l.gate r → o ≡ Wrote (untagged (RoAck r (in_step_status (kind e.edit) l.decks)))
   pub in_step_again : (m : ℕ) (e : Entry) → upper_front l l.gate.upper ≡ Some (record { message = RoEdit e; tag = OfAgain r m }) → IsInStep l.gate r → o ≡ Wrote (untagged (RoAck r (ready_status l.decks)))
 
--- A device that reads a list, or that there is no order, as the answer to its roReq, with no edit of the order read since, is
--- in step from then on, and its prefix is that of the list.
-pub record IsAnswerSafe (l l' : Pairing) (r : Text) : Type 0 where
+-- a roList, or that there is no order
+abbrev pub IsList : Message → Type 0
+IsList (RoList q order) = Unit {0}
+IsList (RoAck q NoRunningOrder) = Unit {0}
+IsList m = ⊥
+
+-- A list that a device reads as the answer to its roReq is the order after as many of its entries as it is tagged with. With no
+-- edit of the order read since the request, the device is in step from then on, and its prefix is that of the list.
+pub record IsAnswerSafe (journal : List Entry) (l l' : Pairing) (r : Text) : Type 0 where
+  pub answers : (p : Packet) → upper_front l l.gate.link ≡ Some p → l.gate.out ≡ AsksFor r → IsList p.message → (m : ℕ) × (m ≤ entry_count journal r) × (p ≡ list_of r m (order_at journal r m))
   pub lists : (m : ℕ) (p : Packet) → upper_front l l.gate.link ≡ Some p → p.tag ≡ OfList r m → l.gate.out ≡ AsksFor r → l.gate.phase r ≡ Asked → IsInStep l'.gate r × (l'.applied r ≡ m)
 
 -- one event at a device, of an order: the prefix doesn't get shorter, but where the device restarts
 abbrev pub IsEventSafe : List Entry → Pairing → PairingEvent → Pairing → Effect → Text → Type 0
 IsEventSafe journal l Reboot l' o r = Unit {0}
 IsEventSafe journal l Read l' o r = (l.applied r ≤ l'.applied r) × IsReadSafe journal l l' o r
-IsEventSafe journal l Got l' o r = (l.applied r ≤ l'.applied r) × IsAnswerSafe l l' r
+IsEventSafe journal l Got l' o r = (l.applied r ≤ l'.applied r) × IsAnswerSafe journal l l' r
 IsEventSafe journal l e l' o r = l.applied r ≤ l'.applied r
 
 -- The journal grows by the entry of a command that is answered `OK`, at a restart by the one entry whose append failed
