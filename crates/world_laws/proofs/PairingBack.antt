@@ -75,13 +75,13 @@ replication_greeted journal w r p view phase prefix ok u g i =
     is_accepted : w.accepted ≡ true
     is_accepted = grind arith
 
--- no edit of r was outstanding
+-- no edit of r was in flight
 replication_other : (journal : List Entry) (w : Channels) (r : Text) (o : ServerOut) (view : View) (phase : Phase) (prefix : ℕ) → w.upper ≡ Opened o → transfer_out r o ≡ None → IsInvariant (replication journal w r view phase prefix) → IsInvariant (replication journal (idle_channels w) r view phase prefix)
 replication_other journal w r o view phase prefix u n i =
     let t : in_flight_by journal w r w.upper ≡ Nothing = rw (u, n) refl in
     subst (λ (x : InFlight). IsInvariant (replication_of (map kind (entries r journal)) x view (ask_of w r) w.live (incoming_in r w.heard) phase prefix)) t i
 
--- the edit of r that was outstanding
+-- the edit of r that was in flight
 abbrev view_back : Bool → Transfer → View
 view_back true x = after_success x
 view_back false x = Out

@@ -1,4 +1,4 @@
--- A pairing stays sound while the journal grows, and takes the new entry.
+-- A pairing keeps its invariant while the journal grows, and takes the new entry.
 use Rattle.std.proofs.Common.{◌≡◌, ℕ, ◌-◌, ◌<◌, ◌≤◌, List, [], ◌∷◌, ◌++◌, length, map, slice_get, Bool, true, false, Option, Some, None, arith, refl, if◌then◌else◌, ◌&&◌, sym, ap, ◌∙◌, subst, inl, inr}
 use Rattle.mos_edits.specs.Texts.{Text, same_id}
 use Rattle.mos_edits.specs.Orders.{Order, Edit}

@@ -1,4 +1,4 @@
--- The events `send d` and `back d`.
+-- The event `send d`.
 use Rattle.std.proofs.Common.{◌≡◌, ℕ, ◌<◌, ◌⊎◌, List, map, Bool, true, false, Option, Some, None, arith, refl, if◌then◌else◌, not, ◌&&◌, sym, subst}
 use Rattle.std.proofs.lemmas.Bool.Decides.{nat_tests}
 use Rattle.mos_edits.specs.Texts.{Text, same_id, set_number}

@@ -1,4 +1,4 @@
--- The events `cut d`, `leave d`, `open d`, `accept d c`, `send d`, `back d`.
+-- The events `cut d`, `leave d`, `open d`, `accept d c`.
 use Rattle.std.proofs.Common.{◌≡◌, ℕ, ◌+◌, List, [], ◌∷◌, map, Bool, true, false, Option, Some, None, arith, refl, if◌then◌else◌, sym, subst}
 use Rattle.std.proofs.lemmas.Bool.Decides.{nat_tests}
 use Rattle.mos_edits.specs.Texts.{Text, set_number}

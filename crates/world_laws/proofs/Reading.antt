@@ -131,7 +131,7 @@ held_entry journal ok r k b InStep IsNotReady e prefix decks held wanted ap h m 
 pub grows_entry : (phase : Phase) (kd : Kind) (prefix k : ℕ) (t : Status) → prefix ≤ k → prefix ≤ applied_step kd (is_in phase) prefix k t
 grows_entry phase kd prefix k t h = grind arith
 
--- what is answered in step (point 5), and what is held at a READY (point 4)
+-- what is answered in step
 pub status_entry : (journal : List Entry) (r : Text) (k : ℕ) (kd : Kind) (prefix : ℕ) (decks : Decks) (held : Option Order) (wanted : Bool) (ap : Applied (Option Order))
     → ((kd ≡ IsWhole → ⊥) → k ≡ prefix) → (k ≡ prefix → (o : Option Order) × (ap ≡ Done o))
     → (read_by InStep kd decks held wanted (edit_at journal r k) ap).status ≡ in_step_status kd decks

@@ -1,5 +1,6 @@
--- The replication of one device and one order: what the world is, seen through them. Numbers of connections,
--- other orders and other devices are gone.
+-- The replication of one order at one device: what the world is, seen through them. Numbers of connections, other orders and
+-- other devices are gone. The invariant says how the length of the device's applied prefix stands to the server's view, to
+-- what is in flight and to what the device has asked for.
 use Rattle.std.specs.Prelude.{◌≡◌, ℕ, ◌+◌, ◌-◌, ◌<◌, ◌≤◌, ◌⊎◌, List, length, slice_get, Bool, true, false, Option, Some, None}
 use Rattle.mos_edits.specs.Entries.{Kind}
 use Rattle.mos_edits.specs.Entries.Kind.{IsWhole, IsReady}
@@ -13,7 +14,10 @@ pub data Transfer : Type 0 where
   TransferEntry : (k : ℕ) → Transfer
   TransferAgain : (m : ℕ) → Transfer
 
--- the server's upper connection and what the device can still read
+-- What is in flight to the device. NotConnected: the server's connection isn't open; it was accepted or not, and an edit on
+-- a former one may still be readable. Nothing: open, with no edit of the order in flight. Unread: the edit waits at the device.
+-- Acknowledged: an answer is on its way that the server will take for success. Lost: it is refused, lost, or unread where the
+-- device reads no more.
 pub data InFlight : Type 0 where
   NotConnected : (accepted : Bool) (readable : Option Transfer) → InFlight
   Nothing : InFlight
@@ -21,19 +25,22 @@ pub data InFlight : Type 0 where
   Acknowledged : (item : Transfer) → InFlight
   Lost : (item : Transfer) → InFlight
 
+-- the device's request of the order: not made, on its way, lost or refused, answered by a list of `m` entries
 pub data Request : Type 0 where
   NotRequested : Request
   RequestSent : Request
   RequestLost : Request
   AnsweredWith : (m : ℕ) → Request
 
--- what the server hears next on its link
+-- what the server hears next on the connection that the device opened
 pub data Incoming : Type 0 where
   NoneComes : Incoming
   AskComes : Incoming
   BeatComes : Incoming
   OtherComes : Incoming
 
+-- `kinds`: of the order's entries. `view`: the server's. `ask`, `phase`, `prefix`: the device's request, phase and applied
+-- prefix. `live`: the server hears on the connection that the device has. `incoming`: what it hears next.
 pub record Replication : Type 0 where
   pub kinds : List Kind
   pub in_flight : InFlight
@@ -65,7 +72,7 @@ ReadableOk l (Some (TransferEntry k)) =
 ReadableOk l (Some (TransferAgain m)) =
     ReadyBefore l.kinds m × (l.prefix ≤ m) × (l.phase ≡ InStep → m ≡ l.prefix)
 
--- the view of an order with an edit outstanding
+-- the view of an order with an edit in flight
 abbrev pub Fits : List Kind → View → Transfer → Type 0
 Fits kinds view (TransferEntry k) = (k < length kinds) × ((view ≡ In k false) ⊎ (view ≡ From k))
 Fits kinds view (TransferAgain m) = view ≡ In m true
@@ -80,7 +87,7 @@ InFlightOk l (Acknowledged (TransferEntry k)) =
 InFlightOk l (Acknowledged (TransferAgain m)) = Fits l.kinds l.view (TransferAgain m)
 InFlightOk l (Lost i) = Fits l.kinds l.view i
 
--- no entry of the order is outstanding (a READY sent again may be)
+-- no entry of the order is in flight; a READY sent again may be
 abbrev pub NoEntry : InFlight → Type 0
 NoEntry (NotConnected accepted r) = Unit {0}
 NoEntry Nothing = Unit {0}

@@ -1,4 +1,4 @@
--- Words for worked runs: names and texts as code points, stories of a script, and a session that is opened.
+-- Words for worked runs: names and texts, the stories of a script, and a session that is opened.
 use Rattle.std.proofs.Common.{◌≡◌, ℕ, List, [], ◌∷◌, Option, None, refl}
 use Rattle.std.specs.Prelude.{codes}
 use Rattle.mos_edits.specs.Texts.{Text, same_id}

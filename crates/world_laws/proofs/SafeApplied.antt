@@ -1,4 +1,4 @@
--- The prefix do not fall, and what `safe` says of `got d`.
+-- The applied prefixes do not get shorter.
 use Rattle.std.proofs.Common.{◌≡◌, ℕ, ◌≤◌, List, Bool, true, false, Option, Some, None, arith, refl, if◌then◌else◌, sym, ap, ◌∙◌, subst}
 use Rattle.mos_edits.specs.Texts.{Text, same_id}
 use Rattle.mos_edits.specs.Entries.{Entry}

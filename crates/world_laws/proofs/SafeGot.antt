@@ -1,4 +1,4 @@
--- What `safe` says of `got d`.
+-- What is safe of the event `got d`.
 use Rattle.std.proofs.Common.{◌≡◌, ℕ, ◌≤◌, List, [], ◌∷◌, Bool, true, false, Option, Some, None, arith, refl, if◌then◌else◌, sym, ap, ◌∙◌, subst, inl, inr}
 use Rattle.mos_edits.specs.Texts.{Text, same_id}
 use Rattle.mos_edits.specs.Orders.{Order}
@@ -69,7 +69,7 @@ gets_grow_by journal count l (Some c) r i u = go (front (l.connections c).to_dev
 pub gets_grow : (journal : List Entry) (count : ℕ) (l : Pairing) (r : Text) → PairingInvariant journal count l → l.applied r ≤ (gets_if l l.gate.link).0.applied r
 gets_grow journal count l r i = gets_grow_by journal count l l.gate.link r i refl
 
--- point 6
+-- the device is in step at the list
 abbrev GotFacts : Pairing × Effect → Text → ℕ → Type 0
 GotFacts x r m = (x.0.gate.phase r ≡ InStep) × (x.0.applied r ≡ m)
 

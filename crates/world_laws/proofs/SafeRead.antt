@@ -1,4 +1,4 @@
--- What `safe` says of `read d`.
+-- What is safe of the event `read d`.
 use Rattle.std.proofs.Common.{◌⊎◌, inl, inr, ◌≡◌, ℕ, ◌+◌, ◌-◌, ◌<◌, ◌≤◌, List, Bool, Option, Some, None, arith, refl, sym, ap, ◌∙◌, subst}
 use Rattle.mos_edits.specs.Texts.{Text}
 use Rattle.mos_edits.specs.Orders.{Order, Edit, apply}
@@ -50,7 +50,7 @@ packet_with e t = record { message = RoEdit e; tag = t }
 abbrev pub read_by_packet : Pairing → ℕ → Entry → Tag → Pairing × Effect
 read_by_packet l v e t = reads_from l v (l.connections v) (packet_with e t) (gate_read l.gate l.decks (RoEdit e))
 
--- point 4, for an entry
+-- the order released, by an entry
 released_here : (journal : List Entry) (count : ℕ) (l : Pairing) (v : ℕ) (r : Text) (k : ℕ) → JournalOk journal → PairingInvariant journal count l → l.gate.upper ≡ Some v → front (l.connections v).to_device ≡ Some (entry_packet journal r k) → k < entry_count journal r → kind (edit_at journal r k) ≡ IsReady
     → (entry_result journal l r k).status ≡ Okay → (entry_result journal l r k).held ≡ order_at journal r k
 released_here journal count l v r k lok i u f b kd fine =
@@ -66,7 +66,7 @@ released_here journal count l v r k lok i u f b kd fine =
         go : (p : Phase) (x : Kind) (t : Status) → p ≡ InStep → x ≡ IsReady → t ≡ Okay → applied_step x (is_in p) (l.applied r) k t ≡ k + 1
         go p x t a b c = grind arith
 
--- point 4, for a READY sent again
+-- the order released, by a READY sent again
 released_again_here : (journal : List Entry) (count : ℕ) (l : Pairing) (v : ℕ) (r : Text) (m : ℕ) → JournalOk journal → PairingInvariant journal count l → l.gate.upper ≡ Some v → front (l.connections v).to_device ≡ Some (again_packet journal r m)
     → (again_result journal l r m).status ≡ Okay → (again_result journal l r m).held ≡ order_at journal r (m - 1)
 released_again_here journal count l v r m lok i u f fine =
@@ -143,7 +143,7 @@ facts_here journal count l v e (OfAgain r m) lok i u f t =
       λ ph. ap (λ (x : Status). Wrote (untagged (RoAck r x))) (again_status_here journal count l v r m lok i u g ph),
     ))
 
--- points 4 and 5 at `read d`
+-- what holds of the event
 facts_read : (journal : List Entry) (count : ℕ) (l : Pairing) (e : Entry) (t : Tag) (u : Option ℕ) → JournalOk journal → PairingInvariant journal count l → l.gate.upper ≡ u → upper_front l u ≡ Some (packet_with e t) → ReadFacts journal l (reads_if l l.gate.upper) e t
 facts_read journal count l e t None lok i u f = absurd (cc)
 facts_read journal count l e t (Some v) lok i u f =

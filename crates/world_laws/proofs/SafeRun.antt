@@ -1,4 +1,4 @@
--- The invariant gives `safe`, and so does each run.
+-- The invariant makes each world consistent and each event safe; so every run is safe.
 use Rattle.std.proofs.Common.{◌≡◌, ℕ, ◌+◌, ◌≤◌, List, [], ◌∷◌, ◌++◌, Bool, true, false, Option, Some, None, arith, refl, if◌then◌else◌, ◌&&◌, nat_le, sym, ap, subst, inl, inr, eq-eqb}
 use Rattle.std.proofs.lemmas.Bool.Decides.{nat_tests}
 use Rattle.mos_edits.specs.Texts.{Text, same_id, set_number}
@@ -124,6 +124,6 @@ pub safe_from : (w : World) (es : List WorldEvent) → WorldInvariant w → IsSa
 safe_from w [] i = consistent w i
 safe_from w (e ∷ es) i = (consistent w i, step_consistent w e i, safe_from (world_step w e).0 es (world_keeps w e i))
 
--- the headline
+-- every run
 pub safe_run : (devices : ℕ) (events : List WorldEvent) → IsSafe (opening devices) events
 safe_run devices events = safe_from (opening devices) events (opening_inv devices)
