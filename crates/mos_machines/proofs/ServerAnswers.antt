@@ -16,6 +16,7 @@ use Rattle.mos_machines.specs.Steps.StepAnswer.{Sent, Say}
 use Rattle.mos_machines.specs.Views.{entry_after, entry_by, next_entry}
 use Rattle.mos_machines.proofs.Least.{due_ok}
 use Rattle.mos_machines.proofs.Views.{IsDue, due-next, entry-due}
+use Rattle.mos_fields.specs.declared.time.MosTime.{MosTime}
 
 -- a request of an order
 pub request-heard : (fails : Bool) (s : ServerState) (d c : ℕ) (r : Text) → is_lower s d c ≡ true → is_busy r (s.peers d).upper ≡ false
@@ -33,7 +34,7 @@ Raises journal s x r k = (p : Packet) → x.1 ≡ Some p → p.tag ≡ OfEntry r
 tag-entry : (r q : Text) (k j : ℕ) → OfEntry q j ≡ OfEntry r k → (q ≡ r) × (j ≡ k)
 tag-entry r q k j h = (cc, cc)
 
-sent-raises : (journal : List Entry) (now : Text) (s : PeerState) (c : ℕ) (o : ServerOut) (r : Text) (k : ℕ) → s.upper ≡ Open c Idle → IsDue journal s.views o → Raises journal s (sent journal now s c o) r k
+sent-raises : (journal : List Entry) (now : MosTime) (s : PeerState) (c : ℕ) (o : ServerOut) (r : Text) (k : ℕ) → s.upper ≡ Open c Idle → IsDue journal s.views o → Raises journal s (sent journal now s c o) r k
 sent-raises journal now s c Idle r k e d p h t = absurd (cc)
 sent-raises journal now s c SendsBeat r k e d p h t = absurd (let i : Untagged ≡ OfEntry r k = ap (λ (x : Option Packet). tag_in x) h ∙ t in cc)
   where
@@ -56,7 +57,7 @@ sent-raises journal now s c (SendsEdit q j) r k e d p h t =
     tag_in None = Untagged
     tag_in (Some x) = x.tag
 
-next-raises : (journal : List Entry) (now : Text) (s : PeerState) (u : Upper) (r : Text) (k : ℕ) → s.upper ≡ u → Raises journal s (next_by journal now s u) r k
+next-raises : (journal : List Entry) (now : MosTime) (s : PeerState) (u : Upper) (r : Text) (k : ℕ) → s.upper ≡ u → Raises journal s (next_by journal now s u) r k
 next-raises journal now s Down r k e p h t = absurd (cc)
 next-raises journal now s (Greeting c) r k e p h t = absurd (cc)
 next-raises journal now s (Open c Idle) r k e p h t =
@@ -66,7 +67,7 @@ next-raises journal now s (Open c (SendsEdit q j)) r k e p h t = absurd (cc)
 next-raises journal now s (Open c (SendsAgain q m)) r k e p h t = absurd (cc)
 
 -- the same of the server
-pub entry-sent : (fails : Bool) (s : ServerState) (d c : ℕ) (now : Text) (p : Packet) (r : Text) (k : ℕ) → (server_step fails s (NextSend d c now)).0 ≡ Sent p → p.tag ≡ OfEntry r k
+pub entry-sent : (fails : Bool) (s : ServerState) (d c : ℕ) (now : MosTime) (p : Packet) (r : Text) (k : ℕ) → (server_step fails s (NextSend d c now)).0 ≡ Sent p → p.tag ≡ OfEntry r k
     → (next_entry s.journal (s.peers d) r ≡ k) × (next_entry s.journal ((server_step fails s (NextSend d c now)).1.peers d) r ≡ k + 1)
 entry-sent fails s d c now p r k h t = go (is_upper s d c) (peer_next s.journal now (s.peers d)) refl h
   where

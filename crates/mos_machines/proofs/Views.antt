@@ -13,6 +13,7 @@ use Rattle.mos_machines.specs.Server.Upper.{Down, Greeting, Open}
 use Rattle.mos_machines.specs.Server.View.{Out, Listed, In, From}
 use Rattle.mos_machines.proofs.Least.{DueOk, due_ok}
 use Rattle.mos_machines.specs.Views.{IsViewWithin, IsOutWithin, IsPeerWithin, entry_after, entry_by, next_entry}
+use Rattle.mos_fields.specs.declared.time.MosTime.{MosTime}
 
 -- a step keeps the views within the journal, and lowers no order's next entry
 pub record Keeps (journal : List Entry) (s t : PeerState) : Type 0 where
@@ -135,7 +136,7 @@ pub entry-due : (count k : ℕ) (v : View) → (v ≡ In k false) ⊎ (v ≡ Fro
 entry-due count k v (inl h) = rw h refl
 entry-due count k v (inr h) = rw h refl
 
-keeps-sent : (journal : List Entry) (now : Text) (s : PeerState) (c : ℕ) (o : ServerOut) → s.upper ≡ Open c Idle → IsPeerWithin journal s → IsDue journal s.views o → Keeps journal s (sent journal now s c o).0
+keeps-sent : (journal : List Entry) (now : MosTime) (s : PeerState) (c : ℕ) (o : ServerOut) → s.upper ≡ Open c Idle → IsPeerWithin journal s → IsDue journal s.views o → Keeps journal s (sent journal now s c o).0
 keeps-sent journal now s c Idle e i d = record { within = i; rises = λ r. omega arith }
 keeps-sent journal now s c SendsBeat e i d = record { within = record { views = i.views; out = tt }; rises = λ r. rw e (omega arith) }
 keeps-sent journal now s c (SendsAgain q m) e i d = record { within = record { views = i.views; out = d }; rises = λ r. rw e (omega arith) }
@@ -145,7 +146,7 @@ keeps-sent journal now s c (SendsEdit q k) e i d = record { within = record { vi
     rises r false y = omega arith
     rises r true y = let n = entry-due (entry_count journal q) k (s.views q) d.1 in rw (same-true r q y) (omega (arith, n))
 
-keeps-next-by : (journal : List Entry) (now : Text) (s : PeerState) (u : Upper) → s.upper ≡ u → IsPeerWithin journal s → Keeps journal s (next_by journal now s u).0
+keeps-next-by : (journal : List Entry) (now : MosTime) (s : PeerState) (u : Upper) → s.upper ≡ u → IsPeerWithin journal s → Keeps journal s (next_by journal now s u).0
 keeps-next-by journal now s Down e i = record { within = i; rises = λ r. omega arith }
 keeps-next-by journal now s (Greeting c) e i = record { within = i; rises = λ r. omega arith }
 keeps-next-by journal now s (Open c Idle) e i = keeps-sent journal now s c (beat_or_due s.note (first_due s.views (λ r. 0) journal)) e i (due-next journal s.views s.note (first_due s.views (λ r. 0) journal) (due_ok s.views (λ r. 0) journal))
@@ -153,7 +154,7 @@ keeps-next-by journal now s (Open c SendsBeat) e i = record { within = i; rises 
 keeps-next-by journal now s (Open c (SendsEdit r k)) e i = record { within = i; rises = λ r. omega arith }
 keeps-next-by journal now s (Open c (SendsAgain r m)) e i = record { within = i; rises = λ r. omega arith }
 
-pub keeps-next : (journal : List Entry) (now : Text) (s : PeerState) → IsPeerWithin journal s → Keeps journal s (peer_next journal now s).0
+pub keeps-next : (journal : List Entry) (now : MosTime) (s : PeerState) → IsPeerWithin journal s → Keeps journal s (peer_next journal now s).0
 keeps-next journal now s i = keeps-next-by journal now s s.upper refl i
 
 -- device_accepted, device_dropped

@@ -10,6 +10,7 @@ use Rattle.mos_machines.specs.Messages.{Status, Message, not_supported, Step, is
 use Rattle.mos_machines.specs.Messages.Status.{Okay, NoDeck, NotInStep, Faulty, NoRunningOrder}
 use Rattle.mos_machines.specs.Messages.Message.{Heartbeat, RoEdit, RoAck, RoReq, RoReqAll, RoList, RoListAll}
 use Rattle.mos_machines.specs.Messages.Step.{Taken, Unasked}
+use Rattle.mos_fields.specs.declared.time.MosTime.{MosTime}
 
 -- The request that is in flight to the server, on the connection that the device opened.
 pub data GateOut : Type 0 where
@@ -196,18 +197,18 @@ abbrev pub first_wanted : (Text → Bool) → List Text → Option Text
 first_wanted wanted [] = None
 first_wanted wanted (r ∷ rs) = if wanted r then Some r else first_wanted wanted rs
 
-abbrev pub asked_next : Text → GateState → Confirmation → Bool → Option Text → Bool → GateState × Option Message
+abbrev pub asked_next : MosTime → GateState → Confirmation → Bool → Option Text → Bool → GateState × Option Message
 asked_next now g (Due r) all want note = (record g { confirm = Unanswered r; out = AsksBeat }, Some (Heartbeat now))
 asked_next now g c true want note = (record g { want_all = false; out = AsksAll }, Some RoReqAll)
 asked_next now g c false (Some r) note = (record g { out = AsksFor r; phase = set_order g.phase r Asked; wanted = set_order g.wanted r false }, Some (RoReq r))
 asked_next now g c false None true = (record g { note = false; out = AsksBeat }, Some (Heartbeat now))
 asked_next now g c false None false = (g, None)
 
-abbrev pub next_if : Text → GateState → Option ℕ → GateOut → GateState × Option Message
+abbrev pub next_if : MosTime → GateState → Option ℕ → GateOut → GateState × Option Message
 next_if now g (Some c) NotAsking = asked_next now g g.confirm g.want_all (first_wanted g.wanted g.known) g.note
 next_if now g c a = (g, None)
 
-abbrev pub gate_next : Text → GateState → GateState × Option Message
+abbrev pub gate_next : MosTime → GateState → GateState × Option Message
 gate_next now g = next_if now g g.link g.out
 
 -- read_answer

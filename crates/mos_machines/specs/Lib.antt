@@ -3,3 +3,4 @@ pub mod Server
 pub mod Device
 pub mod Steps
 pub mod Views
+pub mod Values

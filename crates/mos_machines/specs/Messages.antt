@@ -5,6 +5,7 @@ use Rattle.mos_edits.specs.KeyedLists.{ActFault}
 use Rattle.mos_edits.specs.KeyedLists.ActFault.{Missing, AlreadyThere}
 use Rattle.mos_edits.specs.Orders.{Order, HeaderPatch}
 use Rattle.mos_edits.specs.Entries.{Entry}
+use Rattle.mos_fields.specs.declared.time.MosTime.{MosTime}
 
 -- The status of a roAck. `OtherStatus` is any text that no end writes; a reader gives it also for the texts that it
 -- has no use for.
@@ -51,10 +52,10 @@ read_status text =
     then Okay
     else (if same_id text (status_text NoDeck) then NoDeck else (if same_id text (status_text NoRunningOrder) then NoRunningOrder else OtherStatus text))
 
--- A message. A heartbeat has the text of its time. `RoEdit` is any of the six kinds of edit. `OtherMessage` is any
+-- A message. `RoEdit` is any of the six kinds of edit. `OtherMessage` is any
 -- message that the machines don't act on, with its roID, or an empty one where it has none.
 pub data Message : Type 0 where
-  Heartbeat : (time : Text) → Message
+  Heartbeat : (time : MosTime) → Message
   RoEdit : (entry : Entry) → Message
   RoAck : (ro : Text) (status : Status) → Message
   RoReq : (ro : Text) → Message

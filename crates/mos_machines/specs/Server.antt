@@ -9,6 +9,7 @@ use Rattle.mos_machines.specs.Messages.Status.{Okay, NoDeck, NotNow, NoRunningOr
 use Rattle.mos_machines.specs.Messages.Message.{Heartbeat, RoEdit, RoAck, RoReq, RoReqAll, RoList, RoListAll, RoElementStat}
 use Rattle.mos_machines.specs.Messages.Tag.{OfEntry, OfAgain, OfList}
 use Rattle.mos_machines.specs.Messages.Step.{Taken, Unasked}
+use Rattle.mos_fields.specs.declared.time.MosTime.{MosTime}
 
 -- What is in flight to the device: entry `k` of an order, the READY before its entry `m` sent again, a heartbeat.
 pub data ServerOut : Type 0 where
@@ -138,17 +139,17 @@ abbrev pub beat_or_due : Bool → ServerOut → ServerOut
 beat_or_due note Idle = if note then SendsBeat else Idle
 beat_or_due note o = o
 
-abbrev pub sent : List Entry → Text → PeerState → ℕ → ServerOut → PeerState × Option Packet
+abbrev pub sent : List Entry → MosTime → PeerState → ℕ → ServerOut → PeerState × Option Packet
 sent journal now s c Idle = (s, None)
 sent journal now s c SendsBeat = (record { upper = Open c SendsBeat; note = false; link = s.link; views = s.views }, Some (untagged (Heartbeat now)))
 sent journal now s c (SendsEdit r k) = (record { upper = Open c (SendsEdit r k); note = s.note; link = s.link; views = s.views }, Some (entry_packet journal r k))
 sent journal now s c (SendsAgain r m) = (record { upper = Open c (SendsAgain r m); note = s.note; link = s.link; views = s.views }, Some (again_packet journal r m))
 
-abbrev pub next_by : List Entry → Text → PeerState → Upper → PeerState × Option Packet
+abbrev pub next_by : List Entry → MosTime → PeerState → Upper → PeerState × Option Packet
 next_by journal now s (Open c Idle) = sent journal now s c (beat_or_due s.note (first_due s.views (λ r. 0) journal))
 next_by journal now s u = (s, None)
 
-abbrev pub peer_next : List Entry → Text → PeerState → PeerState × Option Packet
+abbrev pub peer_next : List Entry → MosTime → PeerState → PeerState × Option Packet
 peer_next journal now s = next_by journal now s s.upper
 
 -- beat

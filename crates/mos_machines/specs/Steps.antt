@@ -11,6 +11,7 @@ use Rattle.mos_machines.specs.Messages.Step.{Taken}
 use Rattle.mos_machines.specs.Server.{PeerState, no_peer, upper_link, peer_opened, peer_cut, peer_answered, peer_next, peer_beat, peer_linked, peer_hear, peer_given, Verdict, verdict}
 use Rattle.mos_machines.specs.Server.Verdict.{Takes, Fails, Refuses}
 use Rattle.mos_machines.specs.Device.{GateState, Phase, no_gate, Decks, gate_accepted, gate_left, gate_read, gate_dropped, gate_opened, gate_next, gate_got, gate_want, gate_beat}
+use Rattle.mos_fields.specs.declared.time.MosTime.{MosTime}
 
 -- `faults` is the keeper's fault count; `stopped` says that an append of this run failed.
 pub record ServerState : Type 0 where
@@ -31,7 +32,7 @@ pub data ServerEvent : Type 0 where
   Beat : (d : ℕ) → ServerEvent
   DeviceAccepted : (d link : ℕ) → ServerEvent
   DeviceDropped : (d link : ℕ) → ServerEvent
-  NextSend : (d link : ℕ) (now : Text) → ServerEvent
+  NextSend : (d link : ℕ) (now : MosTime) → ServerEvent
   Hear : (d link : ℕ) (message : Message) → ServerEvent
 
 pub data StepAnswer : Type 0 where
@@ -101,7 +102,7 @@ pub data DeviceEvent : Type 0 where
   ReadUpper : (link : ℕ) (message : Message) (decks : Decks) → DeviceEvent
   DeviceOpened : (link : ℕ) → DeviceEvent
   GateDropped : (link : ℕ) → DeviceEvent
-  NextAsk : (link : ℕ) (now : Text) → DeviceEvent
+  NextAsk : (link : ℕ) (now : MosTime) → DeviceEvent
   ReadAnswer : (link : ℕ) (message : Message) → DeviceEvent
   Want : (ro : Text) → DeviceEvent
   GateBeat : DeviceEvent

@@ -1,6 +1,7 @@
 //! Laws of the device's steps.
 
 ghost use Rattle.std.specs.Prelude.{◌≡◌, ℕ, Option, true, false};
+ghost use Rattle.mos_fields.specs.declared.time.MosTime.{MosTime};
 ghost use Rattle.mos_edits.specs.Texts.{Text};
 ghost use Rattle.mos_edits.specs.KeyedLists.{ActFault, Applied};
 ghost use Rattle.mos_edits.specs.Orders.{Order, apply};
@@ -28,6 +29,6 @@ pub fn stale_links_leave_the_device()
     ensures left { (g : GateState) (c : ℕ) → is_link g.upper c ≡ false → device_step g (DeviceEvent.UpperLeft c) ≡ (StepAnswer.Stale, g) }
     ensures read { (g : GateState) (c : ℕ) (m : Message) (decks : Decks) → is_link g.upper c ≡ false → device_step g (DeviceEvent.ReadUpper c m decks) ≡ (StepAnswer.Stale, g) }
     ensures dropped { (g : GateState) (c : ℕ) → is_link g.link c ≡ false → device_step g (DeviceEvent.GateDropped c) ≡ (StepAnswer.Stale, g) }
-    ensures next { (g : GateState) (c : ℕ) (now : Text) → is_link g.link c ≡ false → device_step g (DeviceEvent.NextAsk c now) ≡ (StepAnswer.Stale, g) }
+    ensures next { (g : GateState) (c : ℕ) (now : MosTime) → is_link g.link c ≡ false → device_step g (DeviceEvent.NextAsk c now) ≡ (StepAnswer.Stale, g) }
     ensures answered { (g : GateState) (c : ℕ) (m : Message) → is_link g.link c ≡ false → device_step g (DeviceEvent.ReadAnswer c m) ≡ (StepAnswer.Stale, g) }
 {}

@@ -1,6 +1,7 @@
 //! Laws of the server's steps.
 
 ghost use Rattle.std.specs.Prelude.{◌≡◌, ℕ, ◌+◌, ◌<◌, ◌≤◌, List, length, Bool, true, false};
+ghost use Rattle.mos_fields.specs.declared.time.MosTime.{MosTime};
 ghost use Rattle.mos_edits.specs.Texts.{Text};
 ghost use Rattle.mos_edits.specs.Entries.{Entry, entry_count, order_now};
 ghost use Rattle.mos_machines.specs.Messages.{Message, Status, Packet, Tag, untagged};
@@ -19,7 +20,7 @@ pub fn server_stays_within_its_journal()
 /// never falls, and a sent entry was the next and isn't from then on.
 pub fn no_entry_is_sent_twice()
     ensures never_falls { (fails : Bool) (s : ServerState) (e : ServerEvent) → IsServerWithin s → (d : ℕ) (r : Text) → next_entry s.journal (s.peers d) r ≤ next_entry (server_step fails s e).1.journal ((server_step fails s e).1.peers d) r }
-    ensures sent { (fails : Bool) (s : ServerState) (d c : ℕ) (now : Text) (p : Packet) (r : Text) (k : ℕ) → (server_step fails s (ServerEvent.NextSend d c now)).0 ≡ StepAnswer.Sent p → p.tag ≡ Tag.OfEntry r k
+    ensures sent { (fails : Bool) (s : ServerState) (d c : ℕ) (now : MosTime) (p : Packet) (r : Text) (k : ℕ) → (server_step fails s (ServerEvent.NextSend d c now)).0 ≡ StepAnswer.Sent p → p.tag ≡ Tag.OfEntry r k
         → (next_entry s.journal (s.peers d) r ≡ k) × (next_entry s.journal ((server_step fails s (ServerEvent.NextSend d c now)).1.peers d) r ≡ k + 1) }
 {}
 
@@ -42,7 +43,7 @@ pub fn next_send_takes_the_first_due()
 pub fn stale_links_leave_the_server()
     ensures cut { (fails : Bool) (s : ServerState) (d c : ℕ) → is_upper s d c ≡ false → server_step fails s (ServerEvent.UpperCut d c) ≡ (StepAnswer.Stale, s) }
     ensures answer { (fails : Bool) (s : ServerState) (d c : ℕ) (m : Message) → is_upper s d c ≡ false → server_step fails s (ServerEvent.UpperAnswer d c m) ≡ (StepAnswer.Stale, s) }
-    ensures next { (fails : Bool) (s : ServerState) (d c : ℕ) (now : Text) → is_upper s d c ≡ false → server_step fails s (ServerEvent.NextSend d c now) ≡ (StepAnswer.Stale, s) }
+    ensures next { (fails : Bool) (s : ServerState) (d c : ℕ) (now : MosTime) → is_upper s d c ≡ false → server_step fails s (ServerEvent.NextSend d c now) ≡ (StepAnswer.Stale, s) }
     ensures dropped { (fails : Bool) (s : ServerState) (d c : ℕ) → is_lower s d c ≡ false → server_step fails s (ServerEvent.DeviceDropped d c) ≡ (StepAnswer.Stale, s) }
     ensures heard { (fails : Bool) (s : ServerState) (d c : ℕ) (m : Message) → is_lower s d c ≡ false → server_step fails s (ServerEvent.Hear d c m) ≡ (StepAnswer.Stale, s) }
 {}

@@ -29,6 +29,7 @@ use Rattle.mos_machines.specs.Server.Upper.{Down, Greeting, Open}
 use Rattle.mos_machines.specs.Server.ServerOut.{Idle, SendsEdit, SendsAgain, SendsBeat}
 use Rattle.mos_edits.proofs.Identifiers.{same-true, same-self, same-false}
 use Rattle.mos_edits.proofs.Journals.{kind_at, kinds_entry_count}
+use Rattle.mos_fields.specs.declared.time.MosTime.{MosTime}
 
 abbrev pub FitsAnswer : List Entry → Message → Packet → Type 0
 FitsAnswer journal (Heartbeat time) a = a ≡ untagged (Heartbeat time)
@@ -89,7 +90,7 @@ ready_replication journal w r (Listed n) phase prefix i m e x =
     let bound : n ≤ length (map kind (entries r journal)) = let v = i.view in v.2 in
     subst (λ (z : ℕ). ReadyBefore (map kind (entries r journal)) z) n_is (ready_at journal r n (omega (arith, bound, kinds_entry_count journal r)) x)
 
-replication_hear_beat : (journal : List Entry) (w : Channels) (r : Text) (lost : Bool) (p a : Packet) (time : Text) (view : View) (phase : Phase) (prefix : ℕ) → ChannelsOk journal w → w.heard ≡ p ∷ [] → p.message ≡ Heartbeat time → IsInvariant (replication journal w r view phase prefix)
+replication_hear_beat : (journal : List Entry) (w : Channels) (r : Text) (lost : Bool) (p a : Packet) (time : MosTime) (view : View) (phase : Phase) (prefix : ℕ) → ChannelsOk journal w → w.heard ≡ p ∷ [] → p.message ≡ Heartbeat time → IsInvariant (replication journal w r view phase prefix)
     → IsInvariant (replication journal (hear_channels w lost a) r (settled journal true r view) phase prefix)
 replication_hear_beat journal w r lost p a time view phase prefix ok h m i =
     let c : incoming_in r w.heard ≡ BeatComes = rw (h, m) refl in

@@ -1,5 +1,5 @@
 -- The world: one server, its devices, and the connections between them, with what each event does.
-use Rattle.std.specs.Prelude.{codes, ℕ, ◌+◌, List, [], ◌∷◌, ◌++◌, take, Bool, true, false, Option, Some, None, if◌then◌else◌, nat_le, ◌&&◌, ◌||◌}
+use Rattle.std.specs.Prelude.{ℕ, ◌+◌, List, [], ◌∷◌, ◌++◌, take, Bool, true, false, Option, Some, None, if◌then◌else◌, nat_le, ◌&&◌, ◌||◌}
 use Rattle.mos_edits.specs.Texts.{Text, set_order, set_number}
 use Rattle.mos_edits.specs.Entries.{Kind, kind, Entry, entry_count, acceptance}
 use Rattle.mos_machines.specs.Messages.{Status, Message, Tag, Packet, untagged, Step}
@@ -11,10 +11,25 @@ use Rattle.mos_machines.specs.Server.{Upper, PeerState, no_peer, upper_link, pee
 use Rattle.mos_machines.specs.Server.Upper.{Down}
 use Rattle.mos_machines.specs.Server.Verdict.{Takes, Fails, Refuses}
 use Rattle.mos_machines.specs.Device.{GateState, no_gate, Decks, gate_accepted, gate_left, gate_read, gate_dropped, gate_opened, gate_next, gate_got, gate_want, gate_beat, is_in}
+use Rattle.mos_fields.specs.declared.time.MosTime.{MosTime}
+use Rattle.mos_fields.specs.declared.time.Zone.TheVariants as zones
 
--- the time of every heartbeat that an end sends of itself
-unfoldable pub own_time : Text
-own_time = codes "2000-01-01T00:00:00"
+-- the time of every heartbeat that an end sends of itself: `2000-01-01T00:00:00`
+unfoldable pub own_time : MosTime
+own_time = record {
+  year = 2000;
+  month = 1;
+  day = 1;
+  hour = 0;
+  minute = 0;
+  second = 0;
+  millis = None;
+  zone = zones.None;
+  day_exists = λ i. true;
+  time_exists = λ i. true;
+  millis_exist = λ i. true;
+  zone_exists = λ i. true;
+}
 
 abbrev pub own_beat : Packet
 own_beat = untagged (Heartbeat own_time)
