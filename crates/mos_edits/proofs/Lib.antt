@@ -4,4 +4,5 @@ pub mod Distinct
 pub mod Swaps
 pub mod KeepsDistinct
 pub mod Journals
+pub mod Names
 mod Examples

@@ -3,10 +3,11 @@ use Rattle.std.specs.Prelude.{◌≡◌, ℕ, List, [], ◌∷◌, ◌++◌, len
 use Rattle.mos_edits.specs.Texts.{Text, same_id}
 use Rattle.mos_edits.specs.KeyedLists.{ActFault, Applied}
 use Rattle.mos_edits.specs.KeyedLists.Applied.{Done, Fault}
-use Rattle.mos_edits.specs.Orders.{Order, Header, HeaderPatch, Edit, apply}
+use Rattle.mos_edits.specs.Orders.{Order, edit_ro, Header, HeaderPatch, Edit, apply}
 use Rattle.mos_values.specs.declared.edit.Edit.TheVariants.{Create, Replace, Delete, Metadata, Act, Air}
 use Rattle.mos_fields.specs.declared.air.Air.TheVariants.{Ready, NotReady}
 use Rattle.mos_values.specs.Headers.{patch_of}
+use Rattle.mos_edits.specs.Distinct.{Each}
 use Rattle.mos_edits.specs.Sizes.{list_units, list_all_units, list_limit, list_all_limit, at_most_64_bits}
 
 -- What the machines tell apart: an edit that says what the whole order is, one that changes the order that is
@@ -36,6 +37,14 @@ body_of e = None
 pub record Entry : Type 0 where
   pub ro : Text
   pub edit : Edit
+
+-- an edit with the roID that it names
+abbrev pub entry_of : Edit → Entry
+entry_of e = record { ro = edit_ro e; edit = e }
+
+-- an entry has the roID of its edit
+abbrev pub IsEntry : Entry → Type 0
+IsEntry e = e.ro ≡ edit_ro e.edit
 
 -- the edits of the entries of `r`, in their order; they are numbered from 0
 abbrev pub entries : Text → List Entry → List Edit
@@ -143,3 +152,11 @@ acceptance journal e = refusal (apply e.ro (order_now journal e.ro) e.edit) (ove
 abbrev pub IsAccepted : List Entry → List Entry → Type 0
 IsAccepted before [] = Unit {0}
 IsAccepted before (e ∷ es) = (acceptance before e ≡ None) × IsAccepted (before ++ e ∷ []) es
+
+abbrev pub AreEntries : List Entry → Type 0
+AreEntries journal = Each IsEntry journal
+
+-- an order that is there has that roID
+abbrev pub IsNamed : Text → Option Order → Type 0
+IsNamed r None = Unit {0}
+IsNamed r (Some o) = o.header.ro ≡ r

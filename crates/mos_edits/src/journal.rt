@@ -3,8 +3,8 @@
 ghost use Rattle.std.specs.Prelude.{◌≡◌, ℕ, ◌+◌, ◌<◌, List, [], ◌∷◌, ◌++◌, false, Option, Some, None};
 ghost use Rattle.mos_edits.specs.Texts.{Text, same_id};
 ghost use Rattle.mos_edits.specs.KeyedLists.{ActFault, Applied};
-ghost use Rattle.mos_edits.specs.Orders.{Order, apply};
-ghost use Rattle.mos_edits.specs.Entries.{Entry, Refusal, entry_count, edit_at, order_at, order_now, over_limit, acceptance, IsAccepted};
+ghost use Rattle.mos_edits.specs.Orders.{Order, edit_ro, apply};
+ghost use Rattle.mos_edits.specs.Entries.{Entry, Refusal, entry_count, edit_at, order_at, order_now, over_limit, acceptance, IsAccepted, AreEntries, IsNamed};
 
 /// An entry is refused for the fault that its edit has on the order that is there, else for the limit that the result
 /// would pass, and else it is accepted.
@@ -26,4 +26,10 @@ pub fn accepted_entries_apply()
 /// In a journal whose entries were all accepted, each entry of an order makes the order after it of the order before it.
 pub fn each_entry_applies_to_the_order_before_it()
     ensures { (journal : List Entry) → IsAccepted [] journal → (r : Text) (k : ℕ) → k < entry_count journal r → apply r (order_at journal r k) (edit_at journal r k) ≡ Applied.Done (order_at journal r (k + 1)) }
+{}
+
+/// An order that is there has the roID of its entries, where each entry has the roID of its edit.
+pub fn orders_have_the_roid_of_their_entries()
+    ensures orders { (journal : List Entry) (r : Text) (m : ℕ) → AreEntries journal → IsNamed r (order_at journal r m) }
+    ensures edits { (journal : List Entry) (r : Text) (k : ℕ) → AreEntries journal → k < entry_count journal r → edit_ro (edit_at journal r k) ≡ r }
 {}

@@ -4,3 +4,4 @@ pub mod Views
 pub mod Growing
 pub mod ServerAnswers
 pub mod DeviceAnswers
+pub mod Written

@@ -1,21 +1,14 @@
 -- The messages of the machines and the values of mos_values that carry them.
 use Rattle.std.specs.Prelude.{◌≡◌, [], Bool}
 use Rattle.mos_edits.specs.Texts.{Text}
-use Rattle.mos_edits.specs.Orders.{Edit, edit_ro}
-use Rattle.mos_edits.specs.Entries.{Entry}
+use Rattle.mos_edits.specs.Orders.{Edit}
+use Rattle.mos_edits.specs.Entries.{entry_of, IsEntry}
 use Rattle.mos_machines.specs.Messages.{Status, status_text, read_status, Message}
+use Rattle.mos_machines.specs.Messages.Status.{OtherStatus}
 use Rattle.mos_machines.specs.Messages.Message.{Heartbeat, RoEdit, RoAck, RoReq, RoReqAll, RoList, RoListAll, RoElementStat, OtherMessage}
 use Rattle.mos_values.specs.declared.message.Message as values
 use Rattle.mos_values.specs.declared.message.Message.TheVariants as carried
 use Rattle.mos_values.specs.declared.edit.Edit.TheVariants as edits
-
--- an edit with the roID that it names
-abbrev pub entry_of : Edit → Entry
-entry_of e = record { ro = edit_ro e; edit = e }
-
--- an entry names the order of its edit
-abbrev pub IsEntry : Entry → Type 0
-IsEntry e = e.ro ≡ edit_ro e.edit
 
 -- what a machine sees of a message
 abbrev pub seen : values.Message → Message
@@ -58,3 +51,22 @@ message_of (RoList ro order) = carried.RoList order
 message_of (RoListAll headers) = carried.RoListAll headers
 message_of (RoElementStat ro) = ack ro []
 message_of (OtherMessage ro) = ack ro []
+
+-- Of what a machine writes: an edit has the roID of its entry, a list has that of its order, and a status is no text of
+-- another end.
+abbrev pub IsWrittenStatus : Status → Type 0
+IsWrittenStatus (OtherStatus text) = ⊥
+IsWrittenStatus status = Unit {0}
+
+abbrev pub IsWritten : Message → Type 0
+IsWritten (RoEdit e) = IsEntry e
+IsWritten (RoAck ro status) = IsWrittenStatus status
+IsWritten (RoList ro order) = ro ≡ order.header.ro
+IsWritten (RoElementStat ro) = ⊥
+IsWritten (OtherMessage ro) = ⊥
+IsWritten m = Unit {0}
+
+-- a message as it is read again: of a status only what a reader acts on
+abbrev pub reread : Message → Message
+reread (RoAck ro status) = RoAck ro (read_status (status_text status))
+reread m = m

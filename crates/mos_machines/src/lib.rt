@@ -5,11 +5,13 @@
 #![tactic(auto)]
 
 mod device;
+mod messages;
 mod server;
 
 pub use device::{
     actions_that_apply_are_answered_ok, stale_links_leave_the_device, unfit_actions_leave_the_order,
 };
+pub use messages::{machines_write_what_can_be_read, messages_are_read_as_written};
 pub use server::{
     next_send_takes_the_first_due, no_entry_is_sent_twice, requests_are_answered_with_the_order,
     server_stays_within_its_journal, stale_links_leave_the_server,
