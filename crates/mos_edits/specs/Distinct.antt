@@ -1,6 +1,5 @@
 -- Orders whose stories have distinct identifiers, and each of whose stories has items with distinct ones.
-use Rattle.std.specs.Prelude.{◌≡◌, List, [], ◌∷◌, false, Option, Some, None}
-use Rattle.mos_edits.specs.Texts.{Text, has_id}
+use Rattle.std.specs.Prelude.{List, [], ◌∷◌, Option, Some, None}
 use Rattle.mos_values.specs.Distinct.{AreDistinct, story_ids, item_ids}
 use Rattle.mos_edits.specs.KeyedLists.{ListAction}
 use Rattle.mos_edits.specs.KeyedLists.ListAction.{Insert, Replace}

@@ -1,7 +1,7 @@
 -- What edits do to a running order. Orders and edits are the values of mos_values.
 use Rattle.std.specs.Prelude.{List, [], ◌∷◌, Option, Some, None}
 use Rattle.mos_edits.specs.Texts.{Text}
-use Rattle.mos_edits.specs.KeyedLists.{ActFault, Applied, ListAction}
+use Rattle.mos_edits.specs.KeyedLists.{Applied, ListAction}
 use Rattle.mos_edits.specs.KeyedLists.ActFault.{Missing, AlreadyThere}
 use Rattle.mos_edits.specs.KeyedLists.Applied.{Done, Fault}
 use Rattle.mos_edits.specs.KeyedLists.ListAction.{Insert, Move, Swap}

@@ -13,7 +13,8 @@ pub use edits::{
     whole_order_edits_give_their_body,
 };
 pub use journal::{
-    accepted_entries_apply, each_entry_applies_to_the_order_before_it, orders_have_the_roid_of_their_entries, refusals_have_their_cause,
+    accepted_entries_apply, each_entry_applies_to_the_order_before_it,
+    orders_have_the_roid_of_their_entries, refusals_have_their_cause,
 };
 pub use lists::{
     actions_keep_identifiers_distinct, edits_keep_identifiers_distinct, one_identifier_is_equal,

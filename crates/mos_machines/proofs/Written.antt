@@ -1,5 +1,5 @@
 -- What one machine writes is what the other reads.
-use Rattle.std.proofs.Common.{◌≡◌, ℕ, ◌+◌, ◌-◌, ◌<◌, ◌≤◌, ◌&&◌, ◌==◌, arith, List, [], ◌∷◌, Bool, true, false, Option, Some, None, refl, if◌then◌else◌, sym, ap, ◌∙◌, subst}
+use Rattle.std.proofs.Common.{◌≡◌, ℕ, ◌+◌, ◌-◌, ◌<◌, ◌≤◌, ◌&&◌, ◌==◌, arith, List, Bool, true, false, Option, Some, None, refl, if◌then◌else◌, sym, ap, ◌∙◌, subst}
 use Rattle.mos_edits.specs.Texts.{Text, same_id, set_order}
 use Rattle.mos_edits.specs.KeyedLists.{Applied}
 use Rattle.mos_edits.specs.KeyedLists.Applied.{Done, Fault}

@@ -1,5 +1,5 @@
 -- What the two machines say to each other, as plain data.
-use Rattle.std.specs.Prelude.{codes, ℕ, List, [], ◌∷◌, ◌++◌, take, Bool, false, Option, Some, None, if◌then◌else◌, ◌==◌}
+use Rattle.std.specs.Prelude.{codes, ℕ, List, [], ◌++◌, take, Bool, false, Option, Some, None, if◌then◌else◌, ◌==◌}
 use Rattle.mos_edits.specs.Texts.{Text, same_id}
 use Rattle.mos_edits.specs.KeyedLists.{ActFault}
 use Rattle.mos_edits.specs.KeyedLists.ActFault.{Missing, AlreadyThere}

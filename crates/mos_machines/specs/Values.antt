@@ -1,5 +1,5 @@
 -- The messages of the machines and the values of mos_values that carry them.
-use Rattle.std.specs.Prelude.{◌≡◌, [], Bool}
+use Rattle.std.specs.Prelude.{◌≡◌, []}
 use Rattle.mos_edits.specs.Texts.{Text}
 use Rattle.mos_edits.specs.Orders.{Edit}
 use Rattle.mos_edits.specs.Entries.{entry_of, IsEntry}

@@ -1,12 +1,12 @@
 -- Each event at a device is a call of the server, a call of the device, or neither.
-use Rattle.std.proofs.Common.{◌≡◌, ℕ, ◌+◌, List, [], ◌∷◌, Bool, true, false, Option, Some, None, arith, refl, if◌then◌else◌, ◌==◌, sym, ap, ◌∙◌, subst, eq-eqb}
+use Rattle.std.proofs.Common.{◌≡◌, ℕ, ◌+◌, List, Bool, true, false, Option, Some, None, arith, refl, if◌then◌else◌, ◌==◌, sym, ap, ◌∙◌, subst, eq-eqb}
 use Rattle.std.proofs.lemmas.Bool.Decides.{nat_tests}
 use Rattle.mos_edits.specs.Texts.{set_number}
 use Rattle.mos_edits.specs.Entries.{Entry, acceptance}
 use Rattle.mos_machines.specs.Messages.{Message, Packet, is_link}
-use Rattle.mos_machines.specs.Server.{Upper, PeerState, upper_link, peer_opened, peer_cut, peer_answered, peer_next, peer_beat, peer_linked, peer_hear, is_open}
+use Rattle.mos_machines.specs.Server.{Upper, PeerState, upper_link, peer_next, is_open}
 use Rattle.mos_machines.specs.Server.Upper.{Down, Greeting, Open}
-use Rattle.mos_machines.specs.Device.{GateState, gate_accepted, gate_left, gate_read, gate_dropped, gate_opened, gate_next, gate_got, gate_want, gate_beat}
+use Rattle.mos_machines.specs.Device.{GateState, gate_left, gate_read, gate_dropped, gate_next, gate_got}
 use Rattle.mos_machines.specs.Steps.{ServerState, ServerEvent, DeviceEvent, StepAnswer, started, server_step, server_told, with_peer, unless_stale, gate_says, gate_sent, gate_stepped}
 use Rattle.mos_machines.specs.Steps.StepAnswer.{Stepped}
 use Rattle.mos_machines.specs.Messages.Step.{Taken}

@@ -1,5 +1,5 @@
 -- Words for worked runs: names and texts, the stories of a script, and a session that is opened.
-use Rattle.std.proofs.Common.{◌≡◌, ℕ, List, [], ◌∷◌, Option, None, refl}
+use Rattle.std.proofs.Common.{◌≡◌, List, [], ◌∷◌, None, refl}
 use Rattle.std.specs.Prelude.{codes}
 use Rattle.mos_edits.specs.Texts.{Text, same_id}
 use Rattle.mos_edits.specs.Orders.{Order, Story, Item, apply}

@@ -1,7 +1,7 @@
 -- Worked runs of the world, computed: the outcome of each event, and the state at the end.
-use Rattle.std.proofs.Common.{◌≡◌, ℕ, List, [], ◌∷◌, Bool, true, false, Option, Some, None, refl}
-use Rattle.mos_edits.specs.Texts.{Text, same_id}
-use Rattle.mos_edits.specs.Orders.{Order, Story, Item, Edit, apply}
+use Rattle.std.proofs.Common.{◌≡◌, List, [], ◌∷◌, true, false, Some, None, refl}
+use Rattle.mos_edits.specs.Texts.{same_id}
+use Rattle.mos_edits.specs.Orders.{apply}
 use Rattle.mos_values.specs.declared.edit.Edit.TheVariants as Edits
 use Rattle.mos_values.specs.declared.edit.Edit.TheVariants.{Create, Act, Air}
 use Rattle.mos_values.specs.declared.action.Action.TheVariants.{InsertStories, ReplaceStory, InsertItems, MoveStories, MoveItems, DeleteStories, DeleteItems, SwapStories, SwapItems}

@@ -1,15 +1,13 @@
 -- The machines' part in an event of the world: which call of the server, and which of the device, it is.
-use Rattle.std.specs.Prelude.{ℕ, ◌+◌, List, Bool, true, false, Option, Some, None, if◌then◌else◌}
-use Rattle.mos_edits.specs.Entries.{Entry}
+use Rattle.std.specs.Prelude.{ℕ, Bool, true, false, Option, Some, None}
 use Rattle.mos_machines.specs.Messages.{Packet}
 use Rattle.mos_machines.specs.Server.{upper_link, is_open}
-use Rattle.mos_machines.specs.Device.{GateState, Decks}
+use Rattle.mos_machines.specs.Device.{GateState}
 use Rattle.mos_machines.specs.Steps.{ServerState, ServerEvent, DeviceEvent, server_step, device_step}
 use Rattle.mos_machines.specs.Steps.ServerEvent.{UpperOpened, UpperCut, UpperAnswer, DeviceAccepted, DeviceDropped, NextSend}
 use Rattle.mos_machines.specs.Steps.DeviceEvent.{UpperAccepted, UpperLeft, ReadUpper, DeviceOpened, GateDropped, NextAsk, ReadAnswer, GateBeat}
-use Rattle.world_laws.specs.World.{World, WorldEvent, Pairing, PairingEvent, Connection, Opener, own_time, front, has_device}
+use Rattle.world_laws.specs.World.{World, Pairing, PairingEvent, Opener, own_time, front}
 use Rattle.world_laws.specs.World.Opener.{TheServer, TheDevice}
-use Rattle.world_laws.specs.World.WorldEvent.{AtDevice}
 use Rattle.world_laws.specs.World.PairingEvent.{OpenTo, Accept, Cut, Leave, Send, Read, Back, Dial, Admit, Ask, Got, Hangup, Miss, DeviceBeat, Reboot}
 
 -- the server of a world; the world counts no faults
