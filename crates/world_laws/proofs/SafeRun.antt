@@ -10,7 +10,7 @@ use Rattle.mos_machines.specs.Server.ServerOut.{Idle, SendsEdit, SendsAgain, Sen
 use Rattle.mos_machines.specs.Server.Upper.{Down, Greeting, Open}
 use Rattle.mos_machines.specs.Server.View.{In}
 use Rattle.mos_machines.specs.Device.Phase.{InStep}
-use Rattle.world_laws.specs.World.{Pairing, PairingEvent, WorldEvent, World, Effect, opening, world_step, pairing_step, at_device, has_device, commanded, kept_journal, lose}
+use Rattle.world_laws.specs.World.{run, Pairing, PairingEvent, WorldEvent, World, Effect, opening, world_step, pairing_step, at_device, has_device, commanded, kept_journal, lose}
 use Rattle.mos_machines.specs.Server.Verdict.{Takes, Fails, Refuses}
 use Rattle.world_laws.specs.World.PairingEvent.{Read, Got, Reboot}
 use Rattle.world_laws.specs.World.WorldEvent.{Command, AtDevice, Lose, FailNext, Restart}
@@ -127,3 +127,11 @@ safe_from w (e ∷ es) i = (consistent w i, step_consistent w e i, safe_from (wo
 -- every run
 pub safe_run : (devices : ℕ) (events : List WorldEvent) → IsSafe (opening devices) events
 safe_run devices events = safe_from (opening devices) events (opening_inv devices)
+
+consistent_from : (w : World) (es : List WorldEvent) → WorldInvariant w → IsConsistent (run w es)
+consistent_from w [] i = consistent w i
+consistent_from w (e ∷ es) i = consistent_from (world_step w e).0 es (world_keeps w e i)
+
+-- the world that it ends in
+pub consistent_run : (devices : ℕ) (events : List WorldEvent) → IsConsistent (run (opening devices) events)
+consistent_run devices events = consistent_from (opening devices) events (opening_inv devices)

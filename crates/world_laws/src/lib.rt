@@ -5,19 +5,20 @@
 ghost use Rattle.std.specs.Prelude.{◌≡◌, ℕ, ◌+◌, List, Bool, true};
 ghost use Rattle.mos_edits.specs.Entries.{Entry};
 ghost use Rattle.mos_machines.specs.Steps.{ServerEvent, started, server_step};
-ghost use Rattle.world_laws.specs.World.{World, WorldEvent, PairingEvent, opening, has_device, kept_journal, world_step};
+ghost use Rattle.world_laws.specs.World.{World, WorldEvent, PairingEvent, opening, has_device, kept_journal, world_step, run};
 ghost use Rattle.world_laws.specs.Machines.{server_of, server_call, device_call, server_after, device_after};
-ghost use Rattle.world_laws.specs.Safe.{IsSafe};
+ghost use Rattle.world_laws.specs.Safe.{IsConsistent, IsSafe};
 
-/// Prefix consistency: every run is safe, for any number of devices and any list of commands, deliveries, cut
-/// and lost connections, failed appends and restarts.
+/// Prefix consistency: every run is safe, and the world that it ends in is consistent, for any number of devices and any list
+/// of commands, deliveries, cut and lost connections, failed appends and restarts.
 ///
 /// So what a gateway holds of a running order is at each moment the server's order after a prefix of its accepted edits; that
 /// prefix gets shorter only where the gateway restarts; where both ends are in step and nothing is in flight it is the whole;
 /// and READY is acknowledged only while the gateway holds exactly the order that it releases. The edits may be any: none of
 /// this asks that they are sound.
 pub fn prefix_consistency()
-    ensures { (devices : ℕ) (events : List WorldEvent) → IsSafe (opening devices) events }
+    ensures safe { (devices : ℕ) (events : List WorldEvent) → IsSafe (opening devices) events }
+    ensures consistent { (devices : ℕ) (events : List WorldEvent) → IsConsistent (run (opening devices) events) }
 {}
 
 /// The ends of a world are the two machines: each event at a device is a call of the server, a call of that device, or
