@@ -5,3 +5,4 @@ pub mod Growing
 pub mod ServerAnswers
 pub mod DeviceAnswers
 pub mod Written
+pub mod RowTables

@@ -4,3 +4,4 @@ pub mod Device
 pub mod Steps
 pub mod Views
 pub mod Values
+pub mod Tables

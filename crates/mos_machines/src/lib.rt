@@ -7,6 +7,7 @@
 mod device;
 mod messages;
 mod server;
+mod tables;
 
 pub use device::{
     actions_that_apply_are_answered_ok, stale_links_leave_the_device, unfit_actions_leave_the_order,
@@ -16,3 +17,4 @@ pub use server::{
     next_send_takes_the_first_due, no_entry_is_sent_twice, requests_are_answered_with_the_order,
     server_stays_within_its_journal, stale_links_leave_the_server,
 };
+pub use tables::written_rows_are_looked_up;
