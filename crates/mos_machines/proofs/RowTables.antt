@@ -1,12 +1,12 @@
 -- Tables of rows are functions.
-use Rattle.std.proofs.Common.{◌≡◌, List, [], ◌∷◌, map, Bool, true, false, refl, if◌then◌else◌, ap, ◌∙◌, sym, subst, ℕ, ◌||◌, Option, Some, None}
+use Rattle.std.proofs.Common.{◌≡◌, List, [], ◌∷◌, Bool, true, false, refl, if◌then◌else◌, ap, ◌∙◌, sym, subst, ℕ, ◌||◌, Option, Some, None}
 use Rattle.mos_edits.specs.Texts.{Text, same_id, set_order}
 use Rattle.mos_edits.specs.Entries.{Entry, is_before, insert_id}
 use Rattle.mos_edits.proofs.Identifiers.{same-true}
-use Rattle.mos_machines.specs.Server.{View, PeerState, peer_opened, peer_cut, unlisted, peer_linked, settled, peer_settled}
+use Rattle.mos_machines.specs.Server.{View, peer_opened, peer_cut, unlisted, peer_linked, settled, peer_settled}
 use Rattle.mos_machines.specs.Server.Upper.{Down, Greeting}
 use Rattle.mos_machines.specs.Server.View.{Out}
-use Rattle.mos_machines.specs.Device.{GateState, GateOut, Confirmation, crossed, gate_accepted, is_for, is_confirmed, is_in, is_all, dropped_phase, gate_dropped}
+use Rattle.mos_machines.specs.Device.{GateOut, Confirmation, crossed, gate_accepted, is_for, is_confirmed, is_in, is_all, dropped_phase, gate_dropped}
 use Rattle.mos_machines.specs.Device.GateOut.{NotAsking}
 use Rattle.mos_machines.specs.Device.Confirmation.{NotDue}
 use Rattle.mos_machines.specs.Device.Phase.{OutOfStep}

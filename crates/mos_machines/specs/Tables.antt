@@ -1,10 +1,10 @@
 -- The machines' states as contracts see them in code: a table by roID is a list of rows, ascending, and stands for a function
 -- with a default.
-use Rattle.std.specs.Prelude.{ℕ, List, [], ◌∷◌, map, get_or, Bool, false, Option, Some, None, if◌then◌else◌}
+use Rattle.std.specs.Prelude.{ℕ, List, [], ◌∷◌, map, get_or, Bool, false, Option, None, if◌then◌else◌}
 use Rattle.mos_edits.specs.Texts.{Text, same_id, set_order}
 use Rattle.mos_edits.specs.Orders.{Order}
 use Rattle.mos_edits.specs.Entries.{Entry, is_before, insert_id}
-use Rattle.mos_machines.specs.Server.{Upper, View, PeerState, no_peer}
+use Rattle.mos_machines.specs.Server.{Upper, View, PeerState}
 use Rattle.mos_machines.specs.Server.View.{Out}
 use Rattle.mos_machines.specs.Device.{GateOut, Phase, Confirmation, GateState}
 use Rattle.mos_machines.specs.Device.Phase.{OutOfStep}

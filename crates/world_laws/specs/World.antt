@@ -64,7 +64,7 @@ pub record Pairing : Type 0 where
 abbrev pub no_pairing : Pairing
 no_pairing = record { peer = no_peer; gate = no_gate; decks = record { handed = false; left = 0 }; connections = λ c. no_connection; applied = λ r. 0 }
 
--- The world. `stopped` and `failing` are the server's mark and the keeper's flag that its next append fails; `uncertain` is
+-- The world. `stopped` says that an append failed since the server's start, `failing` that the keeper's next append fails; `uncertain` is
 -- the entry whose append failed since the last restart; `count` connections were opened, numbered from 1 over all devices.
 pub record World : Type 0 where
   pub devices : ℕ
@@ -79,6 +79,7 @@ pub record World : Type 0 where
 abbrev pub opening : ℕ → World
 opening devices = record { devices = devices; journal = []; stopped = false; failing = false; uncertain = None; count = 0; pairings = λ d. no_pairing }
 
+-- a packet written on a connection, which is lost where later ones are
 abbrev pub write_device : Packet → Connection → Connection
 write_device p x = record x { to_device = if x.lost_device then x.to_device else x.to_device ++ p ∷ [] }
 
@@ -94,7 +95,12 @@ abbrev pub lose : Direction → ℕ → Connection → Connection
 lose ToServer k x = record x { to_server = take k x.to_server; lost_server = true }
 lose ToDevice k x = record x { to_device = take k x.to_device; lost_device = true }
 
--- the events at one device
+-- The events at one device. The server opens a connection to it (OpenTo), cuts it (Cut), sends what is due (Send), takes the
+-- front answer back (Back), admits connection `c` of the device (Admit), hears the front message on it (Hear), sees it end
+-- (Miss), and is asked for a heartbeat (Beat). The device accepts connection `c` of the server (Accept), leaves it (Leave),
+-- reads the front message on it (Read), opens one of its own (Dial), asks on it (Ask), gets the front answer (Got), drops it
+-- (Hangup), is asked for a heartbeat (DeviceBeat), for an order (Want), is told that `k` decks are left (DecksLeft), and
+-- restarts (Reboot).
 pub data PairingEvent : Type 0 where
   OpenTo : PairingEvent
   Accept : (c : ℕ) → PairingEvent
@@ -116,7 +122,8 @@ pub data PairingEvent : Type 0 where
   DecksLeft : (k : ℕ) → PairingEvent
   Reboot : PairingEvent
 
--- the events
+-- The events: an editor's command; an event at device `d`; a loss on connection `c`; the keeper's next append is to fail; the
+-- server restarts, and the entry whose append failed since its last start is kept or not.
 pub data WorldEvent : Type 0 where
   Command : (edit : Entry) → WorldEvent
   AtDevice : (d : ℕ) (event : PairingEvent) → WorldEvent
@@ -124,7 +131,8 @@ pub data WorldEvent : Type 0 where
   FailNext : WorldEvent
   Restart : (kept : Bool) → WorldEvent
 
--- what an event did
+-- What an event did: it wasn't possible; the status of a command; connection `c` was opened; it was done; nothing was due; this
+-- packet was written; an answer was taken, or not asked for.
 pub data Effect : Type 0 where
   Impossible : Effect
   Commanded : (status : Status) → Effect
