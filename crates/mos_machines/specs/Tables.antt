@@ -1,0 +1,97 @@
+-- The machines' states as contracts see them in code: a table by roID is a list of rows, ascending, and stands for a function
+-- with a default.
+use Rattle.std.specs.Prelude.{ℕ, List, [], ◌∷◌, map, get_or, Bool, false, Option, None, if◌then◌else◌}
+use Rattle.mos_edits.specs.Texts.{Text, same_id, set_order}
+use Rattle.mos_edits.specs.Orders.{Order}
+use Rattle.mos_edits.specs.Entries.{Entry, is_before, insert_id}
+use Rattle.mos_machines.specs.Server.{Upper, View, PeerState}
+use Rattle.mos_machines.specs.Server.View.{Out}
+use Rattle.mos_machines.specs.Device.{GateOut, Phase, Confirmation, GateState}
+use Rattle.mos_machines.specs.Device.Phase.{OutOfStep}
+use Rattle.mos_machines.specs.Steps.{ServerState}
+
+-- the value in the row of `r`, or the default where there is none
+abbrev pub look : {X : Type 0} → X → List (Text × X) → Text → X
+look default [] r = default
+look default (x ∷ xs) r = if same_id r x.0 then x.1 else look default xs r
+
+-- the row of `r` written anew, at its place
+abbrev pub put_row : {X : Type 0} → Text → X → List (Text × X) → List (Text × X)
+put_row r value [] = (r, value) ∷ []
+put_row r value (x ∷ xs) =
+    if same_id r x.0 then (r, value) ∷ xs else (if is_before r x.0 then (r, value) ∷ (x ∷ xs) else x ∷ put_row r value xs)
+
+-- the roIDs of the rows
+abbrev pub row_ids : {X : Type 0} → List (Text × X) → List Text
+row_ids rows = map (λ x. x.0) rows
+
+-- each row's value changed
+abbrev pub map_rows : {X Y : Type 0} → (Text → X → Y) → List (Text × X) → List (Text × Y)
+map_rows f [] = []
+map_rows f (x ∷ xs) = (x.0, f x.0 x.1) ∷ map_rows f xs
+
+-- what a gateway knows of an order; of one that it doesn't know it holds none, out of step
+pub record KnownOrder : Type 0 where
+  pub held : Option Order
+  pub phase : Phase
+  pub wanted : Bool
+
+abbrev pub unknown_order : KnownOrder
+unknown_order = record { held = None; phase = OutOfStep; wanted = false }
+
+pub record GateTables : Type 0 where
+  pub upper : Option ℕ
+  pub link : Option ℕ
+  pub out : GateOut
+  pub want_all : Bool
+  pub confirm : Confirmation
+  pub note : Bool
+  pub orders : List (Text × KnownOrder)
+
+-- the device's state
+abbrev pub gate_of : GateTables → GateState
+gate_of g = record {
+  upper = g.upper;
+  link = g.link;
+  out = g.out;
+  want_all = g.want_all;
+  confirm = g.confirm;
+  note = g.note;
+  known = row_ids g.orders;
+  held = λ r. (look unknown_order g.orders r).held;
+  phase = λ r. (look unknown_order g.orders r).phase;
+  wanted = λ r. (look unknown_order g.orders r).wanted;
+}
+
+-- what the server keeps for a device
+pub record PeerTables : Type 0 where
+  pub upper : Upper
+  pub note : Bool
+  pub link : Option ℕ
+  pub views : List (Text × View)
+
+abbrev pub no_peer_tables : PeerTables
+no_peer_tables = record { upper = Upper.Down; note = false; link = None; views = [] }
+
+abbrev pub peer_of : PeerTables → PeerState
+peer_of p = record { upper = p.upper; note = p.note; link = p.link; views = look Out p.views }
+
+-- `peers`: one for each device, from 0
+pub record ServerTables : Type 0 where
+  pub journal : List Entry
+  pub stopped : Bool
+  pub faults : ℕ
+  pub peers : List PeerTables
+
+-- the server's state
+abbrev pub server_state : ServerTables → ServerState
+server_state s = record { journal = s.journal; stopped = s.stopped; faults = s.faults; peers = λ d. peer_of (get_or s.peers d no_peer_tables) }
+
+-- A row of a gateway's table written anew: the device's state with that order's entries in its tables.
+abbrev pub with_row : GateState → Text → KnownOrder → GateState
+with_row g r v = record g {
+  known = insert_id r g.known;
+  held = set_order g.held r v.held;
+  phase = set_order g.phase r v.phase;
+  wanted = set_order g.wanted r v.wanted;
+}

@@ -1,0 +1,237 @@
+use Rattle.std.proofs.Common.{◌≡◌, ℕ, ◌+◌, ◌<◌, ◌≤◌, ◌⊎◌, List, length, Bool, true, false, Option, Some, None, arith}
+use Rattle.mos_edits.specs.Entries.{Kind}
+use Rattle.mos_edits.specs.Entries.Kind.{IsWhole}
+use Rattle.mos_machines.specs.Server.{View, unlisted}
+use Rattle.mos_machines.specs.Device.{Phase, crossed}
+use Rattle.mos_machines.specs.Server.View.{Out, Listed, In, From}
+use Rattle.mos_machines.specs.Device.Phase.{InStep, OutOfStep, Asked, Crossed}
+use Rattle.world_laws.proofs.Replication.{Transfer, InFlight, Request, Incoming, Replication, IsInvariant, readable, ReadyBefore, WholeAt, IsAsking}
+use Rattle.world_laws.proofs.Replication.Transfer.{TransferEntry, TransferAgain}
+use Rattle.world_laws.proofs.Replication.InFlight.{NotConnected, Nothing, Unread, Acknowledged, Lost}
+use Rattle.world_laws.proofs.Replication.Request.{NotRequested, RequestSent, RequestLost, AnsweredWith}
+use Rattle.world_laws.proofs.Replication.Incoming.{NoneComes, AskComes, BeatComes}
+use Rattle.mos_edits.proofs.Journals.{Grows}
+
+pub keeps_want : (l : Replication) → IsInvariant l → l.phase ≡ InStep → IsInvariant (record l { phase = OutOfStep })
+keeps_want l i e = grind arith
+
+-- a device that leaves, or a loss: nothing is readable any more
+abbrev pub unread_gone : InFlight → InFlight
+unread_gone (NotConnected accepted r) = NotConnected accepted None
+unread_gone Nothing = Nothing
+unread_gone (Unread i) = Lost i
+unread_gone (Acknowledged i) = Acknowledged i
+unread_gone (Lost i) = Lost i
+
+pub keeps_leave : (l : Replication) → IsInvariant l → IsInvariant (record l { in_flight = unread_gone l.in_flight })
+keeps_leave l i = grind arith
+
+-- the server opens, cuts or restarts: what the device can read stays
+abbrev pub closed : InFlight → InFlight
+closed t = NotConnected false (readable t)
+
+pub keeps_closed : (l : Replication) → IsInvariant l → IsInvariant (record l { in_flight = closed l.in_flight; view = Out })
+keeps_closed l i = grind arith
+
+pub keeps_accept : (l : Replication) → IsInvariant l → (r : Option Transfer) → l.in_flight ≡ NotConnected false r → IsInvariant (record l { in_flight = NotConnected true None; phase = crossed l.phase })
+keeps_accept l i r e = grind arith
+
+pub keeps_accept_other : (l : Replication) → IsInvariant l → IsInvariant (record l { in_flight = unread_gone l.in_flight; phase = crossed l.phase })
+keeps_accept_other l i = grind arith
+
+pub keeps_greeted : (l : Replication) → IsInvariant l → (r : Option Transfer) → l.in_flight ≡ NotConnected true r → IsInvariant (record l { in_flight = Nothing })
+keeps_greeted l i r e = grind arith
+
+-- what is due
+abbrev pub Due : Replication → View → Transfer → Type 0
+Due l (In n true) i = i ≡ TransferAgain n
+Due l (In n false) i = (n < length l.kinds) × (i ≡ TransferEntry n)
+Due l (From k) i = i ≡ TransferEntry k
+Due l Out i = ⊥
+Due l (Listed m) i = ⊥
+
+pub keeps_send : (l : Replication) → IsInvariant l → (x : Transfer) → l.in_flight ≡ Nothing → Due l l.view x → IsInvariant (record l { in_flight = Unread x })
+keeps_send l i x e d = grind arith
+
+pub keeps_send_lost : (l : Replication) → IsInvariant l → (x : Transfer) → l.in_flight ≡ Nothing → Due l l.view x → IsInvariant (record l { in_flight = Lost x })
+keeps_send_lost l i x e d = grind arith
+
+-- the answer comes back
+abbrev pub after_success : Transfer → View
+after_success (TransferEntry k) = In (k + 1) false
+after_success (TransferAgain m) = In m false
+
+pub keeps_back_success : (l : Replication) → IsInvariant l → (x : Transfer) → l.in_flight ≡ Acknowledged x → IsInvariant (record l { in_flight = Nothing; view = after_success x })
+keeps_back_success l i x e = grind arith
+
+pub keeps_back_bad : (l : Replication) → IsInvariant l → (x : Transfer) → l.in_flight ≡ Lost x → IsInvariant (record l { in_flight = Nothing; view = Out })
+keeps_back_bad l i x e = grind arith
+
+pub keeps_back_lost : (l : Replication) → IsInvariant l → (x : Transfer) → l.in_flight ≡ Acknowledged x → IsInvariant (record l { in_flight = Lost x })
+keeps_back_lost l i x e = grind arith
+
+-- the device reads entry k
+abbrev pub done : InFlight → Transfer → InFlight
+done (NotConnected accepted r) i = NotConnected accepted None
+done Nothing i = Nothing
+done (Unread j) i = Acknowledged i
+done (Acknowledged j) i = Acknowledged j
+done (Lost j) i = Lost j
+
+pub keeps_read_crossed : (l : Replication) → IsInvariant l → (x : Transfer) → readable l.in_flight ≡ Some x → IsAsking l.phase → IsInvariant (record l { in_flight = unread_gone l.in_flight; phase = Crossed })
+keeps_read_crossed l i x e a = grind arith
+
+pub keeps_read_refused : (l : Replication) → IsInvariant l → (x : Transfer) → readable l.in_flight ≡ Some x → (IsAsking l.phase → ⊥) → IsInvariant (record l { in_flight = unread_gone l.in_flight; phase = OutOfStep })
+keeps_read_refused l i x e a = grind arith
+
+-- a whole-order edit: held
+pub keeps_read_whole : (l : Replication) → IsInvariant l → (k : ℕ) → readable l.in_flight ≡ Some (TransferEntry k) → WholeAt l.kinds k → (IsAsking l.phase → ⊥) → IsInvariant (record l { in_flight = done l.in_flight (TransferEntry k); phase = InStep; prefix = k + 1 })
+keeps_read_whole l i k e w a = grind arith
+
+-- an entry that applies, in step
+pub keeps_read_step : (l : Replication) → IsInvariant l → (k : ℕ) → readable l.in_flight ≡ Some (TransferEntry k) → k ≡ l.prefix → l.phase ≡ InStep → IsInvariant (record l { in_flight = done l.in_flight (TransferEntry k); prefix = k + 1 })
+keeps_read_step l i k e w a = grind arith
+
+-- NOT READY out of step: answered OK
+pub keeps_read_passed : (l : Replication) → IsInvariant l → (k : ℕ) → readable l.in_flight ≡ Some (TransferEntry k) → l.phase ≡ OutOfStep → IsInvariant (record l { in_flight = done l.in_flight (TransferEntry k) })
+keeps_read_passed l i k e a = grind arith
+
+-- a READY sent again
+pub keeps_read_again : (l : Replication) → IsInvariant l → (m : ℕ) → readable l.in_flight ≡ Some (TransferAgain m) → IsInvariant (record l { in_flight = done l.in_flight (TransferAgain m) })
+keeps_read_again l i m e = grind arith
+
+-- the lower connection. The device drops it, or dials anew
+abbrev pub dropped : Phase → Bool → Phase
+dropped InStep true = OutOfStep
+dropped InStep false = InStep
+dropped OutOfStep b = OutOfStep
+dropped Asked b = OutOfStep
+dropped Crossed b = OutOfStep
+
+pub keeps_hangup : (l : Replication) → IsInvariant l → (b : Bool) → IsInvariant (record l { ask = NotRequested; live = false; phase = dropped l.phase b })
+keeps_hangup l i b = grind arith
+
+pub keeps_miss : (l : Replication) → IsInvariant l → IsInvariant (record l { view = unlisted l.view; live = false; incoming = NoneComes })
+keeps_miss l i = grind arith
+
+pub keeps_admit_other : (l : Replication) → IsInvariant l → (c : Incoming) → IsInvariant (record l { view = unlisted l.view; live = false; incoming = c })
+keeps_admit_other l i c = grind arith
+
+pub keeps_admit : (l : Replication) → IsInvariant l → (c : Incoming) → (c ≡ AskComes → l.ask ≡ RequestSent) → IsInvariant (record l { view = unlisted l.view; live = true; incoming = c })
+keeps_admit l i c h = grind arith
+
+abbrev pub comes : Bool → Incoming → Incoming → Incoming
+comes true c old = c
+comes false c old = old
+
+pub keeps_ask : (l : Replication) → IsInvariant l → l.ask ≡ NotRequested → IsInvariant (record l { ask = RequestSent; phase = Asked; incoming = comes l.live AskComes l.incoming })
+keeps_ask l i e = grind arith
+
+pub keeps_ask_lost : (l : Replication) → IsInvariant l → l.ask ≡ NotRequested → IsInvariant (record l { ask = RequestLost; phase = Asked })
+keeps_ask_lost l i e = grind arith
+
+-- the device sends something else on its connection; so nothing of this order is asked there
+pub keeps_tell : (l : Replication) → IsInvariant l → (c : Incoming) → l.ask ≡ NotRequested → (c ≡ AskComes → ⊥) → IsInvariant (record l { incoming = comes l.live c l.incoming })
+keeps_tell l i c e h = grind arith
+
+pub keeps_ask_gone : (l : Replication) → IsInvariant l → IsAsking l.phase → IsInvariant (record l { ask = RequestLost; incoming = comes l.live NoneComes l.incoming })
+keeps_ask_gone l i a = grind arith
+
+pub keeps_incoming_gone : (l : Replication) → IsInvariant l → IsInvariant (record l { incoming = NoneComes })
+keeps_incoming_gone l i = grind arith
+
+pub keeps_got_list : (l : Replication) → IsInvariant l → (m : ℕ) → l.ask ≡ AnsweredWith m → l.phase ≡ Asked → IsInvariant (record l { ask = NotRequested; phase = InStep; prefix = m })
+keeps_got_list l i m e a = grind arith
+
+pub keeps_got_crossed : (l : Replication) → IsInvariant l → (m : ℕ) → l.ask ≡ AnsweredWith m → l.phase ≡ Crossed → IsInvariant (record l { ask = NotRequested; phase = OutOfStep; prefix = m })
+keeps_got_crossed l i m e a = grind arith
+
+pub keeps_got_other : (l : Replication) → IsInvariant l → (l.ask ≡ RequestSent → ⊥) → IsInvariant (record l { ask = NotRequested; phase = OutOfStep })
+keeps_got_other l i a = grind arith
+
+-- the server hears
+abbrev pub heard : List Kind → View → Bool → Bool → View
+heard kinds Out beat ready = Out
+heard kinds (Listed m) true ready = In m ready
+heard kinds (Listed m) false ready = Out
+heard kinds (In n again) beat ready = In n again
+heard kinds (From k) beat ready = From k
+
+pub keeps_hear_beat : (l : Replication) → IsInvariant l → (ready : Bool) → ((m : ℕ) → l.view ≡ Listed m → ready ≡ true → ReadyBefore l.kinds m) → l.incoming ≡ BeatComes → IsInvariant (record l { view = heard l.kinds l.view true ready; incoming = NoneComes })
+keeps_hear_beat l i ready h e = grind arith
+
+pub keeps_hear_other : (l : Replication) → IsInvariant l → (ready : Bool) → IsInvariant (record l { view = heard l.kinds l.view false ready; incoming = NoneComes })
+keeps_hear_other l i ready = grind arith
+
+-- a request of this order: NOT NOW
+pub keeps_hear_not_now : (l : Replication) → IsInvariant l → (ready : Bool) → l.live ≡ true → l.incoming ≡ AskComes → IsInvariant (record l { view = heard l.kinds l.view false ready; incoming = NoneComes; ask = RequestLost })
+keeps_hear_not_now l i ready a b = grind arith
+
+abbrev pub answers : Bool → ℕ → Request → Request
+answers true n old = AnsweredWith n
+answers false n old = old
+
+pub keeps_hear_ask : (l : Replication) → IsInvariant l → l.in_flight ≡ Nothing → l.incoming ≡ AskComes → IsInvariant (record l { view = Listed (length l.kinds); incoming = NoneComes; ask = answers l.live (length l.kinds) l.ask })
+keeps_hear_ask l i a b = grind arith
+
+pub keeps_reboot : (l : Replication) → IsInvariant l → IsInvariant (record l { in_flight = unread_gone l.in_flight; ask = NotRequested; live = false; phase = OutOfStep; prefix = 0 })
+keeps_reboot l i = grind arith
+
+-- an entry is appended
+abbrev pub is_open : InFlight → Bool
+is_open (NotConnected accepted r) = false
+is_open Nothing = true
+is_open (Unread i) = true
+is_open (Acknowledged i) = true
+is_open (Lost i) = true
+
+abbrev pub given : Bool → Kind → ℕ → View → View
+given true IsWhole n Out = From n
+given b k n v = v
+
+pub keeps_grow : (l : Replication) → IsInvariant l → (ks : List Kind) → Grows l.kinds ks → IsInvariant (record l { kinds = ks })
+keeps_grow l i ks g = record {
+  prefix = grind (arith, g.same_id);
+  read = grind (arith, g.same_id);
+  in_flight = grind (arith, g.same_id);
+  view = grind (arith, g.same_id);
+  ask = grind (arith, g.same_id);
+  heard = i.heard;
+}
+
+pub keeps_given : (l : Replication) → IsInvariant l → (k : ℕ) → is_open l.in_flight ≡ true → l.view ≡ Out → WholeAt l.kinds k → (k < length l.kinds) → l.prefix ≤ k → ((m : ℕ) → l.ask ≡ AnsweredWith m → m ≤ k) → IsInvariant (record l { view = From k })
+keeps_given l i k o v w h n m = grind arith
+
+-- the answer comes on its way, or not
+abbrev pub answered : Bool → InFlight → InFlight
+answered true (NotConnected accepted r) = NotConnected accepted None
+answered true Nothing = Nothing
+answered true (Unread j) = Acknowledged j
+answered true (Acknowledged j) = Acknowledged j
+answered true (Lost j) = Lost j
+answered false t = unread_gone t
+
+pub keeps_reads_whole : (l : Replication) → IsInvariant l → (k : ℕ) (b : Bool) → readable l.in_flight ≡ Some (TransferEntry k) → WholeAt l.kinds k → (IsAsking l.phase → ⊥) → IsInvariant (record l { in_flight = answered b l.in_flight; phase = InStep; prefix = k + 1 })
+keeps_reads_whole l i k b e w a = grind arith
+
+pub keeps_reads_step : (l : Replication) → IsInvariant l → (k : ℕ) (b : Bool) → readable l.in_flight ≡ Some (TransferEntry k) → k ≡ l.prefix → l.phase ≡ InStep → IsInvariant (record l { in_flight = answered b l.in_flight; prefix = k + 1 })
+keeps_reads_step l i k b e w a = grind arith
+
+pub keeps_reads_passed : (l : Replication) → IsInvariant l → (k : ℕ) (b : Bool) → readable l.in_flight ≡ Some (TransferEntry k) → l.phase ≡ OutOfStep → IsInvariant (record l { in_flight = answered b l.in_flight })
+keeps_reads_passed l i k b e a = grind arith
+
+pub keeps_reads_again : (l : Replication) → IsInvariant l → (m : ℕ) (b : Bool) → readable l.in_flight ≡ Some (TransferAgain m) → IsInvariant (record l { in_flight = answered b l.in_flight })
+keeps_reads_again l i m b e = grind arith
+
+-- losses
+abbrev pub LostInFlight : InFlight → InFlight → Type 0
+LostInFlight new old = (new ≡ old) ⊎ (new ≡ unread_gone old) ⊎ ((x : Transfer) × (old ≡ Acknowledged x) × (new ≡ Lost x))
+
+pub keeps_lost_in_flight : (l : Replication) → IsInvariant l → (t : InFlight) → LostInFlight t l.in_flight → IsInvariant (record l { in_flight = t })
+keeps_lost_in_flight l i t h = grind arith
+
+abbrev pub LostAsk : Request → Request → Type 0
+LostAsk new old = (new ≡ old) ⊎ ((new ≡ RequestLost) × (old ≡ NotRequested → ⊥))
+
+pub keeps_lost_ask : (l : Replication) → IsInvariant l → (a : Request) (c : Incoming) → LostAsk a l.ask → (c ≡ l.incoming) ⊎ (c ≡ NoneComes) → (l.live ≡ true → c ≡ AskComes → a ≡ RequestSent) → IsInvariant (record l { ask = a; incoming = c })
+keeps_lost_ask l i a c h k s = grind arith

@@ -1,0 +1,141 @@
+-- The replication of one order at one device: what the world is, seen through them. Numbers of connections, other orders and
+-- other devices are gone. The invariant says how the length of the device's applied prefix stands to the server's view, to
+-- what is in flight and to what the device has asked for.
+use Rattle.std.specs.Prelude.{◌≡◌, ℕ, ◌+◌, ◌-◌, ◌<◌, ◌≤◌, ◌⊎◌, List, length, slice_get, Bool, true, false, Option, Some, None}
+use Rattle.mos_edits.specs.Entries.{Kind}
+use Rattle.mos_edits.specs.Entries.Kind.{IsWhole, IsReady}
+use Rattle.mos_machines.specs.Server.{View}
+use Rattle.mos_machines.specs.Device.{Phase}
+use Rattle.mos_machines.specs.Server.View.{Out, Listed, In, From}
+use Rattle.mos_machines.specs.Device.Phase.{InStep, OutOfStep, Asked, Crossed}
+
+-- an edit on its way: entry k, or the READY before m sent again
+pub data Transfer : Type 0 where
+  TransferEntry : (k : ℕ) → Transfer
+  TransferAgain : (m : ℕ) → Transfer
+
+-- What is in flight to the device. NotConnected: the server's connection isn't open; it was accepted or not, and an edit on
+-- a former one may still be readable. Nothing: open, with no edit of the order in flight. Unread: the edit waits at the device.
+-- Acknowledged: an answer is on its way that the server will take for success. Lost: it is refused, lost, or unread where the
+-- device reads no more.
+pub data InFlight : Type 0 where
+  NotConnected : (accepted : Bool) (readable : Option Transfer) → InFlight
+  Nothing : InFlight
+  Unread : (item : Transfer) → InFlight
+  Acknowledged : (item : Transfer) → InFlight
+  Lost : (item : Transfer) → InFlight
+
+-- the device's request of the order: not made, on its way, lost or refused, answered by a list of `m` entries
+pub data Request : Type 0 where
+  NotRequested : Request
+  RequestSent : Request
+  RequestLost : Request
+  AnsweredWith : (m : ℕ) → Request
+
+-- what the server hears next on the connection that the device opened
+pub data Incoming : Type 0 where
+  NoneComes : Incoming
+  AskComes : Incoming
+  BeatComes : Incoming
+  OtherComes : Incoming
+
+-- `kinds`: of the order's entries. `view`: the server's. `ask`, `phase`, `prefix`: the device's request, phase and applied
+-- prefix. `live`: the server hears on the connection that the device has. `incoming`: what it hears next.
+pub record Replication : Type 0 where
+  pub kinds : List Kind
+  pub in_flight : InFlight
+  pub view : View
+  pub ask : Request
+  pub live : Bool
+  pub incoming : Incoming
+  pub phase : Phase
+  pub prefix : ℕ
+
+abbrev pub WholeAt : List Kind → ℕ → Type 0
+WholeAt kinds k = slice_get kinds k ≡ Some IsWhole
+
+-- the entry before m is a READY
+abbrev pub ReadyBefore : List Kind → ℕ → Type 0
+ReadyBefore kinds m = (0 < m) × (m ≤ length kinds) × (slice_get kinds (m - 1) ≡ Some IsReady)
+
+abbrev pub readable : InFlight → Option Transfer
+readable (NotConnected accepted r) = r
+readable Nothing = None
+readable (Unread i) = Some i
+readable (Acknowledged i) = None
+readable (Lost i) = None
+
+abbrev pub ReadableOk : Replication → Option Transfer → Type 0
+ReadableOk l None = Unit {0}
+ReadableOk l (Some (TransferEntry k)) =
+    (l.prefix ≤ k) × (k < length l.kinds) × (l.phase ≡ InStep → WholeAt l.kinds k ⊎ (k ≡ l.prefix))
+ReadableOk l (Some (TransferAgain m)) =
+    ReadyBefore l.kinds m × (l.prefix ≤ m) × (l.phase ≡ InStep → m ≡ l.prefix)
+
+-- the view of an order with an edit in flight
+abbrev pub Fits : List Kind → View → Transfer → Type 0
+Fits kinds view (TransferEntry k) = (k < length kinds) × ((view ≡ In k false) ⊎ (view ≡ From k))
+Fits kinds view (TransferAgain m) = view ≡ In m true
+
+abbrev pub InFlightOk : Replication → InFlight → Type 0
+InFlightOk l (NotConnected false r) = l.view ≡ Out
+InFlightOk l (NotConnected true r) = (l.view ≡ Out) × (r ≡ None)
+InFlightOk l Nothing = Unit {0}
+InFlightOk l (Unread i) = Fits l.kinds l.view i
+InFlightOk l (Acknowledged (TransferEntry k)) =
+    Fits l.kinds l.view (TransferEntry k) × (l.prefix ≤ k + 1) × (l.phase ≡ InStep → l.prefix ≡ k + 1) × ((m : ℕ) → l.ask ≡ AnsweredWith m → ⊥)
+InFlightOk l (Acknowledged (TransferAgain m)) = Fits l.kinds l.view (TransferAgain m)
+InFlightOk l (Lost i) = Fits l.kinds l.view i
+
+-- no entry of the order is in flight; a READY sent again may be
+abbrev pub NoEntry : InFlight → Type 0
+NoEntry (NotConnected accepted r) = Unit {0}
+NoEntry Nothing = Unit {0}
+NoEntry (Unread (TransferEntry k)) = ⊥
+NoEntry (Acknowledged (TransferEntry k)) = ⊥
+NoEntry (Lost (TransferEntry k)) = ⊥
+NoEntry (Unread (TransferAgain m)) = Unit {0}
+NoEntry (Acknowledged (TransferAgain m)) = Unit {0}
+NoEntry (Lost (TransferAgain m)) = Unit {0}
+
+abbrev pub ViewOk : Replication → View → Type 0
+ViewOk l Out = Unit {0}
+ViewOk l (Listed m) =
+    (l.in_flight ≡ Nothing) × (l.prefix ≤ m) × (m ≤ length l.kinds)
+    × (l.phase ≡ InStep → (l.prefix ≡ m) ⊎ ((l.incoming ≡ NoneComes) × (l.live ≡ false)))
+ViewOk l (In n again) =
+    (n ≤ length l.kinds) × (again ≡ true → ReadyBefore l.kinds n)
+    × (NoEntry l.in_flight → (l.prefix ≤ n) × (l.phase ≡ InStep → l.prefix ≡ n))
+ViewOk l (From k) = WholeAt l.kinds k × (k < length l.kinds) × (l.in_flight ≡ Nothing → l.prefix ≤ k)
+
+abbrev pub AskView : Replication → ℕ → View → Type 0
+AskView l m Out = Unit {0}
+AskView l m (Listed n) = (m ≤ n) × (l.live ≡ true → m ≡ n) × (l.incoming ≡ NoneComes)
+AskView l m (In n again) = ⊥
+AskView l m (From k) = m ≤ k
+
+abbrev pub AskReadable : Replication → ℕ → Option Transfer → Type 0
+AskReadable l m None = Unit {0}
+AskReadable l m (Some (TransferEntry k)) = WholeAt l.kinds k × (m ≤ k)
+AskReadable l m (Some (TransferAgain n)) = ⊥
+
+abbrev pub IsAsking : Phase → Type 0
+IsAsking InStep = ⊥
+IsAsking OutOfStep = ⊥
+IsAsking Asked = Unit {0}
+IsAsking Crossed = Unit {0}
+
+abbrev pub AskOk : Replication → Request → Type 0
+AskOk l NotRequested = IsAsking l.phase → ⊥
+AskOk l RequestSent = IsAsking l.phase
+AskOk l RequestLost = IsAsking l.phase
+AskOk l (AnsweredWith m) =
+    IsAsking l.phase × (l.prefix ≤ m) × (m ≤ length l.kinds) × AskView l m l.view × AskReadable l m (readable l.in_flight)
+
+pub record IsInvariant (l : Replication) : Type 0 where
+  pub prefix : l.prefix ≤ length l.kinds
+  pub read : ReadableOk l (readable l.in_flight)
+  pub in_flight : InFlightOk l l.in_flight
+  pub view : ViewOk l l.view
+  pub ask : AskOk l l.ask
+  pub heard : l.live ≡ true → l.incoming ≡ AskComes → l.ask ≡ RequestSent

@@ -1,0 +1,4 @@
+pub mod World
+pub mod Outcomes
+pub mod Machines
+pub mod Safe
