@@ -1,4 +1,0 @@
-pub mod Parts
-pub mod Accepted
-pub mod Taking
-pub mod Slots
