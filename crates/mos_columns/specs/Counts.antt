@@ -1,0 +1,57 @@
+-- How often the fields of columns were seen, and what that shows.
+use Rattle.std.specs.Prelude.{ℕ, Bool, true, false, cond, List, [], ◌∷◌, Option, Some, None, map, drop, nat_lt, ◌&&◌, not, ◌+◌}
+use Rattle.mos_fields.specs.Characters.{Text}
+use Rattle.mos_fields.specs.Fields.{same_field}
+use Rattle.mos_fields.specs.declared.field.Field.{Field}
+use Rattle.mos_fields.specs.declared.field.Field.TheVariants as fields
+use Rattle.mos_tables.specs.declared.column.Column.{Column}
+use Rattle.mos_tables.specs.declared.table.Table.{Table}
+use Rattle.mos_tables.specs.Tables.{columns, is_ack, ack_columns}
+use Rattle.mos_grammar.specs.declared.fault.Fault.{Fault}
+use Rattle.mos_grammar.specs.declared.fault.Fault.TheVariants.{Twice as twice, Order as out_of_order}
+use Rattle.mos_grammar.specs.Records.{times, least_count, is_single, is_named, lack_of, or_else}
+
+-- how often the field of each column was seen
+abbrev pub counts_of : List Column → List Field → List ℕ
+counts_of cs seen = map (λ (c : Column). times c.field seen) cs
+
+-- some field was seen
+abbrev pub any_counted : List ℕ → Bool
+any_counted [] = false
+any_counted (k ∷ ks) = cond (nat_lt 0 k) true (any_counted ks)
+
+-- the first required field that was not seen
+abbrev pub lacking_by : List Column → List ℕ → Option Fault
+lacking_by [] ks = None
+lacking_by (c ∷ cs) [] = None
+lacking_by (c ∷ cs) (k ∷ ks) = cond (nat_lt k (least_count c.often)) (Some (lack_of c.field)) (lacking_by cs ks)
+
+-- twice, out of order
+abbrev pub repeated_by : List Column → List ℕ → Text → Option Fault
+repeated_by [] ks n = None
+repeated_by (c ∷ cs) [] n = None
+repeated_by (c ∷ cs) (k ∷ ks) n = cond (is_named c n) (cond (is_single c.often && nat_lt 0 k) (Some (twice c.field)) (cond (any_counted ks) (Some (out_of_order c.field)) None)) (repeated_by cs ks n)
+
+-- the first required field before the column of this name that was not seen
+abbrev pub before_by : List Column → List ℕ → Text → Option Fault
+before_by [] ks n = None
+before_by (c ∷ cs) [] n = None
+before_by (c ∷ cs) (k ∷ ks) n = cond (is_named c n) None (cond (nat_lt k (least_count c.often)) (Some (lack_of c.field)) (before_by cs ks n))
+
+-- what a tag shows
+abbrev pub tag_fault_by : List Column → List ℕ → Text → Option Fault
+tag_fault_by cs ks n = or_else (repeated_by cs ks n) (before_by cs ks n)
+
+-- what a record's end tag shows: of roAck the fields of a group are wanted where one of them was there
+abbrev pub end_fault_by : Table → List ℕ → Option Fault
+end_fault_by t ks = cond (is_ack t && not (any_counted (drop 2 ks))) (lacking_by ack_columns ks) (lacking_by (columns t) ks)
+
+-- one more field was seen
+abbrev pub bumped : List Column → List ℕ → Field → List ℕ
+bumped [] ks f = ks
+bumped (c ∷ cs) [] f = []
+bumped (c ∷ cs) (k ∷ ks) f = cond (same_field c.field f) (k + 1) k ∷ bumped cs ks f
+
+-- behind one more field: the status of a group of roAck ends the group, and then the record's own fields alone count
+abbrev pub noted_by : Table → List ℕ → Field → List ℕ
+noted_by t ks f = cond (is_ack t && same_field f fields.Status) (bumped (columns t) (bumped (columns t) (counts_of (columns t) []) fields.RoID) fields.RoStatus) (bumped (columns t) ks f)

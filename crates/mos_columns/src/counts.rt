@@ -1,0 +1,198 @@
+//! What a tag shows by the fields that were seen.
+ghost use Rattle.std.specs.Prelude.{◌≡◌, List, drop, nat_lt, Option, Some, None};
+ghost use Rattle.mos_fields.specs.declared.field.Field.{Field as FieldOf};
+ghost use Rattle.mos_tables.specs.Tables.{columns as columns_of, ack_columns as ack_columns_of};
+ghost use Rattle.mos_grammar.specs.Records.{column_of, is_named as is_named_of, field_fault, wanted, lacking as lacking_of, lack_of, least_count as least_count_of, is_single as is_single_of};
+ghost use Rattle.mos_columns.specs.Counts.{counts_of, any_counted as any_counted_of, lacking_by, repeated_by, before_by, tag_fault_by, end_fault_by};
+
+use crate::names::is_name;
+use mos_fields::{Field, Form};
+use mos_grammar::Fault;
+use mos_tables::{Column, Often, Shape, Table};
+
+fn is_named(column: &Column, name: &[u16]) -> bool
+    ensures { result ≡ is_named_of column.now name.now }
+{
+    match column.shape {
+        Shape::Message => true,
+        Shape::Leaf(_) | Shape::Raw | Shape::Record(_) => is_name(column.field.name(), name),
+    }
+}
+
+/// The column of an element with this name, if the table has one.
+pub fn find_column(columns: &[Column], name: &[u16]) -> Option<Column>
+    ensures { result ≡ column_of columns.now name.now }
+{
+    match columns {
+        [] => None,
+        [c, cs @ ..] => {
+            if is_named(c, name) {
+                Some(*c)
+            } else {
+                find_column(cs, name)
+            }
+        }
+    }
+}
+
+fn any_counted(counts: &[usize]) -> bool
+    ensures { result ≡ any_counted_of counts.now }
+{
+    match counts {
+        [] => false,
+        [k, ks @ ..] => *k > 0 || any_counted(ks),
+    }
+}
+
+fn lack(field: Field) -> Fault
+    ensures { result ≡ lack_of field }
+{
+    match field {
+        Field::Message => Fault::Tag,
+        _ => Fault::Missing(field),
+    }
+}
+
+fn lacks(column: &Column, count: usize) -> bool
+    ensures { result ≡ nat_lt count (least_count_of (column.now).often) }
+{
+    match column.often {
+        Often::One | Often::Many => count < 1,
+        Often::Optional | Often::Any => false,
+        Often::Count(least) => count < usize::from(least),
+    }
+}
+
+fn lacking(columns: &[Column], counts: &[usize]) -> Option<Fault>
+    ensures { result ≡ lacking_by columns.now counts.now }
+{
+    match columns {
+        [] => None,
+        [c, cs @ ..] => match counts {
+            [] => None,
+            [k, ks @ ..] => {
+                if lacks(c, *k) {
+                    Some(lack(c.field))
+                } else {
+                    lacking(cs, ks)
+                }
+            }
+        },
+    }
+}
+
+fn is_single(often: Often) -> bool
+    ensures { result ≡ is_single_of often }
+{
+    match often {
+        Often::One | Often::Optional => true,
+        Often::Any | Often::Many | Often::Count(_) => false,
+    }
+}
+
+fn repeated(columns: &[Column], counts: &[usize], name: &[u16]) -> Option<Fault>
+    ensures { result ≡ repeated_by columns.now counts.now name.now }
+{
+    match columns {
+        [] => None,
+        [c, cs @ ..] => match counts {
+            [] => None,
+            [k, ks @ ..] => {
+                if !is_named(c, name) {
+                    repeated(cs, ks, name)
+                } else if is_single(c.often) && *k > 0 {
+                    Some(Fault::Twice(c.field))
+                } else if any_counted(ks) {
+                    Some(Fault::Order(c.field))
+                } else {
+                    None
+                }
+            }
+        },
+    }
+}
+
+fn lacking_before(columns: &[Column], counts: &[usize], name: &[u16]) -> Option<Fault>
+    ensures { result ≡ before_by columns.now counts.now name.now }
+{
+    match columns {
+        [] => None,
+        [c, cs @ ..] => match counts {
+            [] => None,
+            [k, ks @ ..] => {
+                if is_named(c, name) {
+                    None
+                } else if lacks(c, *k) {
+                    Some(lack(c.field))
+                } else {
+                    lacking_before(cs, ks, name)
+                }
+            }
+        },
+    }
+}
+
+fn tag_fault(columns: &[Column], counts: &[usize], name: &[u16]) -> Option<Fault>
+    ensures { result ≡ tag_fault_by columns.now counts.now name.now }
+{
+    match repeated(columns, counts, name) {
+        Some(fault) => Some(fault),
+        None => lacking_before(columns, counts, name),
+    }
+}
+
+/// What the tag of a field shows behind the fields seen, which the counts count: that it was there already, that a later
+/// field was there, or the first required field before it that lacks.
+pub fn find_tag_fault(columns: &[Column], counts: &[usize], name: &[u16]) -> Option<Fault>
+    ensures { (seen : List FieldOf) → counts.now ≡ counts_of columns.now seen → result ≡ field_fault columns.now seen name.now }
+{
+    tag_fault(columns, counts, name)
+}
+
+fn has_group(counts: &[usize]) -> bool
+    ensures { result ≡ any_counted_of (drop 2 counts.now) }
+{
+    match counts {
+        [] => false,
+        [_] => false,
+        [_, _, ks @ ..] => any_counted(ks),
+    }
+}
+
+/// The fields of roAck that stand before its groups.
+static ACK: [Column; 2] = [
+    Column {
+        field: Field::RoID,
+        shape: Shape::Leaf(Form::OptId),
+        often: Often::One,
+    },
+    Column {
+        field: Field::RoStatus,
+        shape: Shape::Leaf(Form::Slug),
+        often: Often::One,
+    },
+];
+
+fn ack_columns() -> &'static [Column]
+    ensures { result.now ≡ ack_columns_of }
+{
+    &ACK
+}
+
+fn end_fault(table: Table, counts: &[usize]) -> Option<Fault>
+    ensures { result ≡ end_fault_by table counts.now }
+{
+    if table.has_groups() && !has_group(counts) {
+        lacking(ack_columns(), counts)
+    } else {
+        lacking(table.columns(), counts)
+    }
+}
+
+/// What the end tag of a record shows behind the fields seen, which the counts count: the first required field that
+/// lacks. Of roAck the fields of a group are wanted only where one of them was there.
+pub fn find_end_fault(table: Table, counts: &[usize]) -> Option<Fault>
+    ensures { (seen : List FieldOf) → counts.now ≡ counts_of (columns_of table) seen → result ≡ lacking_of (wanted table seen) seen }
+{
+    end_fault(table, counts)
+}
