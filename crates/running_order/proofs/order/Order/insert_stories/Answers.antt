@@ -1,0 +1,6 @@
+use Rattle.mos_values.specs.Distinct.{story_ids}
+use Rattle.running_order.proofs.Ids.{AreDistinct-right}
+use Rattle.running_order.proofs.order.Order.insert_stories.Goals as goal
+
+pub table_of-requires : goal.table_of-requires
+table_of-requires c = AreDistinct-right (story_ids c.args.self.now.stories) (story_ids (c.args.s.now)) c.requires.distinct

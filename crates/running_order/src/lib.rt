@@ -1,0 +1,14 @@
+//! A running order: a header, and stories with distinct storyIDs, each with items of distinct itemIDs.
+//!
+//! Stories and items are found by their IDs in tables, so that a look-up doesn't walk the order.
+#![tactic(auto)]
+
+mod header;
+mod id_table;
+mod order;
+mod sizes;
+mod splice;
+mod story_entry;
+mod story_table;
+
+pub use order::Order;

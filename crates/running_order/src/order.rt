@@ -1,0 +1,226 @@
+//! A running order.
+ghost use Rattle.std.specs.Prelude.{◌≡◌, ◌<◌, ◌≤◌, ◌++◌, length, remove, swap, slice_get, IfOk, OnOk, OnErr, IfSome};
+ghost use Rattle.std.specs.Option.{option_copied};
+ghost use Rattle.indexmap.specs.IndexMap.{move_index};
+ghost use Rattle.mos_edits.specs.Orders.{patched};
+ghost use Rattle.mos_values.specs.Distinct.{AreDistinct, item_ids, story_ids};
+ghost use Rattle.mos_values.specs.Units.{capped, list_events, units_in};
+ghost use Rattle.running_order.specs.Places.{place_of, put_in, put_over, items_at, edit_items, item_place_of};
+
+use crate::header::put_patch;
+use crate::sizes::order_units;
+use crate::story_table::{StoryTable, table_of};
+use mos_fields::{NoMemory, OptId};
+use mos_values::{Header, HeaderPatch, Items, OrderBody, Stories, Story};
+use std::alloc::Global;
+use std::marker::Model;
+
+/// A running order: a header, and stories with distinct storyIDs, each with items of distinct itemIDs.
+///
+/// Contracts see it as its body: the header, and the list of the stories. Stories and items are found by their IDs
+/// in tables, so a look-up doesn't walk the order and takes no memory. Places count from 0.
+#[derive(Drop)]
+pub struct Order {
+    header: Header,
+    stories: StoryTable,
+}
+
+impl Model for Order {
+    ghost use Rattle.mos_values.specs.OrderValue.{OrderBody as Value_};
+
+    ghost Value = { Value_ };
+
+    ghost view = { λ o. record { header = o.header; stories = o.stories } };
+}
+
+impl Order {
+    /// The order of a body, in memory of its own. The only error is that memory runs out.
+    pub fn from_body(alloc: Global, b: &OrderBody) -> Result<Order, NoMemory>
+        ensures { IfOk result (λ o. o ≡ b.now) }
+    {
+        b.has_distinct_stories();
+        let stories = table_of(alloc, &b.stories)?;
+        let header = b.header.try_clone()?;
+        Ok(Order { header, stories })
+    }
+
+    /// The order as a body, in memory of its own. The only error is that memory runs out.
+    pub fn to_body(&self) -> Result<OrderBody, NoMemory>
+        ensures { IfOk result (λ b. b ≡ self.now) }
+    {
+        let header = self.header.try_clone()?;
+        let stories = self.stories.to_stories()?;
+        self.stories.has_distinct_ids();
+        Ok(OrderBody { header, stories })
+    }
+
+    /// The header.
+    pub fn header(&self) -> &Header
+        ensures { result.now ≡ self.now.header }
+    {
+        &self.header
+    }
+
+    /// Puts each field that the patch gives in place of the old one: a field that is absent and a list that is empty
+    /// leave the old one, and the roID stays. Where memory runs out, the order stays as it was.
+    pub fn apply_header(&mut self, p: &HeaderPatch) -> Result<(), NoMemory>
+        ensures ok { OnOk result (self.new ≡ record self.old { header = patched (p.now) self.old.header }) }
+        ensures err { OnErr result (self.new ≡ self.old) }
+    {
+        let patch = p.try_clone()?;
+        put_patch(&mut self.header, patch);
+        Ok(())
+    }
+
+    /// How many stories there are.
+    pub fn len(&self) -> usize
+        ensures { result ≡ length self.now.stories }
+    {
+        self.stories.len()
+    }
+
+    /// The story at a place; `None` from the end on.
+    pub fn story(&self, i: usize) -> Option<&Story>
+        ensures { option_copied result ≡ slice_get self.now.stories i }
+    {
+        let entry = self.stories.entry(i)?;
+        Some(entry.story())
+    }
+
+    /// The law of the type: no two stories have the same storyID.
+    pub fn has_distinct_stories(&self)
+        ensures { AreDistinct (story_ids self.now.stories) }
+    {
+        self.stories.has_distinct_ids();
+    }
+
+    /// The place of the story with this storyID. No story has an empty one.
+    pub fn story_place(&self, id: &OptId) -> Option<usize>
+        ensures place { result ≡ place_of id.now (story_ids self.now.stories) }
+        ensures within { IfSome result (λ i. i < length self.now.stories) }
+    {
+        self.stories.place(id.text())
+    }
+
+    /// The place of the item with this itemID in the story with this storyID.
+    pub fn item_place(&self, story: &OptId, item: &OptId) -> Option<usize>
+        ensures place { result ≡ item_place_of self.now.stories story.now item.now }
+    {
+        let i = self.stories.place(story.text())?;
+        let entry = self.stories.entry(i)?;
+        entry.item_place(item.text())
+    }
+
+    /// The code units of the canonical roList element of the order, 2^64 - 1 where that is smaller.
+    pub fn size_units(&self) -> u64
+        ensures { result ≡ capped (units_in (list_events self.now)) }
+    {
+        order_units(&self.header, &self.stories)
+    }
+
+    /// Puts copies of stories in before a place, which may be the end. Where memory runs out, the order stays as it was.
+    pub fn insert_stories(&mut self, at: usize, s: &Stories) -> Result<(), NoMemory>
+        requires within { at ≤ length self.old.stories }
+        requires distinct { AreDistinct (story_ids self.old.stories ++ story_ids s.now) }
+        ensures ok { OnOk result (self.new ≡ record self.old { stories = put_in self.old.stories at s.now }) }
+        ensures err { OnErr result (self.new ≡ self.old) }
+    {
+        let new = table_of(self.stories.allocator(), s)?;
+        self.stories.insert_all(at, new)?;
+        Ok(())
+    }
+
+    /// Puts copies of stories in place of the one that stands there. Where memory runs out, the order stays as it was.
+    pub fn replace_story(&mut self, at: usize, s: &Stories) -> Result<(), NoMemory>
+        requires within { at < length self.old.stories }
+        requires distinct { AreDistinct (story_ids (remove self.old.stories at) ++ story_ids s.now) }
+        ensures ok { OnOk result (self.new ≡ record self.old { stories = put_over self.old.stories at s.now }) }
+        ensures err { OnErr result (self.new ≡ self.old) }
+    {
+        let new = table_of(self.stories.allocator(), s)?;
+        self.stories.replace(at, new)?;
+        Ok(())
+    }
+
+    /// Takes out the story at `from`, and puts it back so that it stands at `to`. Takes no memory.
+    pub fn move_story(&mut self, from: usize, to: usize)
+        requires from { from < length self.old.stories }
+        requires to { to < length self.old.stories }
+        ensures { self.new ≡ record self.old { stories = move_index self.old.stories from to } }
+    {
+        self.stories.move_to(from, to);
+    }
+
+    /// Removes the story at this place. Takes no memory.
+    pub fn remove_story(&mut self, at: usize)
+        requires { at < length self.old.stories }
+        ensures { self.new ≡ record self.old { stories = remove self.old.stories at } }
+    {
+        self.stories.remove(at);
+    }
+
+    /// Exchanges two stories. Takes no memory.
+    pub fn swap_stories(&mut self, a: usize, b: usize)
+        requires a { a < length self.old.stories }
+        requires b { b < length self.old.stories }
+        ensures { self.new ≡ record self.old { stories = swap self.old.stories a b } }
+    {
+        self.stories.swap(a, b);
+    }
+
+    /// Puts copies of items in before a place, which may be the end, in the story at the place `story`. Where memory
+    /// runs out, the order stays as it was.
+    pub fn insert_items(&mut self, story: usize, at: usize, i: &Items) -> Result<(), NoMemory>
+        requires story { story < length self.old.stories }
+        requires within { at ≤ length (items_at self.old.stories story) }
+        requires distinct { AreDistinct (item_ids (items_at self.old.stories story ++ i.now)) }
+        ensures ok { OnOk result (self.new ≡ record self.old { stories = edit_items self.old.stories story (λ old. put_in old at i.now) }) }
+        ensures err { OnErr result (self.new ≡ self.old) }
+    {
+        self.stories.insert_items(story, at, i)?;
+        Ok(())
+    }
+
+    /// Puts copies of items in place of the one that stands there, in the story at the place `story`. Where memory runs
+    /// out, the order stays as it was.
+    pub fn replace_item(&mut self, story: usize, at: usize, i: &Items) -> Result<(), NoMemory>
+        requires story { story < length self.old.stories }
+        requires within { at < length (items_at self.old.stories story) }
+        requires distinct { AreDistinct (item_ids (remove (items_at self.old.stories story) at ++ i.now)) }
+        ensures ok { OnOk result (self.new ≡ record self.old { stories = edit_items self.old.stories story (λ old. put_over old at i.now) }) }
+        ensures err { OnErr result (self.new ≡ self.old) }
+    {
+        self.stories.replace_item(story, at, i)?;
+        Ok(())
+    }
+
+    /// Takes out the item at `from` of the story at the place `story`, and puts it back so that it stands at `to`. Takes
+    /// no memory.
+    pub fn move_item(&mut self, story: usize, from: usize, to: usize)
+        requires story { story < length self.old.stories }
+        requires from { from < length (items_at self.old.stories story) }
+        requires to { to < length (items_at self.old.stories story) }
+        ensures { self.new ≡ record self.old { stories = edit_items self.old.stories story (λ old. move_index old from to) } }
+    {
+        self.stories.move_item(story, from, to);
+    }
+
+    /// Removes an item of the story at the place `story`. Takes no memory.
+    pub fn remove_item(&mut self, story: usize, at: usize)
+        requires story { story < length self.old.stories }
+        requires within { at < length (items_at self.old.stories story) }
+        ensures { self.new ≡ record self.old { stories = edit_items self.old.stories story (λ old. remove old at) } }
+    {
+        self.stories.remove_item(story, at);
+    }
+
+    /// Exchanges two items of the story at the place `story`. Takes no memory.
+    pub fn swap_items(&mut self, story: usize, a: usize, b: usize)
+        requires story { story < length self.old.stories }
+        requires a { a < length (items_at self.old.stories story) }
+        requires b { b < length (items_at self.old.stories story) }
+        ensures { self.new ≡ record self.old { stories = edit_items self.old.stories story (λ old. swap old a b) } }
+    {
+        self.stories.swap_items(story, a, b);
+    }
+}

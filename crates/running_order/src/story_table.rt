@@ -1,0 +1,248 @@
+//! Stories in order, with their places by table.
+ghost use Rattle.std.specs.Prelude.{◌≡◌, ℕ, ◌<◌, ◌≤◌, ◌+◌, ◌++◌, [], ◌∷◌, length, take, drop, remove, swap, slice_get, IfOk, OnOk, OnErr, IfSome};
+ghost use Rattle.std.specs.Option.{option_copied};
+ghost use Rattle.indexmap.specs.IndexMap.{index_map_len, move_index};
+ghost use Rattle.mos_values.specs.Distinct.{AreDistinct, item_ids, story_ids};
+ghost use Rattle.mos_values.specs.Units.{capped, units_in};
+ghost use Rattle.mos_values.specs.Views.{stories_events};
+ghost use Rattle.running_order.specs.Places.{place_of, put_in, put_over, items_at, edit_items};
+
+use crate::sizes::plus;
+use crate::story_entry::StoryEntry;
+use indexmap::IndexMap;
+use mos_fields::{NoMemory, Text};
+use mos_values::{Items, Stories, Story, story_units};
+use std::alloc::Global;
+use std::marker::Model;
+
+/// Stories with distinct storyIDs, in order. A look-up doesn't walk them and takes no memory.
+#[derive(Drop)]
+pub struct StoryTable {
+    table: IndexMap<Vec<u16>, StoryEntry>,
+}
+
+impl Model for StoryTable {
+    ghost use Rattle.std.specs.Prelude.{List, map};
+    ghost use Rattle.mos_values.specs.StoryValue.{Story as StoryValue};
+    ghost use Rattle.running_order.specs.Entries.{AreEntries};
+
+    ghost Value = { List StoryValue };
+
+    ghost view = { λ t. map (λ e. e.1) t.table.entries };
+
+    ghost invariant = { λ t. AreEntries t.table.entries };
+}
+
+impl StoryTable {
+    /// No stories. Takes no memory.
+    pub fn new(alloc: Global) -> Self
+        ensures { result ≡ [] }
+    {
+        StoryTable {
+            table: IndexMap::new(alloc),
+        }
+    }
+
+    /// The allocator of the table.
+    pub fn allocator(&self) -> Global {
+        *self.table.allocator()
+    }
+
+    /// How many stories there are.
+    pub fn len(&self) -> usize
+        ensures { result ≡ length self.now }
+    {
+        self.table.len()
+    }
+
+    /// No two stories have the same storyID.
+    pub fn has_distinct_ids(&self)
+        ensures { AreDistinct (story_ids self.now) }
+    {
+        let _len = self.table.len();
+    }
+
+    /// The place of a story.
+    pub fn place(&self, id: &Text) -> Option<usize>
+        ensures place { result ≡ place_of id.now (story_ids self.now) }
+        ensures within { IfSome result (λ i. i < length self.now) }
+    {
+        self.table.get_index_of(id.units())
+    }
+
+    /// The story at a place, with the table of its items.
+    pub fn entry(&self, i: usize) -> Option<&StoryEntry>
+        ensures { option_copied result ≡ slice_get self.now i }
+    {
+        let (_, entry) = self.table.get_index(i)?;
+        Some(entry)
+    }
+
+    /// The code units of the stories' elements in their canonical encoding, 2^64 - 1 where that is smaller.
+    pub fn units(&self) -> u64
+        ensures { result ≡ capped (units_in (stories_events self.now)) }
+    {
+        let mut count = 0;
+        for i in 0..self.table.len() {
+            count = plus(count, story_units(self.table[i].story()));
+        }
+        count
+    }
+
+    /// Copies of the stories, in order. The only error is that memory runs out.
+    pub fn to_stories(&self) -> Result<Stories, NoMemory>
+        ensures { IfOk result (λ l. l ≡ self.now) }
+    {
+        let mut list = Stories::new(self.allocator());
+        for i in 0..self.table.len() {
+            list.push(self.table[i].story().try_clone()?)?;
+        }
+        Ok(list)
+    }
+
+    /// Takes out the story at this place.
+    pub fn remove(&mut self, at: usize)
+        requires { at < length self.old }
+        ensures { self.new ≡ remove self.old at }
+    {
+        self.table.shift_remove_index(at);
+    }
+
+    /// Takes out the story at `from`, and puts it back so that it stands at `to`.
+    pub fn move_to(&mut self, from: usize, to: usize)
+        requires from { from < length self.old }
+        requires to { to < length self.old }
+        ensures { self.new ≡ move_index self.old from to }
+    {
+        self.table.move_index(from, to);
+    }
+
+    /// Exchanges two stories.
+    pub fn swap(&mut self, a: usize, b: usize)
+        requires a { a < length self.old }
+        requires b { b < length self.old }
+        ensures { self.new ≡ swap self.old a b }
+    {
+        self.table.swap_indices(a, b);
+    }
+
+    /// Puts a story at the end, whose storyID isn't there yet.
+    pub fn push(&mut self, alloc: Global, story: Story) -> Result<(), NoMemory>
+        requires { AreDistinct (story_ids self.old ++ story.id ∷ []) }
+        ensures ok { OnOk result (self.new ≡ self.old ++ story ∷ []) }
+        ensures err { OnErr result (self.new ≡ self.old) }
+    {
+        let key = Vec::from_slice(alloc, story.id.text().units())?;
+        let entry = StoryEntry::new(alloc, story)?;
+        self.table.insert(key, entry)?;
+        Ok(())
+    }
+
+    /// Puts the stories of another table in before a place, which may be the end.
+    pub fn insert_all(&mut self, at: usize, mut new: StoryTable) -> Result<(), NoMemory>
+        requires within { at ≤ length self.old }
+        requires distinct { AreDistinct (story_ids self.old ++ story_ids new) }
+        ensures ok { OnOk result (self.new ≡ put_in self.old at new) }
+        ensures err { OnErr result (self.new ≡ self.old) }
+    {
+        let was = self.table.len();
+        self.table.append(&mut new.table)?;
+        move_last(&mut self.table, was, at);
+        Ok(())
+    }
+
+    /// Puts the stories of another table in place of the one that stands there.
+    pub fn replace(&mut self, at: usize, mut new: StoryTable) -> Result<(), NoMemory>
+        requires within { at < length self.old }
+        requires distinct { AreDistinct (story_ids (remove self.old at) ++ story_ids new) }
+        ensures ok { OnOk result (self.new ≡ put_over self.old at new) }
+        ensures err { OnErr result (self.new ≡ self.old) }
+    {
+        self.table.reserve(new.table.len())?;
+        self.table.shift_remove_index(at);
+        let was = self.table.len();
+        self.table.append(&mut new.table).unwrap();
+        move_last(&mut self.table, was, at);
+        Ok(())
+    }
+
+    /// Puts copies of items in before a place in a story.
+    pub fn insert_items(&mut self, story: usize, at: usize, items: &Items) -> Result<(), NoMemory>
+        requires story { story < length self.old }
+        requires within { at ≤ length (items_at self.old story) }
+        requires distinct { AreDistinct (item_ids (items_at self.old story ++ items.now)) }
+        ensures ok { OnOk result (self.new ≡ edit_items self.old story (λ old. put_in old at items.now)) }
+        ensures err { OnErr result (self.new ≡ self.old) }
+    {
+        let entry = &mut self.table[story];
+        entry.insert_items(at, items)
+    }
+
+    /// Puts copies of items in place of one in a story.
+    pub fn replace_item(&mut self, story: usize, at: usize, items: &Items) -> Result<(), NoMemory>
+        requires story { story < length self.old }
+        requires within { at < length (items_at self.old story) }
+        requires distinct { AreDistinct (item_ids (remove (items_at self.old story) at ++ items.now)) }
+        ensures ok { OnOk result (self.new ≡ edit_items self.old story (λ old. put_over old at items.now)) }
+        ensures err { OnErr result (self.new ≡ self.old) }
+    {
+        let entry = &mut self.table[story];
+        entry.replace_item(at, items)
+    }
+
+    /// Removes an item of a story.
+    pub fn remove_item(&mut self, story: usize, at: usize)
+        requires story { story < length self.old }
+        requires within { at < length (items_at self.old story) }
+        ensures { self.new ≡ edit_items self.old story (λ old. remove old at) }
+    {
+        let entry = &mut self.table[story];
+        entry.remove_item(at);
+    }
+
+    /// Takes out an item of a story, and puts it back so that it stands at `to`.
+    pub fn move_item(&mut self, story: usize, from: usize, to: usize)
+        requires story { story < length self.old }
+        requires from { from < length (items_at self.old story) }
+        requires to { to < length (items_at self.old story) }
+        ensures { self.new ≡ edit_items self.old story (λ old. move_index old from to) }
+    {
+        let entry = &mut self.table[story];
+        entry.move_item(from, to);
+    }
+
+    /// Exchanges two items of a story.
+    pub fn swap_items(&mut self, story: usize, a: usize, b: usize)
+        requires story { story < length self.old }
+        requires a { a < length (items_at self.old story) }
+        requires b { b < length (items_at self.old story) }
+        ensures { self.new ≡ edit_items self.old story (λ old. swap old a b) }
+    {
+        let entry = &mut self.table[story];
+        entry.swap_items(a, b);
+    }
+}
+
+/// The table of copies of a list's stories.
+pub fn table_of(alloc: Global, stories: &Stories) -> Result<StoryTable, NoMemory>
+    requires { AreDistinct (story_ids stories.now) }
+    ensures { IfOk result (λ t. t ≡ stories.now) }
+{
+    let mut table = StoryTable::new(alloc);
+    for story in stories.as_slice() {
+        table.push(alloc, story.try_clone()?)?;
+    }
+    Ok(table)
+}
+
+// Moves the entries from `was` on to `at`, in their order.
+fn move_last(map: &mut IndexMap<Vec<u16>, StoryEntry>, was: usize, at: usize)
+    requires end { was ≤ index_map_len map.old }
+    requires within { at ≤ was }
+    ensures { map.new.entries ≡ put_in (take was map.old.entries) at (drop was map.old.entries) }
+{
+    let count = map.len() - was;
+    for k in 0..count {
+        map.move_index(was + k, at + k);
+    }
+}
