@@ -1,0 +1,15 @@
+pub mod RawElements
+pub mod Forms
+pub mod Roles
+pub mod Columns
+pub mod Children
+pub mod Counts
+pub mod Collect
+pub mod Balanced
+pub mod EventLists
+pub mod Taken
+pub mod Names
+pub mod Lengths
+pub mod Fill
+pub mod Typed
+pub mod WholeRecords

@@ -1,0 +1,4 @@
+pub mod Parts
+pub mod Accepted
+pub mod Taking
+pub mod Slots

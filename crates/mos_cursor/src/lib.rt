@@ -1,0 +1,15 @@
+//! The parts of a record's value.
+#![tactic(auto)]
+
+mod cursor;
+mod laws;
+mod numbers;
+mod record;
+mod slot;
+mod take;
+mod texts;
+
+pub use cursor::Cursor;
+pub use laws::{whole_record, written_tags};
+pub use record::record_slots;
+pub use slot::{LeafText, Nested, Slot};
