@@ -12,7 +12,7 @@ use Rattle.mos_fields.specs.Forms.{is_white}
 use Rattle.mos_fields.specs.Names.{is_name}
 use Rattle.mos_fields.specs.Raw.{end_text, ends_with, is_space}
 use Rattle.mos_scanner.specs.References.{is_ascii}
-use Rattle.mos_scanner.proofs.CharacterLemmas.{chars_of-pair, chars_of-unpaired}
+use Rattle.mos_fields.proofs.CharacterLemmas.{chars_of-pair, chars_of-unpaired}
 use Rattle.mos_scanner.proofs.PartLemmas.{name_is_ascii}
 
 -- ---- units and characters

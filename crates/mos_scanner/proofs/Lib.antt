@@ -1,4 +1,3 @@
-pub mod CharacterLemmas
 pub mod PartLemmas
 pub mod LexSteps
 pub mod TagLemmas
@@ -10,4 +9,3 @@ pub mod NumberLemmas
 pub mod HeldLemmas
 pub mod RunLemmas
 pub mod RunSteps
-pub mod UnitLemmas

@@ -12,7 +12,7 @@ use Rattle.mos_fields.specs.Names.{is_empty, is_name, named, is_start, is_furthe
 use Rattle.mos_scanner.specs.Parts.{part, IsCharacter}
 use Rattle.mos_scanner.specs.ScannerView.{IsNameIn, IsTextIn}
 use Rattle.mos_scanner.specs.References.{is_ascii}
-use Rattle.mos_scanner.proofs.CharacterLemmas.{one_unit, chars_of-units_of, IsUtf16-units_of, IsUtf16-nil}
+use Rattle.mos_fields.proofs.CharacterLemmas.{one_unit, chars_of-units_of, IsUtf16-units_of, IsUtf16-nil}
 
 take_plus : (h n : ℕ) (xs : List ℕ) → take (h + n) xs ≡ take h xs ++ take n (drop h xs)
 take_plus zero n xs = ap (λ (k : ℕ). take k xs) (let e : 0 + n ≡ n = omega arith in e)

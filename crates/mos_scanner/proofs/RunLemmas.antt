@@ -16,7 +16,7 @@ use Rattle.mos_lexer.specs.LexMachine.{Tag, in_text, in_tail, in_value, start_na
 use Rattle.mos_scanner.specs.Parts.{part}
 use Rattle.mos_scanner.specs.Runs.{is_lone, is_plain_but, goes_on, lex_run}
 use Rattle.mos_scanner.specs.ScannerView.{IsTextIn}
-use Rattle.mos_scanner.proofs.CharacterLemmas.{one_unit, chars_of-units_of, IsUtf16-units_of}
+use Rattle.mos_fields.proofs.CharacterLemmas.{one_unit, chars_of-units_of, IsUtf16-units_of}
 use Rattle.mos_scanner.proofs.PartLemmas.{part_split, name_push}
 use Rattle.mos_scanner.proofs.EndLemmas.{end_without_mark}
 use Rattle.mos_scanner.proofs.LexSteps.{text_more, tail_more, value_more, name_more, end_more}

@@ -5,7 +5,7 @@ use Rattle.mos_fields.specs.Names.{is_empty, is_name, is_start, may_grow}
 use Rattle.mos_tables.specs.Events.{Attribute}
 use Rattle.mos_scanner.specs.Parts.{part, IsCharacter}
 use Rattle.mos_scanner.specs.ScannerView.{IsNameIn, IsTextIn, IsOpenTag, IsGiven, IsValued, IsBegun, IsInTag, IsInStartName, IsInEndName, IsInEndWhite}
-use Rattle.mos_scanner.proofs.CharacterLemmas.{one_unit, chars_of-lone, IsUtf16-units_of}
+use Rattle.mos_fields.proofs.CharacterLemmas.{one_unit, chars_of-lone, IsUtf16-units_of}
 use Rattle.std.proofs.lemmas.Bool.{and_parts}
 use Rattle.mos_scanner.proofs.PartLemmas.{part_none, part_more, next_one, text_more, name_more, name_begun, name_chars, name_first, name_push, length-part, grow_small}
 

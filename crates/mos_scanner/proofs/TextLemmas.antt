@@ -18,7 +18,7 @@ use Rattle.mos_scanner.specs.ScannerView.{raw_of, resolved, resolved_units, tag_
 use Rattle.mos_scanner.specs.declared.mode.Mode.TheVariants.{InText, TextReference, InValue, ValueReference}
 use Rattle.mos_scanner.specs.declared.scanned.Scanned.TheVariants.{More}
 use Rattle.mos_scanner.specs.declared.scanner.Scanner.{Scanner}
-use Rattle.mos_scanner.proofs.CharacterLemmas.{chars_of-nil}
+use Rattle.mos_fields.proofs.CharacterLemmas.{chars_of-nil}
 use Rattle.mos_scanner.proofs.PartLemmas.{part_none, part_more, length-part, Grows, grows, chars_more, text_more, text_none}
 use Rattle.mos_scanner.proofs.TagLemmas.{valued_more}
 use Rattle.mos_scanner.proofs.LexSteps.{text_begins_reference, text_more as lex_text_more, text_found, text_refers, value_begins_reference, value_more, value_found, value_refers}

@@ -1,7 +1,7 @@
 use Rattle.std.proofs.Common.{sym, ap, ◌∙◌, subst, eq-eqb, ne_eqb}
 use Rattle.mos_fields.specs.Characters.{IsUtf16, chars_of}
 use Rattle.mos_scanner.proofs.PartLemmas.{part_none}
-use Rattle.mos_scanner.proofs.CharacterLemmas.{chars_of-nil, IsUtf16-nil}
+use Rattle.mos_fields.proofs.CharacterLemmas.{chars_of-nil, IsUtf16-nil}
 use Rattle.mos_scanner.proofs.TagLemmas.{tag_begun}
 use Rattle.mos_scanner.proofs.TextLemmas.{begun_text, begun_chars, reference_begun}
 use Rattle.mos_scanner.proofs.LexSteps.{begin_tag, begin_mark, begin_reference, begin_text}

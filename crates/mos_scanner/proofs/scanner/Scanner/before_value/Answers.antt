@@ -3,7 +3,7 @@ use Rattle.mos_fields.specs.Characters.{chars_of}
 use Rattle.mos_scanner.specs.ScannerView.{raw_of, tag_of, given_name, IsSoundAt, state_of}
 use Rattle.mos_lexer.specs.LexMachine.{continues}
 use Rattle.mos_scanner.proofs.PartLemmas.{part_none, chars_more, text_none}
-use Rattle.mos_scanner.proofs.CharacterLemmas.{chars_of-nil}
+use Rattle.mos_fields.proofs.CharacterLemmas.{chars_of-nil}
 use Rattle.mos_scanner.proofs.TagLemmas.{given_more}
 use Rattle.mos_scanner.proofs.LexSteps.{value_space, value_quote, value_none}
 use Rattle.mos_scanner.proofs.scanner.Scanner.before_value.Goals as goal

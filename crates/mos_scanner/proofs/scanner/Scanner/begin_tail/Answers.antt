@@ -2,7 +2,7 @@ use Rattle.std.proofs.Common.{ap, ◌∙◌}
 use Rattle.mos_fields.specs.Characters.{chars_of}
 use Rattle.mos_lexer.specs.LexMachine.{in_tail}
 use Rattle.mos_scanner.specs.ScannerView.{tag_name}
-use Rattle.mos_scanner.proofs.CharacterLemmas.{chars_of-nil}
+use Rattle.mos_fields.proofs.CharacterLemmas.{chars_of-nil}
 use Rattle.mos_scanner.proofs.PartLemmas.{part_none, text_none}
 use Rattle.mos_scanner.proofs.scanner.Scanner.begin_tail.Goals as goal
 
