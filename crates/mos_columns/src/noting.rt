@@ -74,7 +74,7 @@ fn push_zeros(columns: &[Column], out: &mut Vec<usize>) -> Result<(), NoMemory>
     }
 }
 
-/// The counts of a record that has seen no field.
+/// The counts of a record that has seen no field. The only error is that memory runs out.
 pub fn start_counts(alloc: Global, columns: &[Column]) -> Result<Vec<usize>, NoMemory>
     ensures { IfOk result (λ v. v.items ≡ counts_of columns.now []) }
 {
@@ -126,7 +126,7 @@ fn noted(
 }
 
 /// The counts behind one more field, where the counts so far count the fields seen. Behind the status of a group of roAck
-/// the group's fields count no more.
+/// the group's fields count no more. The only error is that memory runs out.
 pub fn note(
     alloc: Global,
     table: Table,

@@ -110,7 +110,7 @@ fn unreads_of(alloc: Global, texts: Sequence<Text>) -> Result<Unreads, NoMemory>
 
 #[tactic(auto, unfolding(mos_values::specs::Parts::must, mos_values::specs::Parts::maybe_as, mos_values::specs::Parts::raws))]
 impl Slot {
-    /// The number of samples of a field that has to be there.
+    /// The number of samples of a field that has to be there. The only error is that memory runs out.
     pub fn samples(self, alloc: Global) -> Result<Samples, NoMemory>
         requires { OneLeaf forms.Samples (part_of self) }
         ensures { IfOk result (λ n. (f : Field_) → part_events f (part_of self) ≡ must f (samples_text n)) }
@@ -121,7 +121,7 @@ impl Slot {
         }
     }
 
-    /// The number of samples of a field that may be absent.
+    /// The number of samples of a field that may be absent. The only error is that memory runs out.
     pub fn optional_samples(self, alloc: Global) -> Result<Option<Samples>, NoMemory>
         requires { OptionalLeaf forms.Samples (part_of self) }
         ensures { IfOk result (λ n. (f : Field_) → part_events f (part_of self) ≡ maybe_as samples_text f n) }
@@ -133,7 +133,7 @@ impl Slot {
         }
     }
 
-    /// The time of a field that has to be there.
+    /// The time of a field that has to be there. The only error is that memory runs out.
     pub fn time(self, alloc: Global) -> Result<MosTime, NoMemory>
         requires { OneLeaf forms.Time (part_of self) }
         ensures { IfOk result (λ t. (f : Field_) → part_events f (part_of self) ≡ must f (time_text t)) }
@@ -145,6 +145,7 @@ impl Slot {
     }
 
     /// Whether something is ready to go on air, of a field that has to be there.
+    /// The only error is that memory runs out.
     pub fn air(self, alloc: Global) -> Result<Air, NoMemory>
         requires { OneLeaf forms.Air (part_of self) }
         ensures { IfOk result (λ a. (f : Field_) → part_events f (part_of self) ≡ must f (air_text a)) }
@@ -155,7 +156,7 @@ impl Slot {
         }
     }
 
-    /// The raw elements of a field.
+    /// The raw elements of a field. The only error is that memory runs out.
     pub fn raws(self, alloc: Global) -> Result<Unreads, NoMemory>
         requires { AnyRaws (part_of self) }
         ensures { IfOk result (λ xs. (f : Field_) → part_events f (part_of self) ≡ raws f xs) }

@@ -71,7 +71,7 @@ pub fn patch_of(alloc: Global, cursor: Cursor) -> Result<HeaderPatch, NoMemory>
     )
 }
 
-/// The identifier of an order.
+/// The identifier of an order, from the events of a record that holds only it. The only error is that memory runs out.
 #[tactic(auto, unfolding(mos_values::specs::Parts::must))]
 pub fn order_of(alloc: Global, cursor: Cursor) -> Result<Id, NoMemory>
     requires { (taken : List Text) × IsAccepted tables.OneOrder taken cursor }
