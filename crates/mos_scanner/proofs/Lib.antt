@@ -9,3 +9,4 @@ pub mod NumberLemmas
 pub mod HeldLemmas
 pub mod RunLemmas
 pub mod RunSteps
+pub mod UnitLemmas
