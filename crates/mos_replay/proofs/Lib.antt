@@ -1,0 +1,6 @@
+pub mod Written
+pub mod Standing
+pub mod Streams
+pub mod Slices
+pub mod Answering
+pub mod Endings

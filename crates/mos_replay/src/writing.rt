@@ -1,0 +1,44 @@
+//! Writing the answers.
+ghost use Rattle.std.specs.Prelude.{◌≤◌, IfOk};
+ghost use Rattle.mos_replay.specs.Writings.{AreAllFine, AreFineTexts, AreWritten, IsAnswerTo, IsWritten};
+
+use crate::answers::encoded_answer;
+use crate::envelopes::envelope_of;
+use crate::messages::Texts;
+use mos_fields::NoMemory;
+use mos_io::{Sink, SinkFault};
+use std::alloc::Global;
+
+/// The canonical encoding of the answer to the message of these texts.
+fn answer_to_texts(alloc: Global, texts: &Texts) -> Result<Vec<u8>, NoMemory>
+    requires { AreFineTexts texts.now }
+    ensures { IfOk result (λ bytes. IsAnswerTo texts.now bytes.items) }
+{
+    match envelope_of(alloc, &texts.head, &texts.message)? {
+        None => unreachable!(),
+        Some(e) => encoded_answer(alloc, &e),
+    }
+}
+
+/// Writes the answer to the message of these texts in one piece.
+fn write_answer<K: Sink>(alloc: Global, texts: &Texts, sink: &mut K) -> Result<(), SinkFault>
+    requires { AreFineTexts texts.now }
+    ensures written { IsWritten texts.now (K.written sink.old) (K.written sink.new) (K.faults sink.old) (K.faults sink.new) result }
+    ensures rises { K.faults sink.old ≤ K.faults sink.new }
+{
+    match answer_to_texts(alloc, texts) {
+        Ok(bytes) => sink.write_piece(bytes.as_slice()),
+        Err(_) => Err(SinkFault::NoMemory),
+    }
+}
+
+/// Writes the answers to the messages of these texts, each in one piece.
+pub fn write_answers<K: Sink>(alloc: Global, all: &[Texts], sink: &mut K) -> Result<(), SinkFault>
+    requires { AreAllFine all.now }
+    ensures { AreWritten all.now (K.written sink.old) (K.written sink.new) (K.faults sink.old) (K.faults sink.new) result }
+{
+    for texts in all {
+        write_answer(alloc, texts, sink)?;
+    }
+    Ok(())
+}
