@@ -8,10 +8,10 @@ use Rattle.mos_io.specs.Counts.{Rose}
 use Rattle.mos_io.specs.declared.sink.SinkFault.{SinkFault}
 use Rattle.mos_io.specs.declared.sink.SinkFault.TheVariants.{Failed, NoMemory}
 use Rattle.mos_values.specs.declared.message.Envelope.{Envelope}
-use Rattle.mos_replay.specs.Encodings.{AreReadable, encoding, encodings}
+use Rattle.canonical_answers.specs.Encodings.{AreReadable, encoding, encodings}
 use Rattle.mos_replay.specs.declared.messages.Texts.{Texts}
 use Rattle.mos_replay.specs.TextLists.{AreMadeOf, IsMadeOfTexts}
-use Rattle.mos_replay.specs.Taking.{answer_of, take_output}
+use Rattle.canonical_answers.specs.Taking.{answer_of, take_output}
 use Rattle.mos_replay.specs.Writings.{AreFineTexts, AreAllFine, AreWritten, IsAnswerTo, IsWritten}
 use Rattle.mos_replay.proofs.Streams.{made-append}
 
@@ -58,13 +58,11 @@ both_appended (Some zs) now after xs ys h k = subst (λ (o : Option (List ℕ)).
 pub more_written : (ts : List Texts) (i : ℕ) (t : Texts) (es : List Envelope) (bytes : List ℕ) (before now after : Option (List ℕ)) → i < length ts → t ≡ get_or ts i t
     → AreMadeOf (take i ts) es → Appends before now (take_output es) → IsAnswerTo t bytes → Appends now after bytes
     → (fs : List Envelope) × AreMadeOf (take (i + 1) ts) fs × Appends before after (take_output fs)
-more_written ts i t es bytes before now after lt is made first answer next = (es ++ answer.envelope ∷ [],
-    subst (λ (us : List Texts). AreMadeOf us (es ++ answer.envelope ∷ [])) (sym (take_more ts i t lt ∙ ap (λ (u : Texts). take i ts ++ u ∷ []) (sym is))) (made-append (take i ts) es t answer.envelope made answer.made),
-    subst (λ (xs : List ℕ). Appends before after xs) (ap (λ (xs : List ℕ). take_output es ++ xs) (answer.is ∙ sym (append-nil (encoding (answer_of answer.envelope)))) ∙ sym (flat_map-append (λ e. encoding (answer_of e)) es (answer.envelope ∷ []))) (both_appended before now after (take_output es) bytes first next))
-
--- the answer to an envelope that is made of the texts
-pub answer_made : (t : Texts) (e : Envelope) (bytes : List ℕ) → IsMadeOfTexts t e → bytes ≡ encoding (answer_of e) → IsAnswerTo t bytes
-answer_made t e bytes made is = record { envelope = e; made = made; is = is }
+more_written ts i t es bytes before now after lt is made first answer next = (
+  es ++ answer.envelope ∷ [],
+  subst (λ (us : List Texts). AreMadeOf us (es ++ answer.envelope ∷ [])) (sym (take_more ts i t lt ∙ ap (λ (u : Texts). take i ts ++ u ∷ []) (sym is))) (made-append (take i ts) es t answer.envelope made answer.made),
+  subst (λ (xs : List ℕ). Appends before after xs) (ap (λ (xs : List ℕ). take_output es ++ xs) (answer.is ∙ sym (append-nil (encoding (answer_of answer.envelope)))) ∙ sym (flat_map-append (λ e. encoding (answer_of e)) es (answer.envelope ∷ []))) (both_appended before now after (take_output es) bytes first next),
+)
 
 -- a count that rose from a later value rose from an earlier one
 rose_before : (a b c : ℕ) → a ≤ b → Rose b c → Rose a c

@@ -6,13 +6,13 @@ use Rattle.mos_io.specs.declared.sink.SinkFault.{SinkFault}
 use Rattle.mos_io.specs.declared.sink.SinkFault.TheVariants.{Failed, NoMemory}
 use Rattle.mos_values.specs.declared.message.Envelope.{Envelope}
 use Rattle.canonical_reader.specs.Inputs.{ReadsAll}
-use Rattle.mos_replay.specs.Encodings.{AreReadable, IsStream, encodings}
+use Rattle.canonical_answers.specs.Encodings.{AreReadable, IsStream, encodings}
 use Rattle.mos_replay.specs.declared.status.Status.{Status}
 use Rattle.mos_replay.specs.declared.status.Status.TheVariants as statuses
 use Rattle.mos_replay.specs.declared.messages.Texts.{Texts}
 use Rattle.mos_replay.specs.TextLists.{AreMadeOf, AreAllRead}
 use Rattle.mos_replay.specs.Writings.{AreWritten}
-use Rattle.mos_replay.specs.Taking.{take_output, refused_line}
+use Rattle.canonical_answers.specs.Taking.{take_output, refused_line}
 use Rattle.mos_replay.specs.Running.{AreAnswered, AreRefused, Ends, IsTaken, IsRefused, fault_status}
 use Rattle.mos_replay.proofs.Answering.{all_readable, same_encodings}
 

@@ -1,4 +1,3 @@
-pub mod Written
 pub mod Standing
 pub mod Streams
 pub mod Slices

@@ -14,9 +14,10 @@ use Rattle.canonical_reader.specs.Fronts.{text_bytes, IsRead, NoneReads}
 use Rattle.canonical_reader.specs.Heads.{head_text, IsHeadRead, NoHead}
 use Rattle.canonical_reader.specs.Messages.{Told, told_form, IsToldAllowed}
 use Rattle.canonical_reader.specs.Messages.Told.{Beat, Deletes, Creates}
-use Rattle.mos_replay.specs.Encodings.{IsReadable, IsReadableMessage, encoding}
-use Rattle.mos_replay.specs.Making.{told, IsToldFine, AreValues, IsMadeOf, NoMessage, IsMessageRead, EndsAt, IsOnlyMessage, IsReadTo}
-use Rattle.mos_replay.proofs.Written.{encoding_text}
+use Rattle.canonical_answers.specs.Encodings.{IsReadable, IsReadableMessage, encoding}
+use Rattle.canonical_answers.specs.Making.{told, IsToldFine, AreValues, IsMadeOf}
+use Rattle.mos_replay.specs.Making.{NoMessage, IsMessageRead, EndsAt, IsOnlyMessage, IsReadTo}
+use Rattle.canonical_answers.proofs.Written.{encoding_text}
 use Rattle.plain_orders.specs.Orders.{order_texts}
 use Rattle.plain_orders.proofs.PlainOrders.{order_allowed}
 
@@ -154,3 +155,9 @@ pub read_or_not : (bytes : List ℕ) (at : ℕ) (mos ncs id : Text) (t : Told) (
     → (o : Option ℕ) → MatchOption o ((rest : List ℕ) → drop at bytes ≡ encoding e ++ rest → ⊥) (EndsAt bytes at (encoding e)) → MatchOption o (NoMessage bytes at) (IsReadTo bytes at mos ncs id t)
 read_or_not bytes at mos ncs id t e made only within None stops = not_standing bytes at e only stops
 read_or_not bytes at mos ncs id t e made only within (Some end) s = record { envelope = e; made = made; read = standing bytes at e only end within s }
+
+-- what is said of a part that is the encoding of an envelope
+pub encoded_part : (bytes : List ℕ) (at : ℕ) (part : List ℕ) (e : Envelope) → part ≡ encoding e
+    → (o : Option ℕ) → MatchOption o ((rest : List ℕ) → drop at bytes ≡ part ++ rest → ⊥) (EndsAt bytes at part) → MatchOption o ((rest : List ℕ) → drop at bytes ≡ encoding e ++ rest → ⊥) (EndsAt bytes at (encoding e))
+encoded_part bytes at part e is None stops = λ rest q. stops rest (q ∙ ap (λ (xs : List ℕ). xs ++ rest) (sym is))
+encoded_part bytes at part e is (Some end) s = subst (λ (xs : List ℕ). EndsAt bytes at xs end) is s

@@ -2,7 +2,7 @@
 use Rattle.std.proofs.Common.{◌≡◌, ℕ, ◌+◌, ◌<◌, ◌≤◌, ◌∙◌, List, [], ◌∷◌, ◌++◌, length, drop, true, refl, sym, ap, subst, arith, append_assoc, append-nil, length-drop}
 use Rattle.std.proofs.lemmas.Grind.{flat_map-append}
 use Rattle.mos_values.specs.declared.message.Envelope.{Envelope}
-use Rattle.mos_replay.specs.Encodings.{IsReadable, AreReadable, IsStream, encoding, encodings}
+use Rattle.canonical_answers.specs.Encodings.{IsReadable, AreReadable, IsStream, encoding, encodings}
 use Rattle.mos_replay.specs.declared.messages.Texts.{Texts}
 use Rattle.mos_replay.specs.TextLists.{AreMadeOf, IsMadeOfTexts}
 use Rattle.mos_replay.specs.Making.{NoMessage, IsMessageRead, AreRead}

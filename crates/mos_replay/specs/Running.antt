@@ -6,10 +6,10 @@ use Rattle.mos_io.specs.declared.sink.SinkFault.{SinkFault}
 use Rattle.mos_io.specs.declared.sink.SinkFault.TheVariants as sink_faults
 use Rattle.mos_values.specs.declared.message.Envelope.{Envelope}
 use Rattle.canonical_reader.specs.Inputs.{ReadsAll}
-use Rattle.mos_replay.specs.Encodings.{AreReadable, IsStream, encodings}
+use Rattle.canonical_answers.specs.Encodings.{AreReadable, IsStream, encodings}
 use Rattle.mos_replay.specs.declared.status.Status.{Status}
 use Rattle.mos_replay.specs.declared.status.Status.TheVariants as statuses
-use Rattle.mos_replay.specs.Taking.{take_output, refused_line}
+use Rattle.canonical_answers.specs.Taking.{take_output, refused_line}
 
 -- Done: the input was read to its end, is a stream of readable messages, and their answers were written, nothing else
 abbrev pub IsTaken : Option (List ℕ) → Option (List ℕ) → Option (List ℕ) → Option (List ℕ) → Type 0

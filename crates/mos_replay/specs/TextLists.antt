@@ -3,8 +3,8 @@ use Rattle.std.specs.Prelude.{◌≡◌, ℕ, List, [], ◌∷◌}
 use Rattle.mos_values.specs.declared.message.Envelope.{Envelope}
 use Rattle.canonical_reader.specs.Messages.{told_of}
 use Rattle.mos_replay.specs.declared.messages.Texts.{Texts}
-use Rattle.mos_replay.specs.Encodings.{AreReadable, encodings}
-use Rattle.mos_replay.specs.Making.{IsMadeOf}
+use Rattle.canonical_answers.specs.Encodings.{AreReadable, encodings}
+use Rattle.canonical_answers.specs.Making.{IsMadeOf}
 
 -- a readable envelope of these texts
 abbrev pub IsMadeOfTexts : Texts → Envelope → Type 0

@@ -7,9 +7,9 @@ use Rattle.mos_io.specs.declared.sink.SinkFault.TheVariants.{Failed, NoMemory}
 use Rattle.mos_values.specs.declared.message.Envelope.{Envelope}
 use Rattle.canonical_reader.specs.Messages.{told_of}
 use Rattle.mos_replay.specs.declared.messages.Texts.{Texts}
-use Rattle.mos_replay.specs.Encodings.{encoding}
-use Rattle.mos_replay.specs.Making.{AreValues}
-use Rattle.mos_replay.specs.Taking.{answer_of, take_output}
+use Rattle.canonical_answers.specs.Encodings.{encoding}
+use Rattle.canonical_answers.specs.Making.{AreValues, IsAnswered}
+use Rattle.canonical_answers.specs.Taking.{answer_of, take_output}
 use Rattle.mos_replay.specs.TextLists.{IsMadeOfTexts, AreMadeOf}
 
 -- each text is a value of its type
@@ -21,10 +21,8 @@ AreAllFine [] = Unit {0}
 AreAllFine (t ∷ ts) = AreFineTexts t × AreAllFine ts
 
 -- these bytes are the answer to a message of these texts
-pub record IsAnswerTo (t : Texts) (bytes : List ℕ) : Type 0 where
-  pub envelope : Envelope
-  pub made : IsMadeOfTexts t envelope
-  pub is : bytes ≡ encoding (answer_of envelope)
+abbrev pub IsAnswerTo : Texts → List ℕ → Type 0
+IsAnswerTo t bytes = IsAnswered t.head.mos.items t.head.ncs.items t.head.message_id.items (told_of t.message) bytes
 
 -- the answer to a message of these texts was written
 abbrev pub IsWritten : Texts → Option (List ℕ) → Option (List ℕ) → ℕ → ℕ → Result (Unit {0}) SinkFault → Type 0

@@ -2,8 +2,6 @@
 //! a heartbeat, a roCreate or a roDelete in its canonical encoding; standard output is what a device answers.
 #![tactic(auto)]
 
-mod answers;
-mod envelopes;
 mod messages;
 mod run;
 mod status;
@@ -13,8 +11,9 @@ use mos_io::{Capped, StdSink, StdSource};
 use run::mos_run;
 use status::Status;
 use std::alloc::AllocError;
+use std::env;
+use std::io::Lock;
 use std::process::ExitCode;
-use std::{env, io::Lock};
 
 /// The most bytes that a run reads. It ends with a fault of reading where there are as many.
 const MOST: u64 = 1_073_741_824;

@@ -3,15 +3,13 @@ ghost use Rattle.std.specs.Prelude.{◌≡◌, ◌≤◌, ℕ, List, ◌++◌, I
 ghost use Rattle.canonical_reader.specs.Fronts.{IsRead};
 ghost use Rattle.canonical_reader.specs.Heads.{IsHeadRead};
 ghost use Rattle.canonical_reader.specs.Messages.{IsToldAllowed, told_form, told_of};
-ghost use Rattle.mos_replay.specs.Encodings.{IsStream, encoding};
+ghost use Rattle.canonical_answers.specs.Encodings.{IsStream};
 ghost use Rattle.mos_replay.specs.TextLists.{AreAllRead};
 ghost use Rattle.mos_replay.specs.Making.{EndsAt, IsReadTo, NoMessage};
 
-use crate::envelopes::envelope_of;
+use canonical_answers::encoded_of;
 use canonical_reader::{Head, MessageTexts, behind, read_head, read_message as read_element};
 use mos_fields::NoMemory;
-use mos_messages::encode;
-use mos_values::Envelope;
 use std::alloc::Global;
 
 /// Whether these bytes stand at a place.
@@ -22,30 +20,35 @@ fn stand_at(bytes: &[u8], at: usize, part: &[u8]) -> bool
     behind(bytes, at).starts_with(part)
 }
 
-/// Where the encoding of an envelope ends that stands at a place. None exactly where it doesn't stand there.
-fn end_of(alloc: Global, bytes: &[u8], at: usize, e: &Envelope) -> Result<Option<usize>, NoMemory>
+/// Where the part ends that stands at a place. None exactly where it doesn't stand there.
+fn end_of(bytes: &[u8], at: usize, part: &[u8]) -> Option<usize>
     requires { at ≤ length bytes.now }
-    ensures { IfOk result (λ o. MatchOption o ((rest : List ℕ) → drop at bytes.now ≡ encoding e.now ++ rest → ⊥) (EndsAt bytes.now at (encoding e.now))) }
+    ensures { MatchOption result ((rest : List ℕ) → drop at bytes.now ≡ part.now ++ rest → ⊥) (EndsAt bytes.now at part.now) }
 {
-    let encoded = encode(alloc, e)?;
-    if stand_at(bytes, at, encoded.as_slice()) {
-        Ok(Some(at + encoded.len()))
+    if stand_at(bytes, at, part) {
+        Some(at + part.len())
     } else {
-        Ok(None)
+        None
     }
 }
 
 /// Where the message of these texts ends, which are those of any message that stands at a place. None exactly where
 /// none stands there.
-fn end_of_texts(alloc: Global, bytes: &[u8], at: usize, head: &Head, texts: &MessageTexts) -> Result<Option<usize>, NoMemory>
+fn end_of_texts(
+    alloc: Global,
+    bytes: &[u8],
+    at: usize,
+    head: &Head,
+    texts: &MessageTexts,
+) -> Result<Option<usize>, NoMemory>
     requires at { at ≤ length bytes.now }
     requires front { IsHeadRead bytes.now at head.now }
     requires element { (end : ℕ) × IsRead told_form IsToldAllowed bytes.now head.now.end (told_of texts.now) end }
     ensures { IfOk result (λ o. MatchOption o (NoMessage bytes.now at) (IsReadTo bytes.now at head.now.mos.items head.now.ncs.items head.now.message_id.items (told_of texts.now))) }
 {
-    match envelope_of(alloc, head, texts)? {
+    match encoded_of(alloc, head, texts)? {
         None => Ok(None),
-        Some(e) => end_of(alloc, bytes, at, &e),
+        Some(encoded) => Ok(end_of(bytes, at, encoded.as_slice())),
     }
 }
 
@@ -58,7 +61,12 @@ pub struct Texts {
 }
 
 /// The texts of the message behind this front.
-fn read_behind(alloc: Global, bytes: &[u8], at: usize, head: Head) -> Result<Option<Texts>, NoMemory>
+fn read_behind(
+    alloc: Global,
+    bytes: &[u8],
+    at: usize,
+    head: Head,
+) -> Result<Option<Texts>, NoMemory>
     requires at { at ≤ length bytes.now }
     requires within { head.end ≤ length bytes.now }
     requires front { IsHeadRead bytes.now at head }

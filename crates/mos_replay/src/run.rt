@@ -4,7 +4,7 @@ ghost use Rattle.mos_io.specs.Counts.{Rose};
 ghost use Rattle.canonical_reader.specs.Inputs.{IsBounded};
 ghost use Rattle.mos_replay.specs.Running.{Ends, IsRefused, IsTaken};
 ghost use Rattle.mos_replay.specs.TextLists.{AreAllRead};
-ghost use Rattle.mos_replay.specs.Encodings.{IsStream};
+ghost use Rattle.canonical_answers.specs.Encodings.{IsStream};
 ghost use Rattle.mos_replay.specs.Running.{fault_status};
 ghost use Rattle.mos_replay.specs.Words.{IsTake};
 
@@ -41,7 +41,12 @@ fn is_take(words: &[String]) -> bool
 /// end and isn't of that form; `Usage` exactly where the words aren't `take` alone, and then nothing is read or
 /// written; `ReadFault` and `WriteFault` only where the source's or the sink's count of faults rose. The source tells
 /// a bound below 2^64 on the bytes that it may still give.
-pub fn mos_run<S: Source, K: Sink>(alloc: Global, words: &[String], source: &mut S, sink: &mut K) -> Status
+pub fn mos_run<S: Source, K: Sink>(
+    alloc: Global,
+    words: &[String],
+    source: &mut S,
+    sink: &mut K,
+) -> Status
     requires { IsBounded (S.bound source.old) }
     ensures usage { result ≡ Status.Usage → (IsTake (map string_bytes words.now) → ⊥) × (source.new ≡ source.old) × (sink.new ≡ sink.old) }
     ensures used { IsTake (map string_bytes words.now) → result ≢ Status.Usage }
@@ -90,7 +95,12 @@ fn answer_all<K: Sink>(alloc: Global, bytes: &[u8], all: &[Texts], sink: &mut K)
 }
 
 /// Writes what a device answers to the messages that these bytes are, or that they are none.
-fn answer_or_refuse<K: Sink>(alloc: Global, bytes: &[u8], all: &Option<Vec<Texts>>, sink: &mut K) -> Status
+fn answer_or_refuse<K: Sink>(
+    alloc: Global,
+    bytes: &[u8],
+    all: &Option<Vec<Texts>>,
+    sink: &mut K,
+) -> Status
     requires { MatchOption all.now (IsStream bytes.now → ⊥) (λ ts. AreAllRead ts.items bytes.now) }
     ensures { Ends bytes.now (K.written sink.old) (K.written sink.new) (K.faults sink.old) (K.faults sink.new) result }
 {

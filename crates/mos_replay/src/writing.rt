@@ -1,24 +1,11 @@
 //! Writing the answers.
-ghost use Rattle.std.specs.Prelude.{◌≤◌, IfOk};
-ghost use Rattle.mos_replay.specs.Writings.{AreAllFine, AreFineTexts, AreWritten, IsAnswerTo, IsWritten};
+ghost use Rattle.std.specs.Prelude.{◌≤◌};
+ghost use Rattle.mos_replay.specs.Writings.{AreAllFine, AreFineTexts, AreWritten, IsWritten};
 
-use crate::answers::encoded_answer;
-use crate::envelopes::envelope_of;
 use crate::messages::Texts;
-use mos_fields::NoMemory;
+use canonical_answers::encoded_answer_of;
 use mos_io::{Sink, SinkFault};
 use std::alloc::Global;
-
-/// The canonical encoding of the answer to the message of these texts.
-fn answer_to_texts(alloc: Global, texts: &Texts) -> Result<Vec<u8>, NoMemory>
-    requires { AreFineTexts texts.now }
-    ensures { IfOk result (λ bytes. IsAnswerTo texts.now bytes.items) }
-{
-    match envelope_of(alloc, &texts.head, &texts.message)? {
-        None => unreachable!(),
-        Some(e) => encoded_answer(alloc, &e),
-    }
-}
 
 /// Writes the answer to the message of these texts in one piece.
 fn write_answer<K: Sink>(alloc: Global, texts: &Texts, sink: &mut K) -> Result<(), SinkFault>
@@ -26,7 +13,7 @@ fn write_answer<K: Sink>(alloc: Global, texts: &Texts, sink: &mut K) -> Result<(
     ensures written { IsWritten texts.now (K.written sink.old) (K.written sink.new) (K.faults sink.old) (K.faults sink.new) result }
     ensures rises { K.faults sink.old ≤ K.faults sink.new }
 {
-    match answer_to_texts(alloc, texts) {
+    match encoded_answer_of(alloc, &texts.head, &texts.message) {
         Ok(bytes) => sink.write_piece(bytes.as_slice()),
         Err(_) => Err(SinkFault::NoMemory),
     }

@@ -17,7 +17,9 @@ loop-at-preserved c =
     let t = rw c.in-Some.is at c.in_ok-read_message.ensures in
     record {
       within = t.read.within;
-      reads = (r.0 ++ t.envelope ∷ [],
+      reads = (
+        r.0 ++ t.envelope ∷ [],
         subst (λ (ts : List Texts). AreMadeOf ts (r.0 ++ t.envelope ∷ [])) (sym c.in_ok-push-in-Some.ensures.items) (made-append c.loop-at.all.items r.0 c.in-Some.texts t.envelope r.1 t.made),
-        one_more_read c.args.bytes.now r.0 c.loop-at.at t.envelope c.in-Some.texts.end r.2 t.read);
+        one_more_read c.args.bytes.now r.0 c.loop-at.at t.envelope c.in-Some.texts.end r.2 t.read,
+      );
     }

@@ -11,7 +11,7 @@ write_answer-requires g c = fine_at c.args.all.now c.loop-texts.texts-index c.te
 pub returns-in_err-write_answer : goal.returns-in_err-write_answer
 returns-in_err-write_answer g c =
     fault_of_all c.texts-item.result c.args.all.now (g.K.Sink.written c.loop-texts.sink) (g.K.Sink.written c.args.sink.now) (g.K.Sink.written c.write_answer.new.sink)
-        (g.K.Sink.faults c.args.sink.now) (g.K.Sink.faults c.loop-texts.sink) (g.K.Sink.faults c.write_answer.new.sink) _ c.loop-texts.invariant.rises c.in_err-write_answer.ensures.written
+    (g.K.Sink.faults c.args.sink.now) (g.K.Sink.faults c.loop-texts.sink) (g.K.Sink.faults c.write_answer.new.sink) _ c.loop-texts.invariant.rises c.in_err-write_answer.ensures.written
 
 pub loop-texts-preserved : goal.loop-texts-preserved
 loop-texts-preserved g c =

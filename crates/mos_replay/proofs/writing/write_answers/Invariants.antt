@@ -1,7 +1,7 @@
 use Rattle.std.proofs.Common.{◌≤◌, List, take}
 use Rattle.mos_io.specs.Bytes.{Appends}
 use Rattle.mos_values.specs.declared.message.Envelope.{Envelope}
-use Rattle.mos_replay.specs.Taking.{take_output}
+use Rattle.canonical_answers.specs.Taking.{take_output}
 use Rattle.mos_replay.specs.TextLists.{AreMadeOf}
 use Rattle.mos_replay.proofs.writing.write_answers.Given as goal
 

@@ -2,16 +2,16 @@
 ghost use Rattle.std.specs.Prelude.{◌≡◌, None, Some, IfOk, MatchOption};
 ghost use Rattle.mos_fields.specs.Faults.{id_fault};
 ghost use Rattle.canonical_reader.specs.Texts.{IsTimeText};
-ghost use Rattle.mos_replay.specs.Encodings.{IsReadableMessage};
+ghost use Rattle.canonical_answers.specs.Encodings.{IsReadableMessage};
 ghost use Rattle.canonical_reader.specs.Messages.{told_of};
 ghost use Rattle.canonical_reader.specs.Messages.Told.{Beat, Deletes, Creates};
 ghost use Rattle.plain_orders.specs.Orders.{IsOrderFine};
-ghost use Rattle.mos_replay.specs.Making.{AreValues, IsMadeOf, IsToldFine, told};
+ghost use Rattle.canonical_answers.specs.Making.{AreValues, IsMadeOf, IsToldFine, told};
 
-use plain_orders::order_of;
 use canonical_reader::{Head, MessageTexts, OrderTexts, id_of, opt_id_of, time_of};
 use mos_fields::NoMemory;
 use mos_values::{Envelope, Message};
+use plain_orders::order_of;
 use std::alloc::Global;
 
 /// The heartbeat of this time. None exactly where the text is no time.
@@ -57,7 +57,11 @@ fn message_of(alloc: Global, texts: &MessageTexts) -> Result<Option<Message>, No
 }
 
 /// The envelope of these texts. None exactly where one of them is no value of its type, or two IDs in a list are the same.
-pub fn envelope_of(alloc: Global, head: &Head, texts: &MessageTexts) -> Result<Option<Envelope>, NoMemory>
+pub fn envelope_of(
+    alloc: Global,
+    head: &Head,
+    texts: &MessageTexts,
+) -> Result<Option<Envelope>, NoMemory>
     ensures { IfOk result (λ o. MatchOption o (AreValues head.now.mos.items head.now.ncs.items head.now.message_id.items (told_of texts.now) → ⊥) (IsMadeOf head.now.mos.items head.now.ncs.items head.now.message_id.items (told_of texts.now))) }
 {
     match id_of(alloc, head.mos.as_slice())? {

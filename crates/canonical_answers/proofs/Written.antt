@@ -1,5 +1,5 @@
 -- What the encodings of readable envelopes are made of.
-use Rattle.std.proofs.Common.{◌≡◌, ℕ, ◌∙◌, List, [], ◌∷◌, ◌++◌, drop, true, false, refl, sym, ap, subst, codes, append_assoc, unwrap_or, Option, Some, None}
+use Rattle.std.proofs.Common.{◌≡◌, ℕ, ◌∙◌, List, [], ◌∷◌, ◌++◌, drop, true, false, refl, sym, ap, subst, codes, append_assoc, unwrap_or, Option, Some, None, MatchOption}
 use Rattle.mos_fields.specs.Characters.{Text, are_allowed, units_of, bytes_of}
 use Rattle.mos_fields.specs.declared.time.MosTime.{MosTime}
 use Rattle.mos_fields.specs.declared.field.Field.TheVariants as fields
@@ -21,8 +21,8 @@ use Rattle.canonical_reader.specs.Messages.{Told, told_form}
 use Rattle.canonical_reader.specs.Messages.Told.{Beat, Deletes, Creates}
 use Rattle.canonical_reader.specs.Orders.{OrderTexts}
 use Rattle.canonical_reader.specs.Texts.{IsTimeText}
-use Rattle.mos_replay.specs.Encodings.{IsReadable, IsReadableMessage, encoding}
-use Rattle.mos_replay.specs.Making.{told, IsToldFine, IsMadeOf}
+use Rattle.canonical_answers.specs.Encodings.{IsReadable, IsReadableMessage, encoding}
+use Rattle.canonical_answers.specs.Making.{told, IsToldFine, IsMadeOf}
 use Rattle.plain_orders.specs.Orders.{plain_order, order_texts, IsOrderFine}
 use Rattle.plain_orders.proofs.PlainOrders.{field_text, order_back, order_is}
 use Rattle.mos_values.specs.OrderValue.{OrderBody}
@@ -104,3 +104,8 @@ envelope_made mos ncs id t mos_read ncs_read id_read m p a q b r c h l e = recor
 pub encoding_is : (e : Envelope) → encoding e ≡ bytes_of (units_of (canonical (envelope_events e)))
 unfolding encoding
 encoding_is e = refl
+
+-- an option of which less is said
+pub match_weaker : {T : Type 0} (o : Option T) (P Q : Type 0) (R S : T → Type 0) → (P → Q) → ((x : T) → R x → S x) → MatchOption o P R → MatchOption o Q S
+match_weaker None P Q R S f g h = f h
+match_weaker (Some x) P Q R S f g h = g x h

@@ -5,7 +5,7 @@ use Rattle.mos_fields.specs.Characters.{Text, units_of, bytes_of}
 use Rattle.mos_values.specs.declared.message.Envelope.{Envelope}
 use Rattle.mos_values.specs.declared.message.Message.{Message}
 use Rattle.mos_values.specs.declared.message.Message.TheVariants as messages
-use Rattle.mos_replay.specs.Encodings.{encoding}
+use Rattle.canonical_answers.specs.Encodings.{encoding}
 
 -- roAck of this order with `OK`
 abbrev pub ok_ack : Text → Message

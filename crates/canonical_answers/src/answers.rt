@@ -1,8 +1,8 @@
 //! The answers of a device.
 ghost use Rattle.std.specs.Prelude.{◌≡◌, [], codes, IfOk};
 ghost use Rattle.mos_values.specs.declared.message.Message.TheVariants as messages;
-ghost use Rattle.mos_replay.specs.Encodings.{encoding};
-ghost use Rattle.mos_replay.specs.Taking.{answer_of, ok_ack};
+ghost use Rattle.canonical_answers.specs.Encodings.{encoding};
+ghost use Rattle.canonical_answers.specs.Taking.{answer_of, ok_ack};
 
 use mos_fields::{Id, NoMemory, OptId, Slug};
 use mos_messages::encode;
@@ -67,7 +67,7 @@ fn encoded_ack(alloc: Global, e: &Envelope, ro: &Id) -> Result<Vec<u8>, NoMemory
 
 /// The canonical encoding of an envelope.
 #[tactic(auto, unfolding(crate::specs::Encodings::encoding))]
-fn encoded(alloc: Global, e: &Envelope) -> Result<Vec<u8>, NoMemory>
+pub fn encoded(alloc: Global, e: &Envelope) -> Result<Vec<u8>, NoMemory>
     ensures { IfOk result (λ bytes. bytes.items ≡ encoding e.now) }
 {
     encode(alloc, e)
