@@ -1,12 +1,11 @@
 -- What the encodings of readable envelopes are made of.
-use Rattle.std.proofs.Common.{◌≡◌, ℕ, ◌∙◌, List, [], ◌∷◌, ◌++◌, drop, true, false, refl, sym, ap, subst, codes, append_assoc, unwrap_or, Option, Some, None, MatchOption}
-use Rattle.mos_fields.specs.Characters.{Text, are_allowed, units_of, bytes_of}
+use Rattle.std.proofs.Common.{◌≡◌, ◌∙◌, [], ◌∷◌, ◌++◌, refl, sym, ap, subst, codes, unwrap_or, Option, Some, None, MatchOption}
+use Rattle.mos_fields.specs.Characters.{Text, units_of, bytes_of}
 use Rattle.mos_fields.specs.declared.time.MosTime.{MosTime}
 use Rattle.mos_fields.specs.declared.field.Field.TheVariants as fields
 use Rattle.mos_fields.specs.Escapes.{escaped}
 use Rattle.mos_fields.specs.Faults.{id_fault, opt_id_fault}
 use Rattle.mos_fields.specs.Values.{time_text}
-use Rattle.mos_fields.proofs.FaultLemmas.{id_allowed, opt_id_allowed, allowed_without_fault, neither}
 use Rattle.mos_fields.specs.Raw.{end_text}
 use Rattle.mos_tables.specs.Events.{leaf, closes}
 use Rattle.mos_tables.specs.Canonical.{canonical, event_text, start_text}
@@ -21,7 +20,7 @@ use Rattle.canonical_reader.specs.Messages.{Told, told_form}
 use Rattle.canonical_reader.specs.Messages.Told.{Beat, Deletes, Creates}
 use Rattle.canonical_reader.specs.Orders.{OrderTexts}
 use Rattle.canonical_reader.specs.Texts.{IsTimeText}
-use Rattle.canonical_answers.specs.Encodings.{IsReadable, IsReadableMessage, encoding}
+use Rattle.canonical_answers.specs.Encodings.{IsReadableMessage, encoding}
 use Rattle.canonical_answers.specs.Making.{told, IsToldFine, IsMadeOf}
 use Rattle.plain_orders.specs.Orders.{plain_order, order_texts, IsOrderFine}
 use Rattle.plain_orders.proofs.PlainOrders.{field_text, order_back, order_is}

@@ -1,5 +1,5 @@
 -- The canonical encodings of envelopes, as bytes, and which of them are read.
-use Rattle.std.specs.Prelude.{◌≡◌, ℕ, List, [], ◌∷◌, ◌++◌, Option, Some, None}
+use Rattle.std.specs.Prelude.{◌≡◌, ℕ, List, [], ◌∷◌, Some, None}
 use Rattle.std.specs.List.{flat_map}
 use Rattle.mos_fields.specs.Characters.{Text, units_of, bytes_of}
 use Rattle.mos_fields.specs.Faults.{id_fault, opt_id_fault}

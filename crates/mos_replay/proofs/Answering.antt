@@ -1,8 +1,7 @@
 -- Answers, one after another.
-use Rattle.std.proofs.Common.{◌≡◌, ℕ, ◌+◌, ◌<◌, ◌≤◌, ◌∙◌, List, [], ◌∷◌, ◌++◌, length, take, get_or, refl, sym, ap, subst, arith, append_assoc, append-nil, suc, Option, Some, None, Result, Ok, Err, inl, inr, ◌⊎◌}
+use Rattle.std.proofs.Common.{◌≡◌, ℕ, ◌+◌, ◌<◌, ◌≤◌, ◌∙◌, List, [], ◌∷◌, ◌++◌, length, take, get_or, refl, sym, ap, subst, arith, append_assoc, append-nil, zero, suc, Option, Some, None, Err, inl, inr}
 use Rattle.std.proofs.lemmas.List.{take_more, take_all}
 use Rattle.std.proofs.lemmas.Grind.{flat_map-append}
-use Rattle.mos_fields.specs.Characters.{Text}
 use Rattle.mos_io.specs.Bytes.{Appends}
 use Rattle.mos_io.specs.Counts.{Rose}
 use Rattle.mos_io.specs.declared.sink.SinkFault.{SinkFault}
@@ -10,7 +9,7 @@ use Rattle.mos_io.specs.declared.sink.SinkFault.TheVariants.{Failed, NoMemory}
 use Rattle.mos_values.specs.declared.message.Envelope.{Envelope}
 use Rattle.canonical_answers.specs.Encodings.{AreReadable, encoding, encodings}
 use Rattle.mos_replay.specs.declared.messages.Texts.{Texts}
-use Rattle.mos_replay.specs.TextLists.{AreMadeOf, IsMadeOfTexts}
+use Rattle.mos_replay.specs.TextLists.{AreMadeOf}
 use Rattle.canonical_answers.specs.Taking.{answer_of, take_output}
 use Rattle.mos_replay.specs.Writings.{AreFineTexts, AreAllFine, AreWritten, IsAnswerTo, IsWritten}
 use Rattle.mos_replay.proofs.Streams.{made-append}

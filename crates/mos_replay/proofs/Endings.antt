@@ -1,18 +1,17 @@
 -- How answering ends.
-use Rattle.std.proofs.Common.{◌≡◌, ◌≢◌, ℕ, List, [], ◌∷◌, Option, Some, None, Result, Ok, Err, refl, sym, subst, ◌∙◌}
-use Rattle.mos_io.specs.Bytes.{Appends, AppendsFront, Writes}
+use Rattle.std.proofs.Common.{◌≡◌, ◌≢◌, ℕ, List, Option, Ok, Err, sym, subst, ◌∙◌}
+use Rattle.mos_io.specs.Bytes.{Writes}
 use Rattle.mos_io.specs.Counts.{Rose}
 use Rattle.mos_io.specs.declared.sink.SinkFault.{SinkFault}
 use Rattle.mos_io.specs.declared.sink.SinkFault.TheVariants.{Failed, NoMemory}
-use Rattle.mos_values.specs.declared.message.Envelope.{Envelope}
 use Rattle.canonical_reader.specs.Inputs.{ReadsAll}
-use Rattle.canonical_answers.specs.Encodings.{AreReadable, IsStream, encodings}
+use Rattle.canonical_answers.specs.Encodings.{IsStream}
 use Rattle.mos_replay.specs.declared.status.Status.{Status}
 use Rattle.mos_replay.specs.declared.status.Status.TheVariants as statuses
 use Rattle.mos_replay.specs.declared.messages.Texts.{Texts}
-use Rattle.mos_replay.specs.TextLists.{AreMadeOf, AreAllRead}
+use Rattle.mos_replay.specs.TextLists.{AreAllRead}
 use Rattle.mos_replay.specs.Writings.{AreWritten}
-use Rattle.canonical_answers.specs.Taking.{take_output, refused_line}
+use Rattle.canonical_answers.specs.Taking.{refused_line}
 use Rattle.mos_replay.specs.Running.{AreAnswered, AreRefused, Ends, IsTaken, IsRefused, fault_status}
 use Rattle.mos_replay.proofs.Answering.{all_readable, same_encodings}
 
@@ -23,9 +22,9 @@ module _ (bytes : List ℕ) (before after : Option (List ℕ)) (m n : ℕ) where
   ends_starved = tt
 
   -- the line of a rejection
-  pub ends_refused : (IsStream bytes → ⊥) → (piece : List ℕ) → piece ≡ refused_line → Writes before after m n piece (Ok tt) → Ends bytes before after m n statuses.Refused
+  pub ends_refused : (IsStream bytes → ⊥) → (done : Unit {0}) → Writes before after m n refused_line (Ok done) → Ends bytes before after m n statuses.Refused
   unfolding Ends
-  ends_refused none piece is writes = (none, subst (λ (xs : List ℕ). Appends before after xs) is writes)
+  ends_refused none done writes = (none, writes)
 
   -- a fault of writing the line
   pub ends_failed : (piece : List ℕ) (fault : SinkFault) (s : Status) → s ≡ fault_status fault → Writes before after m n piece (Err fault) → Ends bytes before after m n s
@@ -34,9 +33,9 @@ module _ (bytes : List ℕ) (before after : Option (List ℕ)) (m n : ℕ) where
   ends_failed piece NoMemory s is writes = subst (λ (t : Status). Ends bytes before after m n t) (sym is) tt
 
   -- the answers
-  pub ends_done : (ts : List Texts) → AreAllRead ts bytes → AreWritten ts before after m n (Ok tt) → Ends bytes before after m n statuses.Done
+  pub ends_done : (ts : List Texts) → AreAllRead ts bytes → (done : Unit {0}) → AreWritten ts before after m n (Ok done) → Ends bytes before after m n statuses.Done
   unfolding Ends
-  ends_done ts read written =
+  ends_done ts read done written =
       let q = same_encodings ts read.0 written.0 read.1 written.1 in
       (written.0, all_readable ts written.0 written.1, read.3 ∙ q, written.2)
 

@@ -3,3 +3,4 @@ pub mod Streams
 pub mod Slices
 pub mod Answering
 pub mod Endings
+pub mod Wording

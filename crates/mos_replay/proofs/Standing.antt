@@ -1,5 +1,5 @@
 -- Which message stands at a place.
-use Rattle.std.proofs.Common.{◌≡◌, ℕ, ◌+◌, ◌<◌, ◌≤◌, ◌∙◌, List, [], ◌∷◌, ◌++◌, length, drop, true, refl, sym, ap, subst, arith, codes, Option, Some, None, append_assoc, length-append, length-drop, MatchOption}
+use Rattle.std.proofs.Common.{◌≡◌, ℕ, ◌+◌, ◌≤◌, ◌∙◌, List, [], ◌++◌, length, drop, true, refl, sym, ap, subst, arith, Option, Some, None, length-append, length-drop, MatchOption}
 use Rattle.std.proofs.lemmas.List.{drop-drop}
 use Rattle.std.proofs.Math.Seq.{drop-append_seam}
 use Rattle.mos_fields.specs.Characters.{Text, are_allowed}

@@ -1,5 +1,5 @@
 -- What a run reads and writes, where its source and its sink are observable.
-use Rattle.std.specs.Prelude.{◌≡◌, ℕ, List, [], ◌∷◌, ◌++◌, Option, Some, None}
+use Rattle.std.specs.Prelude.{◌≡◌, ℕ, List, Option}
 use Rattle.mos_io.specs.Bytes.{Appends}
 use Rattle.mos_io.specs.Counts.{Rose}
 use Rattle.mos_io.specs.declared.sink.SinkFault.{SinkFault}

@@ -1,5 +1,5 @@
 -- The words that a run is called with.
-use Rattle.std.specs.Prelude.{◌≡◌, List, [], ◌∷◌, codes, map, ℕ}
+use Rattle.std.specs.Prelude.{◌≡◌, List, [], ◌∷◌, codes, ℕ}
 
 -- the word `take` alone
 abbrev pub IsTake : List (List ℕ) → Type 0

@@ -1,5 +1,5 @@
 -- What writing the answers does.
-use Rattle.std.specs.Prelude.{◌≡◌, ℕ, List, [], ◌∷◌, ◌++◌, Option, Result, Ok, Err}
+use Rattle.std.specs.Prelude.{ℕ, List, [], ◌∷◌, Option, Result, Ok, Err}
 use Rattle.mos_io.specs.Bytes.{Appends}
 use Rattle.mos_io.specs.Counts.{Rose}
 use Rattle.mos_io.specs.declared.sink.SinkFault.{SinkFault}
@@ -7,10 +7,9 @@ use Rattle.mos_io.specs.declared.sink.SinkFault.TheVariants.{Failed, NoMemory}
 use Rattle.mos_values.specs.declared.message.Envelope.{Envelope}
 use Rattle.canonical_reader.specs.Messages.{told_of}
 use Rattle.mos_replay.specs.declared.messages.Texts.{Texts}
-use Rattle.canonical_answers.specs.Encodings.{encoding}
 use Rattle.canonical_answers.specs.Making.{AreValues, IsAnswered}
-use Rattle.canonical_answers.specs.Taking.{answer_of, take_output}
-use Rattle.mos_replay.specs.TextLists.{IsMadeOfTexts, AreMadeOf}
+use Rattle.canonical_answers.specs.Taking.{take_output}
+use Rattle.mos_replay.specs.TextLists.{AreMadeOf}
 
 -- each text is a value of its type
 abbrev pub AreFineTexts : Texts → Type 0

@@ -25,7 +25,10 @@ pub fn write_answers<K: Sink>(alloc: Global, all: &[Texts], sink: &mut K) -> Res
     ensures { AreWritten all.now (K.written sink.old) (K.written sink.new) (K.faults sink.old) (K.faults sink.new) result }
 {
     for texts in all {
-        write_answer(alloc, texts, sink)?;
+        match write_answer(alloc, texts, sink) {
+            Ok(()) => {}
+            Err(fault) => return Err(fault),
+        }
     }
     Ok(())
 }

@@ -1,11 +1,10 @@
 -- Values made of texts, one after the other, with distinct IDs.
-use Rattle.std.proofs.Common.{◌≡◌, ◌≢◌, ℕ, ◌+◌, ◌<◌, ◌≤◌, ◌∙◌, List, [], ◌∷◌, ◌++◌, length, map, drop, get_or, refl, sym, ap, subst, arith, append_assoc, append-nil, length-append, length-drop, Contains}
+use Rattle.std.proofs.Common.{◌≡◌, ℕ, ◌+◌, ◌<◌, ◌≤◌, ◌∙◌, List, [], ◌∷◌, ◌++◌, length, map, drop, get_or, refl, sym, ap, subst, arith, append_assoc, append-nil, length-append, length-drop, Contains}
 use Rattle.std.proofs.lemmas.List.{drop_more, map-append}
 use Rattle.std.proofs.Math.ListN.{get_or-append}
 use Rattle.std.proofs.Math.Seq.{get_or-append_seam}
 use Rattle.mos_fields.specs.Characters.{Text}
 use Rattle.mos_values.specs.Distinct.{AreDistinct}
-use Rattle.canonical_reader.specs.Lists.{AreFine}
 use Rattle.plain_orders.specs.Orders.{CanFollow}
 
 -- what is made of the first texts of a list, and that the others can follow where all can
@@ -35,9 +34,10 @@ module _ {X V : Type 0} (IsFine : X → Type 0) (value : X → V) (key : X → T
 
   pub fills_done : (all : List X) (k : ℕ) (held : List V) → length all ≤ k → Fills IsFine value key id all k held → AreDistinct (map id held) → (held ≡ map value all) × CanFollow IsFine key id [] all
   fills_done all k held h f apart =
-      let e = none_left k all h in
-      (sym (append-nil held) ∙ ap (λ (xs : List X). held ++ map value xs) (sym e) ∙ f.sum,
-       f.back (subst (λ (xs : List X). CanFollow IsFine key id held xs) (sym e) (tt, subst AreDistinct (sym (append-nil (map id held))) apart)))
+      let e = none_left k all h in (
+        sym (append-nil held) ∙ ap (λ (xs : List X). held ++ map value xs) (sym e) ∙ f.sum,
+        f.back (subst (λ (xs : List X). CanFollow IsFine key id held xs) (sym e) (tt, subst AreDistinct (sym (append-nil (map id held))) apart)),
+      )
 
   module _ (all : List X) (k : ℕ) (x : X) (held : List V) (lt : k < length all) (is : x ≡ get_or all k x) (f : Fills IsFine value key id all k held) where
     left : drop k all ≡ x ∷ drop (k + 1) all

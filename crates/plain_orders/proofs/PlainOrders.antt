@@ -1,5 +1,5 @@
 -- Plain orders: their texts, and how they are written.
-use Rattle.std.proofs.Common.{◌≡◌, ℕ, ◌∙◌, List, [], ◌∷◌, ◌++◌, map, refl, sym, ap, subst, codes, append_assoc, Option, Some, None, MatchOption}
+use Rattle.std.proofs.Common.{◌≡◌, ◌∙◌, List, [], ◌∷◌, ◌++◌, map, refl, sym, ap, subst, codes, append_assoc, Option, Some, None, MatchOption}
 use Rattle.mos_fields.specs.Faults.{id_fault, slug_fault}
 use Rattle.mos_fields.specs.Characters.{Text}
 use Rattle.mos_fields.specs.declared.field.Field.TheVariants as fields
@@ -8,12 +8,11 @@ use Rattle.mos_fields.specs.Escapes.{escaped}
 use Rattle.mos_fields.specs.Raw.{end_text}
 use Rattle.mos_tables.specs.Events.{Event, leaf, closes}
 use Rattle.mos_tables.specs.Canonical.{canonical, event_text, start_text}
-use Rattle.mos_values.specs.declared.item.Item.{Item}
 use Rattle.mos_values.specs.StoryValue.{Story}
 use Rattle.mos_values.specs.OrderValue.{OrderBody}
 use Rattle.mos_values.specs.Views.{item_events, items_events, story_head_events, story_events, stories_events, header_events, body_events}
 use Rattle.mos_values.specs.Parts.{must, maybe, maybe_as, maybe_raw, raws, element}
-use Rattle.canonical_reader.specs.Lists.{list_form, ended_form, AreFine}
+use Rattle.canonical_reader.specs.Lists.{list_form, AreFine}
 use Rattle.canonical_reader.specs.Orders.{ItemTexts, StoryTexts, OrderTexts, IsItemAllowed, IsStoryAllowed, IsOrderAllowed, item_form, story_form, order_form}
 use Rattle.mos_fields.proofs.FaultLemmas.{id_allowed, opt_id_allowed, slug_allowed}
 use Rattle.plain_orders.specs.Orders.{plain_item, plain_story, plain_order, item_texts, story_texts, order_texts, IsItemFine, IsStoryFine, IsOrderFine, CanFollowItems, CanFollowStories}
@@ -52,9 +51,10 @@ pub story_made : (t : StoryTexts) (chars id : Text) (items : List ItemTexts) →
     → MatchOption o (IsStoryFine t → ⊥) (λ s. (s ≡ plain_story t) × IsStoryFine t)
 story_made t chars id items p q r fine None none = λ h. none (subst (λ (xs : List ItemTexts). CanFollowItems [] xs) (sym q) (h.items, h.distinct))
 story_made t chars id items p q r fine (Some s) made =
-    let all = subst (λ (xs : List ItemTexts). CanFollowItems [] xs) q made.1 in
-    (made.0 ∙ ap (λ (x : Text). plain_story (record { id = x; items = items })) (r ∙ p) ∙ ap (λ (xs : List ItemTexts). plain_story (record { id = t.id; items = xs })) q,
-     record { id = sym (ap id_fault p) ∙ fine; items = all.0; distinct = all.1 })
+    let all = subst (λ (xs : List ItemTexts). CanFollowItems [] xs) q made.1 in (
+      made.0 ∙ ap (λ (x : Text). plain_story (record { id = x; items = items })) (r ∙ p) ∙ ap (λ (xs : List ItemTexts). plain_story (record { id = t.id; items = xs })) q,
+      record { id = sym (ap id_fault p) ∙ fine; items = all.0; distinct = all.1 },
+    )
 
 -- an order made of its texts
 pub order_made : (t : OrderTexts) (ro_chars ro slug_chars slug : Text) (stories : List StoryTexts)
@@ -63,10 +63,11 @@ pub order_made : (t : OrderTexts) (ro_chars ro slug_chars slug : Text) (stories 
     → MatchOption o (IsOrderFine t → ⊥) (λ b. (b ≡ plain_order t) × IsOrderFine t)
 order_made t ro_chars ro slug_chars slug stories p q r a fine b fine_slug None none = λ h. none (subst (λ (xs : List StoryTexts). CanFollowStories [] xs) (sym r) (h.stories, h.distinct))
 order_made t ro_chars ro slug_chars slug stories p q r a fine b fine_slug (Some body) made =
-    let all = subst (λ (xs : List StoryTexts). CanFollowStories [] xs) r made.1 in
-    (made.0 ∙ ap (λ (x : Text). plain_order (record { ro = x; slug = slug; stories = stories })) (a ∙ p) ∙ ap (λ (x : Text). plain_order (record { ro = t.ro; slug = x; stories = stories })) (b ∙ q)
-        ∙ ap (λ (xs : List StoryTexts). plain_order (record { ro = t.ro; slug = t.slug; stories = xs })) r,
-     record { ro = sym (ap id_fault p) ∙ fine; slug = sym (ap slug_fault q) ∙ fine_slug; stories = all.0; distinct = all.1 })
+    let all = subst (λ (xs : List StoryTexts). CanFollowStories [] xs) r made.1 in (
+      made.0 ∙ ap (λ (x : Text). plain_order (record { ro = x; slug = slug; stories = stories })) (a ∙ p) ∙ ap (λ (x : Text). plain_order (record { ro = t.ro; slug = x; stories = stories })) (b ∙ q)
+          ∙ ap (λ (xs : List StoryTexts). plain_order (record { ro = t.ro; slug = t.slug; stories = xs })) r,
+      record { ro = sym (ap id_fault p) ∙ fine; slug = sym (ap slug_fault q) ∙ fine_slug; stories = all.0; distinct = all.1 },
+    )
 
 -- a field with a text, and what follows
 pub field_text : (n x more : Text) → event_text (leaf n [] x) ++ more ≡ start_text n [] ++ (escaped x ++ (end_text n ++ more))
@@ -91,7 +92,7 @@ story_is : (s : StoryTexts) (tail : List Event) → canonical (element (name_of 
 unfolding canonical story_events story_head_events must maybe raws
 story_is s tail =
     ap (λ (y : Text). start_text (codes "story") [] ++ (event_text (leaf (codes "storyID") [] s.id) ++ y))
-        (ap canonical (append_assoc (items_events (map plain_item s.items)) (closes (codes "story") ∷ []) tail) ∙ items_is s.items (closes (codes "story") ∷ tail))
+    (ap canonical (append_assoc (items_events (map plain_item s.items)) (closes (codes "story") ∷ []) tail) ∙ items_is s.items (closes (codes "story") ∷ tail))
     ∙ ap (λ (y : Text). start_text (codes "story") [] ++ y) (field_text (codes "storyID") s.id _)
 
 stories_is : (stories : List StoryTexts) (tail : List Event) → canonical (stories_events (map plain_story stories) ++ tail) ≡ list_form story_form stories (canonical tail)
@@ -106,6 +107,6 @@ pub order_is : (o : OrderTexts) (tail : List Event) → canonical (element (code
 unfolding canonical body_events header_events must maybe raws
 order_is o tail =
     ap (λ (y : Text). start_text (codes "roCreate") [] ++ (event_text (leaf (codes "roID") [] o.ro) ++ (event_text (leaf (codes "roSlug") [] o.slug) ++ y)))
-        (ap canonical (append_assoc (stories_events (map plain_story o.stories)) (closes (codes "roCreate") ∷ []) (closes (codes "mos") ∷ tail)) ∙ stories_is o.stories (closes (codes "roCreate") ∷ closes (codes "mos") ∷ tail))
+    (ap canonical (append_assoc (stories_events (map plain_story o.stories)) (closes (codes "roCreate") ∷ []) (closes (codes "mos") ∷ tail)) ∙ stories_is o.stories (closes (codes "roCreate") ∷ closes (codes "mos") ∷ tail))
     ∙ ap (λ (y : Text). start_text (codes "roCreate") [] ++ y) (field_text (codes "roID") o.ro _
     ∙ ap (λ (y : Text). start_text (codes "roID") [] ++ (escaped o.ro ++ (end_text (codes "roID") ++ y))) (field_text (codes "roSlug") o.slug _))

@@ -1,5 +1,5 @@
 -- Running orders that have those fields alone that are read here.
-use Rattle.std.specs.Prelude.{◌≡◌, List, [], Option, None, map, ◌++◌}
+use Rattle.std.specs.Prelude.{◌≡◌, List, [], None, map, ◌++◌}
 use Rattle.mos_fields.specs.Characters.{Text}
 use Rattle.mos_fields.specs.Faults.{id_fault, opt_id_fault, slug_fault}
 use Rattle.mos_values.specs.Distinct.{AreDistinct}

@@ -128,7 +128,11 @@ fn put_story_of(alloc: Global, body: &mut OrderBody, texts: &StoryTexts) -> Resu
 }
 
 /// Puts the stories of these texts into an order without any. Whether there are such, with distinct storyIDs.
-fn put_stories(alloc: Global, body: &mut OrderBody, stories: &[StoryTexts]) -> Result<bool, NoMemory>
+fn put_stories(
+    alloc: Global,
+    body: &mut OrderBody,
+    stories: &[StoryTexts],
+) -> Result<bool, NoMemory>
     requires { body.old.stories ≡ [] }
     ensures { IfOk result (λ b. MatchBool b ((body.new ≡ record body.old { stories = map plain_story stories.now }) × CanFollowStories [] stories.now) (CanFollowStories [] stories.now → ⊥)) }
 {
@@ -161,7 +165,12 @@ fn header_with(alloc: Global, ro: Id, slug: Slug) -> Header
 
 /// The order with this roID and roSlug and the stories of these texts. None exactly where one of those is no value of
 /// its type, or two IDs in a list are the same.
-fn order_with(alloc: Global, ro: Id, slug: Slug, stories: &[StoryTexts]) -> Result<Option<OrderBody>, NoMemory>
+fn order_with(
+    alloc: Global,
+    ro: Id,
+    slug: Slug,
+    stories: &[StoryTexts],
+) -> Result<Option<OrderBody>, NoMemory>
     ensures { IfOk result (λ o. MatchOption o (CanFollowStories [] stories.now → ⊥) (λ b. (b ≡ plain_order (record { ro = ro; slug = slug; stories = stories.now })) × CanFollowStories [] stories.now)) }
 {
     let mut body = OrderBody::new(alloc, header_with(alloc, ro, slug));

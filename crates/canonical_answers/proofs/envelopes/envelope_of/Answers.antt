@@ -1,4 +1,4 @@
-use Rattle.std.proofs.Common.{◌≡◌, ◌∙◌, ap, sym, subst, None}
+use Rattle.std.proofs.Common.{◌∙◌, ap, sym}
 use Rattle.mos_fields.specs.Faults.{id_fault, opt_id_fault}
 use Rattle.canonical_reader.specs.Messages.{told_of}
 use Rattle.canonical_answers.proofs.Written.{envelope_made}

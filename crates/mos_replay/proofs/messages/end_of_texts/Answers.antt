@@ -1,4 +1,4 @@
-use Rattle.std.proofs.Common.{◌≡◌, ◌∙◌, sym}
+use Rattle.std.proofs.Common.{◌∙◌}
 use Rattle.canonical_reader.specs.Messages.{told_of}
 use Rattle.mos_replay.proofs.Standing.{without_envelope, only_message, read_or_not, encoded_part}
 use Rattle.mos_replay.proofs.messages.end_of_texts.Goals as goal

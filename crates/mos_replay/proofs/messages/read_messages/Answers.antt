@@ -1,7 +1,5 @@
-use Rattle.std.proofs.Common.{◌≡◌, ◌∙◌, ap, sym, subst, List, ℕ, ◌∷◌, [], ◌++◌}
-use Rattle.mos_values.specs.declared.message.Envelope.{Envelope}
+use Rattle.std.proofs.Common.{sym, subst, List, ◌∷◌, [], ◌++◌}
 use Rattle.mos_replay.specs.declared.messages.Texts.{Texts}
-use Rattle.mos_replay.specs.Making.{AreRead}
 use Rattle.mos_replay.specs.TextLists.{AreMadeOf}
 use Rattle.mos_replay.proofs.Streams.{none_stands, one_more_read, made-append}
 use Rattle.mos_replay.proofs.messages.read_messages.Goals as goal

@@ -1,4 +1,4 @@
-use Rattle.std.proofs.Common.{◌≡◌, ◌∙◌, ap, nat_eq, List, ℕ, drop}
+use Rattle.std.proofs.Common.{◌∙◌, ap, nat_eq, List, ℕ, drop}
 use Rattle.std.specs.List.{starts_with}
 use Rattle.mos_replay.proofs.Slices.{stands_or_not}
 use Rattle.mos_replay.proofs.messages.stand_at.Goals as goal

@@ -1,4 +1,4 @@
-use Rattle.std.proofs.Common.{◌≡◌, ◌∙◌, refl, sym, ap, subst, List, ◌∷◌, [], ◌++◌, ◌+◌, map}
+use Rattle.std.proofs.Common.{◌≡◌, ◌∙◌, refl, sym, ap, subst, List, ◌∷◌, [], ◌++◌, ◌+◌}
 use Rattle.mos_values.specs.OrderValue.{OrderBody}
 use Rattle.mos_values.specs.StoryValue.{Story}
 use Rattle.plain_orders.specs.Orders.{IsStoryFine, plain_story}
@@ -16,12 +16,12 @@ loop-story-preserved c =
     let before = c.loop-story.invariant.same in
     let held = ap (λ (h : OrderBody). h.stories) put.0 in
     let same : c.put_story_of.new.body ≡ record c.args.body.now { stories = c.put_story_of.new.body.stories } =
-        put.0 ∙ ap (λ (h : OrderBody). let k : OrderBody = record h { stories = c.loop-story.body.stories ++ plain_story c.story-item.result ∷ [] } in k) before
-        ∙ ap (λ (xs : List Story). let k : OrderBody = record c.args.body.now { stories = xs } in k) (sym held) in
+    put.0 ∙ ap (λ (h : OrderBody). let k : OrderBody = record h { stories = c.loop-story.body.stories ++ plain_story c.story-item.result ∷ [] } in k) before
+    ∙ ap (λ (xs : List Story). let k : OrderBody = record c.args.body.now { stories = xs } in k) (sym held) in
     record {
       same = same;
       fills = subst (λ (xs : List Story). Fills IsStoryFine plain_story (λ x. x.id) (λ x. x.id) c.args.stories.now (c.loop-story.story-index + 1) xs) (sym held)
-        (fills_step IsStoryFine plain_story (λ x. x.id) (λ x. x.id) (λ x. refl) c.args.stories.now c.loop-story.story-index c.story-item.result c.loop-story.body.stories c.loop-story-test.true c.story-item.is c.loop-story.invariant.fills put.1);
+          (fills_step IsStoryFine plain_story (λ x. x.id) (λ x. x.id) (λ x. refl) c.args.stories.now c.loop-story.story-index c.story-item.result c.loop-story.body.stories c.loop-story-test.true c.story-item.is c.loop-story.invariant.fills put.1);
     }
 
 pub returns : goal.returns
