@@ -8,3 +8,6 @@ pub mod TimeLemmas
 pub mod DateLemmas
 pub mod AppendLemmas
 pub mod OrderLemmas
+pub mod ReferenceLemmas
+pub mod TailLemmas
+pub mod ElementLemmas
