@@ -1,7 +1,8 @@
 -- Times are read back.
-use Rattle.std.proofs.Common.{◌≡◌, ℕ, suc, ◌+◌, ◌-◌, ◌*◌, ◌/◌, ◌%◌, ◌<◌, ◌≤◌, Bool, true, false, cond, ◌&&◌, ◌||◌, eqb, leb, List, [], ◌∷◌, ◌++◌, length, take, drop, Option, Some, None, codes, refl, sym, ap, ◌∙◌, subst, arith}
+use Rattle.std.proofs.Common.{◌≡◌, ℕ, zero, suc, ◌+◌, ◌-◌, ◌*◌, ◌/◌, ◌%◌, ◌<◌, ◌≤◌, Bool, true, false, cond, ◌&&◌, ◌||◌, eqb, leb, List, [], ◌∷◌, ◌++◌, length, take, drop, Option, Some, None, codes, refl, sym, ap, ◌∙◌, subst, arith}
 use Rattle.std.specs.List.{list_all}
 use Rattle.std.specs.Prelude.{nat_le}
+use Rattle.std.proofs.Math.Bool.{Bool-set}
 use Rattle.std.proofs.lemmas.Bool.{and_parts, and_from, leb-true, le-leb}
 use Rattle.std.proofs.lemmas.Bool.Decides.{nat_tests}
 use Rattle.std.proofs.lemmas.List.Folds.{list_all-append}
@@ -20,7 +21,7 @@ use Rattle.mos_fields.specs.declared.time.Zone.{Zone}
 use Rattle.mos_fields.specs.declared.time.Zone.TheVariants as zones
 use Rattle.mos_fields.proofs.FaultLemmas.{form_fine}
 use Rattle.mos_fields.proofs.TimeLemmas.{time_is}
-use Rattle.field_laws.specs.Laws.{IsTime, TimesAreReadBack}
+use Rattle.field_laws.specs.Laws.{TimesAreReadBack}
 use Rattle.field_laws.proofs.TextLaws.{allowed_text}
 use Rattle.field_laws.proofs.NumberLaws.{is_solid, solid_trimmed, digit_solid, digit_allowed}
 
@@ -75,27 +76,39 @@ module _ (p : ℕ → Bool) (digit : (k : ℕ) → p (48 + k % 10) ≡ true) (ma
   utc_is = (and_parts (p 84) _ behind_colon).1
 
   two_all : (n : ℕ) (x : Text) → list_all p x ≡ true → list_all p (two_digits n ++ x) ≡ true
-  two_all n x h = cons_all _ _ (digit (n / 10)) (cons_all _ _ (digit n) h)
+  two_all n x h = cons_all (48 + n / 10 % 10) ((48 + n % 10) ∷ x) (digit (n / 10)) (cons_all (48 + n % 10) x (digit n) h)
 
   three_all : (n : ℕ) (x : Text) → list_all p x ≡ true → list_all p (three_digits n ++ x) ≡ true
-  three_all n x h = cons_all _ _ (digit (n / 100)) (two_all n x h)
+  three_all n x h = cons_all (48 + n / 100 % 10) (two_digits n ++ x) (digit (n / 100)) (two_all n x h)
 
   four_all : (n : ℕ) (x : Text) → list_all p x ≡ true → list_all p (four_digits n ++ x) ≡ true
-  four_all n x h = cons_all _ _ (digit (n / 1000)) (three_all n x h)
+  four_all n x h = cons_all (48 + n / 1000 % 10) (three_digits n ++ x) (digit (n / 1000)) (three_all n x h)
+
+  distance_all : (h m : ℕ) → list_all p (two_digits h ++ 58 ∷ two_digits m) ≡ true
+  distance_all h m = two_all h (58 ∷ two_digits m) (cons_all 58 (two_digits m) colon_is (two_all m [] refl))
 
   zone_all : (z : Zone) → list_all p (zone_text z) ≡ true
   zone_all zones.None = refl
   zone_all zones.Z = utc_is
-  zone_all (zones.Plus h m) = cons_all _ _ plus_is (two_all h _ (cons_all _ _ colon_is (two_all m [] refl)))
-  zone_all (zones.Minus h m) = cons_all _ _ dash_is (two_all h _ (cons_all _ _ colon_is (two_all m [] refl)))
+  zone_all (zones.Plus h m) = cons_all 43 (two_digits h ++ 58 ∷ two_digits m) plus_is (distance_all h m)
+  zone_all (zones.Minus h m) = cons_all 45 (two_digits h ++ 58 ∷ two_digits m) dash_is (distance_all h m)
 
   tail_all : (k : Option ℕ) (z : Zone) → list_all p (millis_text k ++ zone_text z) ≡ true
   tail_all None z = zone_all z
-  tail_all (Some n) z = cons_all _ _ comma_is (three_all n (zone_text z) (zone_all z))
+  tail_all (Some n) z = cons_all 44 (three_digits n ++ zone_text z) comma_is (three_all n (zone_text z) (zone_all z))
+
+  clock_all : (h m s : ℕ) (x : Text) → list_all p x ≡ true → list_all p (clock_text h m s ++ x) ≡ true
+  clock_all h m s x i = two_all h (58 ∷ (two_digits m ++ 58 ∷ (two_digits s ++ x))) (cons_all 58 (two_digits m ++ 58 ∷ (two_digits s ++ x)) colon_is
+      (two_all m (58 ∷ (two_digits s ++ x)) (cons_all 58 (two_digits s ++ x) colon_is (two_all s x i))))
+
+  day_all : (y m d : ℕ) (x : Text) → list_all p x ≡ true → list_all p (day_text y m d ++ x) ≡ true
+  day_all y m d x i = four_all y (45 ∷ (two_digits m ++ 45 ∷ (two_digits d ++ x))) (cons_all 45 (two_digits m ++ 45 ∷ (two_digits d ++ x)) dash_is
+      (two_all m (45 ∷ (two_digits d ++ x)) (cons_all 45 (two_digits d ++ x) dash_is (two_all d x i))))
 
   pub time_all : (t : MosTime) → list_all p (time_text t) ≡ true
-  time_all t = four_all t.year _ (cons_all _ _ dash_is (two_all t.month _ (cons_all _ _ dash_is (two_all t.day _ (cons_all _ _ middle_is
-      (two_all t.hour _ (cons_all _ _ colon_is (two_all t.minute _ (cons_all _ _ colon_is (two_all t.second _ (tail_all t.millis t.zone)))))))))))
+  time_all t = day_all t.year t.month t.day (84 ∷ (clock_text t.hour t.minute t.second ++ (millis_text t.millis ++ zone_text t.zone)))
+      (cons_all 84 (clock_text t.hour t.minute t.second ++ (millis_text t.millis ++ zone_text t.zone)) middle_is
+      (clock_all t.hour t.minute t.second (millis_text t.millis ++ zone_text t.zone) (tail_all t.millis t.zone)))
 
 time_solid : (t : MosTime) → trimmed (time_text t) ≡ time_text t
 time_solid t = solid_trimmed (time_text t) (time_all is_solid (λ k. digit_solid (48 + k % 10) (digit_is k)) refl t)
@@ -180,8 +193,25 @@ record IsText (t : MosTime) (x : Text) : Type 0 where
   zone : zone_of (behind_thousandths (drop 19 x)) ≡ Some t.zone
 
 -- the days of a month are few
-days_few : (y m : ℕ) → days_of y m ≤ 31
-days_few y m = ?
+days_few : (y m : ℕ) → m ≤ 12 → days_of y m ≤ 31
+days_few y zero l = omega arith
+days_few y (suc zero) l = omega arith
+days_few y (suc (suc zero)) l = february (is_leap y)
+  where
+    february : (b : Bool) → cond b 29 28 ≤ 31
+    february true = omega arith
+    february false = omega arith
+days_few y (suc (suc (suc zero))) l = omega arith
+days_few y (suc (suc (suc (suc zero)))) l = omega arith
+days_few y (suc (suc (suc (suc (suc zero))))) l = omega arith
+days_few y (suc (suc (suc (suc (suc (suc zero)))))) l = omega arith
+days_few y (suc (suc (suc (suc (suc (suc (suc zero))))))) l = omega arith
+days_few y (suc (suc (suc (suc (suc (suc (suc (suc zero)))))))) l = omega arith
+days_few y (suc (suc (suc (suc (suc (suc (suc (suc (suc zero))))))))) l = omega arith
+days_few y (suc (suc (suc (suc (suc (suc (suc (suc (suc (suc zero)))))))))) l = omega arith
+days_few y (suc (suc (suc (suc (suc (suc (suc (suc (suc (suc (suc zero))))))))))) l = omega arith
+days_few y (suc (suc (suc (suc (suc (suc (suc (suc (suc (suc (suc (suc zero)))))))))))) l = omega arith
+days_few y (suc (suc (suc (suc (suc (suc (suc (suc (suc (suc (suc (suc (suc m))))))))))))) l = absurd (omega arith)
 
 date_small : (y m d : ℕ) → is_date y m d ≡ true → (m ≤ 99) × (d ≤ 99)
 date_small y m d e =
@@ -189,7 +219,7 @@ date_small y m d e =
     let q = and_parts (nat_le 1 m && nat_le m 12) (nat_le 1 d) p.0 in
     let r = leb-true m 12 (and_parts (nat_le 1 m) (nat_le m 12) q.0).1 in
     let s = leb-true d (days_of y m) p.1 in
-    let few : days_of y m ≤ 31 = days_few y m in
+    let few : days_of y m ≤ 31 = days_few y m r in
     (omega (arith, r), omega (arith, s, few))
 
 day_small : (y m d : ℕ) → is_day y m d ≡ true → (y ≤ 9999) × (m ≤ 99) × (d ≤ 99)
@@ -205,10 +235,10 @@ clock_small h m s e =
     let r = leb-true s 59 p.1 in
     (omega (arith, q.0), omega (arith, q.1), omega (arith, r))
 
-parts_of : (t : MosTime) → IsTime t → IsText t (time_text t)
-parts_of t i =
-    let d = day_small t.year t.month t.day i.day in
-    let c = clock_small t.hour t.minute t.second i.clock in
+parts_of : (t : MosTime) → IsText t (time_text t)
+parts_of t =
+    let d = day_small t.year t.month t.day t.day_exists in
+    let c = clock_small t.hour t.minute t.second t.time_exists in
     record {
       year = four_back t.year d.0;
       month = two_back t.month d.1;
@@ -216,8 +246,8 @@ parts_of t i =
       hour = two_back t.hour c.0;
       minute = two_back t.minute c.1;
       second = two_back t.second c.2;
-      millis = millis_back t.millis t.zone i.millis;
-      zone = ap zone_of (zone_behind t.millis t.zone) ∙ zone_back t.zone i.zone;
+      millis = millis_back t.millis t.zone t.millis_exist;
+      zone = ap zone_of (zone_behind t.millis t.zone) ∙ zone_back t.zone t.zone_exists;
     }
 
 front_fits : (t : MosTime) → fits (codes "0000-00-00T00:00:00") (take 19 (time_text t)) ≡ true
@@ -227,28 +257,63 @@ front_fits t = rw (digit_is (t.year / 1000), digit_is (t.year / 100), digit_is (
 three_tests : (a b c : Bool) → a ≡ true → b ≡ true → c ≡ true → (a && (b && c)) ≡ true
 three_tests a b c p q r = rw (p, q, r) refl
 
-time_accepted : (t : MosTime) → IsTime t → is_time (time_text t) ≡ true
-time_accepted t i =
+time_accepted : (t : MosTime) → is_time (time_text t) ≡ true
+time_accepted t =
     let x = time_text t in
-    let p = parts_of t i in
+    let p = parts_of t in
     time_is x (front_fits t) ∙ three_tests _ _ _
-        (ap (λ k. is_day k (number_at 5 2 x) (number_at 8 2 x)) p.year ∙ (ap (λ k. is_day t.year k (number_at 8 2 x)) p.month ∙ (ap (λ k. is_day t.year t.month k) p.day ∙ i.day)))
-        (ap (λ k. is_time_of_day k (number_at 14 2 x) (number_at 17 2 x)) p.hour ∙ (ap (λ k. is_time_of_day t.hour k (number_at 17 2 x)) p.minute ∙ (ap (λ k. is_time_of_day t.hour t.minute k) p.second ∙ i.clock)))
-        (ap is_zone (zone_behind t.millis t.zone) ∙ zone_accepted t.zone i.zone)
+        (ap (λ k. is_day k (number_at 5 2 x) (number_at 8 2 x)) p.year ∙ (ap (λ k. is_day t.year k (number_at 8 2 x)) p.month ∙ (ap (λ k. is_day t.year t.month k) p.day ∙ t.day_exists)))
+        (ap (λ k. is_time_of_day k (number_at 14 2 x) (number_at 17 2 x)) p.hour ∙ (ap (λ k. is_time_of_day t.hour k (number_at 17 2 x)) p.minute ∙ (ap (λ k. is_time_of_day t.hour t.minute k) p.second ∙ t.time_exists)))
+        (ap is_zone (zone_behind t.millis t.zone) ∙ zone_accepted t.zone t.zone_exists)
 
-time_fine : (t : MosTime) → IsTime t → time_fault (time_text t) ≡ None
+time_fine : (t : MosTime) → time_fault (time_text t) ≡ None
 unfolding reads
-time_fine t i = form_fine forms.Time bad_time (time_text t) (trimmed (time_text t)) (time_characters t) (ap (λ b. only_if b (trimmed (time_text t))) (ap is_time (time_solid t) ∙ time_accepted t i))
+time_fine t = form_fine forms.Time bad_time (time_text t) (trimmed (time_text t)) (time_characters t) (ap (λ b. only_if b (trimmed (time_text t))) (ap is_time (time_solid t) ∙ time_accepted t))
 
-abbrev time_of : ℕ → ℕ → ℕ → ℕ → ℕ → ℕ → Option ℕ → Zone → MosTime
-time_of y m d h n s k z = record { year = y; month = m; day = d; hour = h; minute = n; second = s; millis = k; zone = z }
+-- two times with the same parts are the same, whatever shows that they exist
+record Parts : Type 0 where
+  year : ℕ
+  month : ℕ
+  day : ℕ
+  hour : ℕ
+  minute : ℕ
+  second : ℕ
+  millis : Option ℕ
+  zone : Zone
 
-made : {y m d h n s y' m' d' h' n' s' : ℕ} {k k' : Option ℕ} {z z' : Zone} → y ≡ y' → m ≡ m' → d ≡ d' → h ≡ h' → n ≡ n' → s ≡ s' → k ≡ k' → Some z ≡ Some z'
-    → time_of y m d h n s k z ≡ time_of y' m' d' h' n' s' k' z'
-made p q r t u v w i = cc
+abbrev parts : ℕ → ℕ → ℕ → ℕ → ℕ → ℕ → Option ℕ → Zone → Parts
+parts y m d h n s k z = record { year = y; month = m; day = d; hour = h; minute = n; second = s; millis = k; zone = z }
+
+abbrev parts_in : MosTime → Parts
+parts_in t = parts t.year t.month t.day t.hour t.minute t.second t.millis t.zone
+
+abbrev made : (v : Parts) → is_day v.year v.month v.day ≡ true → is_time_of_day v.hour v.minute v.second ≡ true → are_millis v.millis ≡ true → is_zone_of v.zone ≡ true → MosTime
+made v a b c d = record { year = v.year; month = v.month; day = v.day; hour = v.hour; minute = v.minute; second = v.second; millis = v.millis; zone = v.zone; day_exists = a; time_exists = b; millis_exist = c; zone_exists = d }
+
+abbrev Shown : Parts → Type 0
+Shown v = (is_day v.year v.month v.day ≡ true) × (is_time_of_day v.hour v.minute v.second ≡ true) × (are_millis v.millis ≡ true) × (is_zone_of v.zone ≡ true)
+
+shown_once : (v : Parts) (f g : Shown v) → made v f.0 f.1 f.2 f.3 ≡ made v g.0 g.1 g.2 g.3
+shown_once v f g = ap (λ a. made v a f.1 f.2 f.3) (Bool-set _ _ f.0 g.0) ∙ (ap (λ a. made v g.0 a f.2 f.3) (Bool-set _ _ f.1 g.1)
+    ∙ (ap (λ a. made v g.0 g.1 a f.3) (Bool-set _ _ f.2 g.2) ∙ ap (λ a. made v g.0 g.1 g.2 a) (Bool-set _ _ f.3 g.3)))
+
+shown_same : (v w : Parts) → v ≡ w → (f : Shown v) (g : Shown w) → made v f.0 f.1 f.2 f.3 ≡ made w g.0 g.1 g.2 g.3
+shown_same v w e f = let P : Parts → Type 0 = λ u. (g : Shown u) → made v f.0 f.1 f.2 f.3 ≡ made u g.0 g.1 g.2 g.3 in subst P e (shown_once v f)
+
+abbrev shown : (t : MosTime) → Shown (parts_in t)
+shown t = (t.day_exists, t.time_exists, t.millis_exist, t.zone_exists)
+
+some_same : (z w : Zone) → Some z ≡ Some w → z ≡ w
+some_same z w e = cc
+
+same_parts : {y m d h n s y' m' d' h' n' s' : ℕ} {k k' : Option ℕ} {z z' : Zone} → y ≡ y' → m ≡ m' → d ≡ d' → h ≡ h' → n ≡ n' → s ≡ s' → k ≡ k' → z ≡ z'
+    → parts y m d h n s k z ≡ parts y' m' d' h' n' s' k' z'
+same_parts p q r t u v w i = cc
 
 one_time : (t u : MosTime) (x : Text) → IsText t x → IsText u x → u ≡ t
-one_time t u x p q = made (sym q.year ∙ p.year) (sym q.month ∙ p.month) (sym q.day ∙ p.day) (sym q.hour ∙ p.hour) (sym q.minute ∙ p.minute) (sym q.second ∙ p.second) (sym q.millis ∙ p.millis) (sym q.zone ∙ p.zone)
+one_time t u x p q = shown_same (parts_in u) (parts_in t)
+    (same_parts (sym q.year ∙ p.year) (sym q.month ∙ p.month) (sym q.day ∙ p.day) (sym q.hour ∙ p.hour) (sym q.minute ∙ p.minute) (sym q.second ∙ p.second) (sym q.millis ∙ p.millis) (some_same u.zone t.zone (sym q.zone ∙ p.zone)))
+    (shown u) (shown t)
 
 pub times_back : TimesAreReadBack
-times_back t i = (time_fine t i, λ u h. one_time t u (time_text t) (parts_of t i) (let P : Text → Type 0 = λ v. IsText u v in subst P (h.1 ∙ time_solid t) (parts_of u h.0)))
+times_back t = (time_fine t, λ u e. one_time t u (time_text t) (parts_of t) (let P : Text → Type 0 = λ v. IsText u v in subst P (e ∙ time_solid t) (parts_of u)))

@@ -6,11 +6,10 @@ use Rattle.mos_fields.specs.Elements.{is_element}
 use Rattle.mos_fields.specs.Faults.{Fault, text_fault, id_fault, opt_id_fault, slug_fault, name_fault, samples_fault, rev_fault, time_fault, air_fault, obj_type_fault, operation_fault, level_fault, field_fault}
 use Rattle.mos_fields.specs.Fields.{name_of}
 use Rattle.mos_fields.specs.Forms.{number_in, trimmed}
-use Rattle.mos_fields.specs.Limits.{IsId, id_limit, slug_limit, is_day, is_time_of_day, are_millis}
+use Rattle.mos_fields.specs.Limits.{IsId, id_limit, slug_limit}
 use Rattle.mos_fields.specs.Names.{is_name, is_empty}
 use Rattle.mos_fields.specs.Raw.{IsRawElement}
 use Rattle.mos_fields.specs.Values.{samples_text, rev_text, time_text, air_text, obj_type_text, operation_text, level_text}
-use Rattle.mos_fields.specs.Zones.{is_zone_of}
 use Rattle.mos_fields.specs.declared.air.Air.{Air}
 use Rattle.mos_fields.specs.declared.field.Field.{Field}
 use Rattle.mos_fields.specs.declared.level.Level.{Level}
@@ -52,15 +51,8 @@ RevsAreReadBack = (n : ℕ) → n ≤ 999 → IsReadBack (rev_fault (rev_text n)
 
 -- ---- times
 
--- what holds of every time
-pub record IsTime (t : MosTime) : Type 0 where
-  pub day : is_day t.year t.month t.day ≡ true
-  pub clock : is_time_of_day t.hour t.minute t.second ≡ true
-  pub millis : are_millis t.millis ≡ true
-  pub zone : is_zone_of t.zone ≡ true
-
 abbrev pub TimesAreReadBack : Type 0
-TimesAreReadBack = (t : MosTime) → IsTime t → IsReadBack (time_fault (time_text t)) (λ u. IsTime u × (time_text u ≡ trimmed (time_text t))) t
+TimesAreReadBack = (t : MosTime) → IsReadBack (time_fault (time_text t)) (λ u. time_text u ≡ trimmed (time_text t)) t
 
 -- ---- words
 
