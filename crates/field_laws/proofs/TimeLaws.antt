@@ -251,8 +251,22 @@ parts_of t =
     }
 
 front_fits : (t : MosTime) → fits (codes "0000-00-00T00:00:00") (take 19 (time_text t)) ≡ true
-front_fits t = rw (digit_is (t.year / 1000), digit_is (t.year / 100), digit_is (t.year / 10), digit_is t.year, digit_is (t.month / 10), digit_is t.month, digit_is (t.day / 10), digit_is t.day,
-    digit_is (t.hour / 10), digit_is t.hour, digit_is (t.minute / 10), digit_is t.minute, digit_is (t.second / 10), digit_is t.second) refl
+front_fits t = rw (
+  digit_is (t.year / 1000),
+  digit_is (t.year / 100),
+  digit_is (t.year / 10),
+  digit_is t.year,
+  digit_is (t.month / 10),
+  digit_is t.month,
+  digit_is (t.day / 10),
+  digit_is t.day,
+  digit_is (t.hour / 10),
+  digit_is t.hour,
+  digit_is (t.minute / 10),
+  digit_is t.minute,
+  digit_is (t.second / 10),
+  digit_is t.second,
+) refl
 
 three_tests : (a b c : Bool) → a ≡ true → b ≡ true → c ≡ true → (a && (b && c)) ≡ true
 three_tests a b c p q r = rw (p, q, r) refl
@@ -262,9 +276,9 @@ time_accepted t =
     let x = time_text t in
     let p = parts_of t in
     time_is x (front_fits t) ∙ three_tests _ _ _
-        (ap (λ k. is_day k (number_at 5 2 x) (number_at 8 2 x)) p.year ∙ (ap (λ k. is_day t.year k (number_at 8 2 x)) p.month ∙ (ap (λ k. is_day t.year t.month k) p.day ∙ t.day_exists)))
-        (ap (λ k. is_time_of_day k (number_at 14 2 x) (number_at 17 2 x)) p.hour ∙ (ap (λ k. is_time_of_day t.hour k (number_at 17 2 x)) p.minute ∙ (ap (λ k. is_time_of_day t.hour t.minute k) p.second ∙ t.time_exists)))
-        (ap is_zone (zone_behind t.millis t.zone) ∙ zone_accepted t.zone t.zone_exists)
+    (ap (λ k. is_day k (number_at 5 2 x) (number_at 8 2 x)) p.year ∙ (ap (λ k. is_day t.year k (number_at 8 2 x)) p.month ∙ (ap (λ k. is_day t.year t.month k) p.day ∙ t.day_exists)))
+    (ap (λ k. is_time_of_day k (number_at 14 2 x) (number_at 17 2 x)) p.hour ∙ (ap (λ k. is_time_of_day t.hour k (number_at 17 2 x)) p.minute ∙ (ap (λ k. is_time_of_day t.hour t.minute k) p.second ∙ t.time_exists)))
+    (ap is_zone (zone_behind t.millis t.zone) ∙ zone_accepted t.zone t.zone_exists)
 
 time_fine : (t : MosTime) → time_fault (time_text t) ≡ None
 unfolding reads

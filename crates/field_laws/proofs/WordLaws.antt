@@ -249,5 +249,8 @@ field_text fields.Kept = refl
 field_text fields.Dropped = refl
 
 pub fields_back : FieldsAreReadBack
-fields_back a h = (field_fine (name_of a) a (field_text a) (field_found a h), λ b e.
-    let g = sym (field_found b (ap is_empty (sym e) ∙ h)) ∙ (ap (word_of name_of named_fields) (sym e) ∙ field_found a h) in cc)
+fields_back a h = (
+  field_fine (name_of a) a (field_text a) (field_found a h),
+  λ b e.
+      let g = sym (field_found b (ap is_empty (sym e) ∙ h)) ∙ (ap (word_of name_of named_fields) (sym e) ∙ field_found a h) in cc,
+)
