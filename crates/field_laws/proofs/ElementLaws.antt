@@ -1,22 +1,20 @@
 -- The raw text of one element is found to be that.
-use Rattle.std.proofs.Common.{◌≡◌, ℕ, zero, suc, ◌+◌, ◌-◌, ◌<◌, ◌≤◌, ◌⊎◌, inl, inr, Bool, true, false, cond, not, ◌&&◌, ◌||◌, eqb, ltb, leb, List, [], ◌∷◌, ◌++◌, length, take, drop, Option, Some, None, is_some, refl, sym, ap, ◌∙◌, subst, arith, append_assoc}
+use Rattle.std.proofs.Common.{◌≡◌, ℕ, suc, ◌+◌, ◌-◌, ◌≤◌, Bool, true, false, cond, not, ◌&&◌, ◌||◌, eqb, ltb, List, [], ◌∷◌, ◌++◌, length, take, drop, Some, None, is_some, refl, sym, ap, ◌∙◌, subst, arith}
 use Rattle.std.specs.Prelude.{◌==◌, nat_le}
 use Rattle.std.specs.List.{list_all}
 use Rattle.std.proofs.lemmas.Bool.{and_parts, and_from, eqb-true, eq-eqb, ne_eqb}
 use Rattle.std.proofs.lemmas.Bool.Decides.{nat_tests}
 use Rattle.std.proofs.lemmas.List.{take_at, drop_at}
-use Rattle.mos_fields.specs.Characters.{Text, is_allowed, are_allowed}
+use Rattle.mos_fields.specs.Characters.{Text, is_allowed}
 use Rattle.mos_fields.specs.Fields.{same}
 use Rattle.mos_fields.specs.Names.{is_start, is_further, is_empty, is_name}
 use Rattle.mos_fields.specs.References.{is_digit, is_hex, hex_from, number_in, named_references, of_number, numeric, or_numeric, reference_of}
 use Rattle.mos_fields.specs.Units.{grows_at, named_at}
-use Rattle.mos_fields.specs.Raw.{is_space, is_plain, is_quote, is_tail, ValueText, value_ends, value_itself, value_reference, QuotedText, quoted_space, quote, EqualsText, equals_space, equals, TagText, ends_start, ends_empty, tag_space, attribute, IsRaw, raw_empty, raw_whole, IsRawElement}
+use Rattle.mos_fields.specs.Raw.{is_space, is_plain, is_quote, ValueText, value_ends, value_itself, value_reference, QuotedText, quoted_space, quote, EqualsText, equals_space, equals, TagText, ends_start, ends_empty, tag_space, attribute, IsRaw, raw_empty, raw_whole}
 use Rattle.mos_fields.specs.declared.tag_step.TagPart.{TagPart}
 use Rattle.mos_fields.specs.declared.tag_step.TagPart.TheVariants as parts
-use Rattle.mos_fields.specs.declared.tag_step.TagStep.{TagStep}
 use Rattle.mos_fields.specs.declared.tag_step.TagStep.TheVariants as steps
-use Rattle.mos_fields.specs.Elements.{name_count, reference_count, begins_with_reference, between_step, equals_step, quote_step, value_step, tag_step, goes_on, is_behind_mark, is_element}
-use Rattle.mos_fields.specs.ElementFaults.{unread_fault}
+use Rattle.mos_fields.specs.Elements.{name_count, reference_count, begins_with_reference, between_step, equals_step, quote_step, value_step, tag_step, goes_on, is_element}
 use Rattle.mos_fields.specs.Faults.{text_fault}
 use Rattle.mos_fields.specs.declared.fault.FieldFault.TheVariants.{BadWord as bad_word}
 use Rattle.mos_fields.proofs.NameLemmas.{name_by_places}

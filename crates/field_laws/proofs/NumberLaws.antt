@@ -1,5 +1,5 @@
 -- Numbers are read back from their digits.
-use Rattle.std.proofs.Common.{◌≡◌, ℕ, ◌+◌, ◌-◌, ◌*◌, ◌<◌, ◌≤◌, ◌^◌, Bool, true, false, cond, not, ◌&&◌, ◌||◌, eqb, leb, List, [], ◌∷◌, ◌++◌, length, reverse, Option, Some, None, is_none, refl, sym, ap, ◌∙◌, subst, arith}
+use Rattle.std.proofs.Common.{◌≡◌, ℕ, ◌-◌, ◌<◌, ◌≤◌, ◌^◌, Bool, true, false, cond, not, ◌&&◌, leb, [], ◌∷◌, length, reverse, Some, None, refl, ap, ◌∙◌, arith}
 use Rattle.std.specs.List.{list_all}
 use Rattle.std.specs.Fmt.{decimal}
 use Rattle.std.proofs.lemmas.Bool.{and_parts, and_from, le-leb}
@@ -7,12 +7,10 @@ use Rattle.std.proofs.lemmas.Bool.Decides.{nat_tests}
 use Rattle.std.proofs.lemmas.Fmt.{digits_decimal, digits_value-decimal, length-decimal-le, decimal_nonempty}
 use Rattle.std.proofs.lemmas.List.{reverse-reverse, reverse-append}
 use Rattle.std.proofs.lemmas.List.Folds.{list_all-append}
-use Rattle.mos_fields.specs.Characters.{Text, is_allowed, are_allowed}
+use Rattle.mos_fields.specs.Characters.{Text, is_allowed}
 use Rattle.mos_fields.specs.Forms.{is_space, is_digit, is_digits, number_in, shortest_digits, behind_white, before_white, trimmed, only_if, number_up_to, reads}
-use Rattle.mos_fields.specs.Faults.{Fault, text_fault, fault_if, form_fault, samples_fault, rev_fault}
-use Rattle.mos_fields.specs.declared.form.Form.{Form}
+use Rattle.mos_fields.specs.Faults.{text_fault, samples_fault, rev_fault}
 use Rattle.mos_fields.specs.declared.form.Form.TheVariants as forms
-use Rattle.mos_fields.specs.declared.fault.FieldFault.{FieldFault}
 use Rattle.mos_fields.specs.declared.fault.FieldFault.TheVariants.{BadNumber as bad_number}
 use Rattle.mos_fields.proofs.NumberLemmas.{own}
 use Rattle.mos_fields.proofs.FaultLemmas.{form_fine}

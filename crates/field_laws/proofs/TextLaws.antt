@@ -1,12 +1,11 @@
 -- Texts have no fault where they are values.
-use Rattle.std.proofs.Common.{◌≡◌, ℕ, ◌+◌, ◌<◌, ◌≤◌, Bool, true, false, cond, not, eqb, ltb, List, [], ◌∷◌, length, Option, Some, None, refl, sym, ap, ◌∙◌, arith}
+use Rattle.std.proofs.Common.{◌≡◌, ℕ, ◌+◌, ◌<◌, ◌≤◌, Bool, true, false, cond, not, eqb, ltb, [], ◌∷◌, length, Some, None, refl, sym, ap, ◌∙◌, arith}
 use Rattle.std.proofs.lemmas.Bool.{and_parts, ne_eqb}
 use Rattle.std.proofs.lemmas.Bool.Decides.{nat_tests}
 use Rattle.mos_fields.specs.Characters.{Text, is_allowed, are_allowed}
-use Rattle.mos_fields.specs.Names.{is_name, is_further}
-use Rattle.mos_fields.specs.Limits.{IsId}
+use Rattle.mos_fields.specs.Names.{is_name}
 use Rattle.mos_fields.specs.Units.{grows_at, named_at}
-use Rattle.mos_fields.specs.Faults.{Fault, bad_char_from, text_fault, first_of, fault_if, length_fault, id_length_fault, id_fault, opt_id_fault, slug_fault, name_fault}
+use Rattle.mos_fields.specs.Faults.{Fault, bad_char_from, text_fault, first_of, fault_if, length_fault, id_length_fault}
 use Rattle.mos_fields.specs.declared.fault.FieldFault.{FieldFault}
 use Rattle.mos_fields.specs.declared.fault.FieldFault.TheVariants.{BadWord as bad_word}
 use Rattle.mos_fields.proofs.NameLemmas.{name_by_places}

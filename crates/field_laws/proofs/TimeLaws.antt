@@ -1,15 +1,13 @@
 -- Times are read back.
-use Rattle.std.proofs.Common.{◌≡◌, ℕ, zero, suc, ◌+◌, ◌-◌, ◌*◌, ◌/◌, ◌%◌, ◌<◌, ◌≤◌, Bool, true, false, cond, ◌&&◌, ◌||◌, eqb, leb, List, [], ◌∷◌, ◌++◌, length, take, drop, Option, Some, None, codes, refl, sym, ap, ◌∙◌, subst, arith}
+use Rattle.std.proofs.Common.{◌≡◌, ℕ, zero, suc, ◌+◌, ◌-◌, ◌/◌, ◌%◌, ◌≤◌, Bool, true, false, cond, ◌&&◌, ◌||◌, [], ◌∷◌, ◌++◌, take, drop, Option, Some, None, codes, refl, sym, ap, ◌∙◌, subst, arith}
 use Rattle.std.specs.List.{list_all}
 use Rattle.std.specs.Prelude.{nat_le}
 use Rattle.std.proofs.Math.Bool.{Bool-set}
-use Rattle.std.proofs.lemmas.Bool.{and_parts, and_from, leb-true, le-leb}
+use Rattle.std.proofs.lemmas.Bool.{and_parts, and_from, leb-true}
 use Rattle.std.proofs.lemmas.Bool.Decides.{nat_tests}
-use Rattle.std.proofs.lemmas.List.Folds.{list_all-append}
-use Rattle.mos_fields.specs.Characters.{Text, is_allowed, are_allowed}
-use Rattle.mos_fields.specs.Fields.{same}
+use Rattle.mos_fields.specs.Characters.{Text, is_allowed}
 use Rattle.mos_fields.specs.Faults.{text_fault, time_fault}
-use Rattle.mos_fields.specs.Forms.{is_empty, is_digit, number_in, number_at, fits, is_zone, is_time, is_date, days_of, at_month, is_leap, behind_thousandths, trimmed, only_if, reads}
+use Rattle.mos_fields.specs.Forms.{is_digit, number_in, number_at, fits, is_zone, is_time, is_date, days_of, is_leap, behind_thousandths, trimmed, only_if, reads}
 use Rattle.mos_fields.specs.Limits.{is_hour_and_minute, is_day, is_time_of_day, are_millis}
 use Rattle.mos_fields.specs.Times.{millis_of, zone_of, distance_of}
 use Rattle.mos_fields.specs.Values.{two_digits, three_digits, four_digits, day_text, clock_text, millis_text, zone_text, time_text}

@@ -1,10 +1,10 @@
 -- Words and names are read back.
-use Rattle.std.proofs.Common.{◌≡◌, false, List, Option, Some, None, refl, sym, ap, ◌∙◌}
+use Rattle.std.proofs.Common.{◌≡◌, false, Option, Some, None, refl, sym, ap, ◌∙◌}
 use Rattle.mos_fields.specs.Characters.{Text}
 use Rattle.mos_fields.specs.Fields.{name_of, named_fields}
 use Rattle.mos_fields.specs.Forms.{trimmed, reads}
 use Rattle.mos_fields.specs.Names.{is_empty}
-use Rattle.mos_fields.specs.Faults.{text_fault, air_fault, obj_type_fault, operation_fault, level_fault, field_fault}
+use Rattle.mos_fields.specs.Faults.{text_fault, air_fault, obj_type_fault, operation_fault, level_fault}
 use Rattle.mos_fields.specs.Values.{word_of, air_text, air_values, obj_type_text, obj_type_values, operation_text, operation_values, level_text, level_values}
 use Rattle.mos_fields.specs.declared.air.Air.{Air}
 use Rattle.mos_fields.specs.declared.air.Air.TheVariants as airs
