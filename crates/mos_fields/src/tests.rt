@@ -1,6 +1,6 @@
 //! What the types read and write, by values from outside.
 use crate::fault::FieldFault;
-use crate::{Air, Field, Id, MosTime, Name, OptId, Rev, Samples, Slug, Text};
+use crate::{Air, Field, Id, MosTime, Name, OptId, Rev, Samples, Slug, Text, Unread};
 use std::alloc::AllocError;
 use std::test::Fail;
 
@@ -94,5 +94,51 @@ fn texts_are_in_order_by_characters(rt: HostRuntime) -> Result<(), Fail> {
     assert!(rt; private < clef);
     assert!(rt; !private.is(&clef));
     assert!(rt; clef.try_clone()?.is(&clef));
+    Ok(())
+}
+
+fn is_unread(rt: &impl AllocGlobal, text: &str) -> Result<bool, AllocError> {
+    Ok(Unread::try_new(rt.alloc(), &chars(rt, text)?).is_ok())
+}
+
+#[test]
+fn raw_elements_are_found(rt: HostRuntime) -> Result<(), Fail> {
+    assert!(rt; is_unread(&rt, "<a/>")?);
+    assert!(rt; is_unread(&rt, "<a b = \"'\"\n_='>' />")?);
+    assert!(rt; is_unread(&rt, "<x.1><x.1/><!--</x.1 ></x.1>")?);
+    assert!(rt; !is_unread(&rt, "<a></a></a>")?);
+    assert!(rt; !is_unread(&rt, "<a></b>")?);
+    assert!(rt; !is_unread(&rt, " <a/>")?);
+    assert!(rt; !is_unread(&rt, "<a b='<'/>")?);
+    Ok(())
+}
+
+#[test]
+fn references_have_their_form(rt: HostRuntime) -> Result<(), Fail> {
+    assert!(rt; is_unread(&rt, "<a b='&lt;&gt;&amp;&quot;&apos;'/>")?);
+    assert!(rt; is_unread(&rt, "<a b='&#x0010FFFF;&#00000065;'/>")?);
+    assert!(rt; !is_unread(&rt, "<a b='&nbsp;'/>")?);
+    assert!(rt; !is_unread(&rt, "<a b='&lt'/>")?);
+    assert!(rt; !is_unread(&rt, "<a b='&#x110000;'/>")?);
+    assert!(rt; !is_unread(&rt, "<a b='&#000000065;'/>")?);
+    assert!(rt; !is_unread(&rt, "<a b='&#xFFFE;'/>")?);
+    assert!(rt; !is_unread(&rt, "<a b='&#;'/>")?);
+    Ok(())
+}
+
+#[test]
+fn faults_come_in_order(rt: HostRuntime) -> Result<(), Fail> {
+    assert!(rt; MosTime::try_new(&chars(&rt, "2026-02-29T00:00:00")?) == Err(FieldFault::BadTime));
+    assert!(rt;
+        MosTime::try_new(&chars(&rt, "2026-\u{1}")?) == Err(FieldFault::BadChar { place: 5 })
+    );
+    match Unread::try_new(rt.alloc(), &chars(&rt, "<a>\u{FFFE}")?) {
+        Err(fault) => assert!(rt; fault == FieldFault::BadChar { place: 3 }),
+        Ok(_) => assert!(rt; false),
+    }
+    match Unread::try_new(rt.alloc(), &chars(&rt, "<a>")?) {
+        Err(fault) => assert!(rt; fault == FieldFault::BadWord),
+        Ok(_) => assert!(rt; false),
+    }
     Ok(())
 }
