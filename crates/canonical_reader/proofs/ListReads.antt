@@ -19,6 +19,7 @@ module _ {X : Type 0} (form : X → Text → Text) (IsFine : X → Type 0) (star
     where
       r : ReadsOn form IsFine end bytes told here xs more rest
       r = reads xs more rest fine e
+
       by_others : (others : List X) → xs ≡ told ++ others → drop here bytes ≡ text_bytes (ended_form form end others more) ++ rest → (told ≡ xs) × (drop here bytes ≡ text_bytes (end ++ more) ++ rest)
       by_others [] is left = (sym (is ∙ append-nil told), left)
       by_others (x ∷ others) is left = let k = ap (begins_with start) left ∙ starts x (list_form form others (end ++ more)) rest in let no_way : ⊥ = cc in absurd no_way
@@ -29,6 +30,7 @@ module _ {X : Type 0} (form : X → Text → Text) (IsFine : X → Type 0) (star
     where
       r : ReadsOn form IsFine end bytes told here xs more rest
       r = reads xs more rest fine e
+
       by_others : (others : List X) → xs ≡ told ++ others → AreFine IsFine others → drop here bytes ≡ text_bytes (ended_form form end others more) ++ rest → ReadsOn form IsFine end bytes (told ++ y ∷ []) next xs more rest
       by_others [] is h left = let k = ap (begins_with start) left ∙ ends more rest in let no_way : ⊥ = cc in absurd no_way
       by_others (x ∷ others) is h left =
@@ -46,6 +48,7 @@ module _ {X : Type 0} (form : X → Text → Text) (IsFine : X → Type 0) (star
     where
       r : ReadsOn form IsFine end bytes told here xs more rest
       r = reads xs more rest fine e
+
       by_others : (others : List X) → AreFine IsFine others → drop here bytes ≡ text_bytes (ended_form form end others more) ++ rest → ⊥
       by_others [] h left = let k = ap (begins_with start) left ∙ ends more rest in cc
       by_others (x ∷ others) h left = none x (list_form form others (end ++ more)) rest h.0 left

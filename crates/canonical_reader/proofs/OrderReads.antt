@@ -120,6 +120,7 @@ module _ (bytes : List ℕ) (at : ℕ) where
         order_read end last o more rest fine e =
             let r = first o.ro (from_slug o more) rest fine.0 e in
             let s = next o.slug (from_stories o more) rest fine.1 r.1 in
-            let t = all o.stories more rest fine.2 s.1 in
-            (ap (λ (x : Text). order_texts x slug stories) r.0 ∙ ap (λ (x : Text). order_texts o.ro x stories) s.0 ∙ ap (λ (xs : List StoryTexts). order_texts o.ro o.slug xs) t.0,
-             last (text_bytes more ++ rest) (t.1 ∙ apart (codes "</roCreate></mos>") more rest))
+            let t = all o.stories more rest fine.2 s.1 in (
+              ap (λ (x : Text). order_texts x slug stories) r.0 ∙ ap (λ (x : Text). order_texts o.ro x stories) s.0 ∙ ap (λ (xs : List StoryTexts). order_texts o.ro o.slug xs) t.0,
+              last (text_bytes more ++ rest) (t.1 ∙ apart (codes "</roCreate></mos>") more rest),
+            )

@@ -41,15 +41,19 @@ escaping c = on_less c (c == 60) refl
     on_apostrophe : (c : ℕ) (b : Bool) → (c == 39) ≡ b → (c == 38) ≡ false → (c == 60) ≡ false → Escaping c (cond b (codes "&apos;") (c ∷ []))
     on_apostrophe c true e p q = apostrophe (test_eq c 39 e)
     on_apostrophe c false e p q = itself p q
+
     on_quote : (c : ℕ) (b : Bool) → (c == 34) ≡ b → (c == 38) ≡ false → (c == 60) ≡ false → Escaping c (cond b (codes "&quot;") (cond (c == 39) (codes "&apos;") (c ∷ [])))
     on_quote c true e p q = quote (test_eq c 34 e)
     on_quote c false e p q = on_apostrophe c (c == 39) refl p q
+
     on_ampersand : (c : ℕ) (b : Bool) → (c == 38) ≡ b → (c == 60) ≡ false → Escaping c (cond b (codes "&amp;") (cond (c == 34) (codes "&quot;") (cond (c == 39) (codes "&apos;") (c ∷ []))))
     on_ampersand c true e q = ampersand (test_eq c 38 e)
     on_ampersand c false e q = on_quote c (c == 34) refl e q
+
     on_greater : (c : ℕ) (b : Bool) → (c == 62) ≡ b → (c == 60) ≡ false → Escaping c (cond b (codes "&gt;") (cond (c == 38) (codes "&amp;") (cond (c == 34) (codes "&quot;") (cond (c == 39) (codes "&apos;") (c ∷ [])))))
     on_greater c true e q = greater (test_eq c 62 e)
     on_greater c false e q = on_ampersand c (c == 38) refl q
+
     on_less : (c : ℕ) (b : Bool) → (c == 60) ≡ b → Escaping c (cond b (codes "&lt;") (cond (c == 62) (codes "&gt;") (cond (c == 38) (codes "&amp;") (cond (c == 34) (codes "&quot;") (cond (c == 39) (codes "&apos;") (c ∷ []))))))
     on_less c true e = less (test_eq c 60 e)
     on_less c false e = on_greater c (c == 62) refl e
@@ -92,6 +96,7 @@ plain_begins c b s a small n = on_cases (allowed_cases c a)
   where
     low : c < 65536 → begins_with (b ∷ []) (text_bytes (c ∷ []) ++ s) ≡ false
     low h = let e = low_bytes c h in rw e (grind (arith, nat_tests))
+
     on_cases : (((9 ≤ c) × (c < 55296)) ⊎ (((57344 ≤ c) × (c < 65534)) ⊎ ((65536 ≤ c) × (c < 1114112)))) → begins_with (b ∷ []) (text_bytes (c ∷ []) ++ s) ≡ false
     on_cases (inl h) = low (omega arith)
     on_cases (inr (inl h)) = low (omega arith)

@@ -37,6 +37,7 @@ texts_stuck bytes at chars here reads goes_on none x rest a e = by_more r.more r
   where
     r : ReadsText bytes at chars here x rest
     r = reads x rest a e
+
     by_more : (more : Text) → are_allowed more ≡ true → drop here bytes ≡ text_bytes (escaped more) ++ 0 ∷ 60 ∷ rest → ⊥
     by_more [] b left = let k = nothing_more (drop here bytes) rest left in let j = k.0 in cc
     by_more (d ∷ more) b left = let k = one_more (drop here bytes) d more rest b left in let j = k.1 in cc
@@ -48,6 +49,7 @@ texts_step bytes at chars here c n reads goes_on some x rest a e = by_more r.mor
   where
     r : ReadsText bytes at chars here x rest
     r = reads x rest a e
+
     by_more : (more : Text) → x ≡ chars ++ more → are_allowed more ≡ true → drop here bytes ≡ text_bytes (escaped more) ++ 0 ∷ 60 ∷ rest → ReadsText bytes at (chars ++ c ∷ []) (here + n) x rest
     by_more [] t b left = let k = nothing_more (drop here bytes) rest left in let j = k.0 in let no_way : ⊥ = cc in absurd no_way
     by_more (d ∷ more) t b left =
@@ -70,6 +72,7 @@ texts_done bytes at chars here reads at_tag x rest a e = by_more r.more r.text r
   where
     r : ReadsText bytes at chars here x rest
     r = reads x rest a e
+
     by_more : (more : Text) → x ≡ chars ++ more → are_allowed more ≡ true → drop here bytes ≡ text_bytes (escaped more) ++ 0 ∷ 60 ∷ rest → (chars ≡ x) × (drop here bytes ≡ 0 ∷ 60 ∷ rest)
     by_more [] t b left = (sym (t ∙ append-nil chars), (nothing_more (drop here bytes) rest left).1)
     by_more (d ∷ more) t b left = let k = one_more (drop here bytes) d more rest b left in let j = k.0 in let no_way : ⊥ = cc in absurd no_way

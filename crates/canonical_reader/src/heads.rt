@@ -27,7 +27,13 @@ pub fn read_head(alloc: Global, bytes: &[u8], at: usize) -> Result<Option<Head>,
 {
     match read_field(alloc, bytes, at, b"<mos><mosID>", b"</mosID><ncsID>")? {
         None => Ok(None),
-        Some((mos, second)) => match read_field(alloc, bytes, second, b"", b"</ncsID><messageID>")? {
+        Some((mos, second)) => match read_field(
+            alloc,
+            bytes,
+            second,
+            b"",
+            b"</ncsID><messageID>",
+        )? {
             None => Ok(None),
             Some((ncs, third)) => match read_field(alloc, bytes, third, b"", b"</messageID>")? {
                 None => Ok(None),

@@ -84,7 +84,11 @@ fn read_item(alloc: Global, bytes: &[u8], at: usize) -> Result<Option<(ItemTexts
 }
 
 /// The items that stand from a place on, before the end of their story. None only where there are no such.
-fn read_items(alloc: Global, bytes: &[u8], at: usize) -> Result<Option<(Vec<ItemTexts>, usize)>, NoMemory>
+fn read_items(
+    alloc: Global,
+    bytes: &[u8],
+    at: usize,
+) -> Result<Option<(Vec<ItemTexts>, usize)>, NoMemory>
     requires { at ≤ length bytes.now }
     ensures within { IfOk result (λ o. MatchOption o (Unit {0}) (λ t. (at ≤ t.1) × (t.1 ≤ length bytes.now))) }
     ensures read { IfOk result (λ o. MatchOption o (NoList item_form IsItemAllowed (codes "</story>") bytes.now at) (λ t. IsListRead item_form IsItemAllowed (codes "</story>") bytes.now at t.0.items t.1)) }
@@ -118,7 +122,11 @@ fn behind_literal(bytes: &[u8], at: usize, literal: &[u8]) -> Option<usize>
 }
 
 /// The story that stands at a place. None only where there is none.
-fn read_story(alloc: Global, bytes: &[u8], at: usize) -> Result<Option<(StoryTexts, usize)>, NoMemory>
+fn read_story(
+    alloc: Global,
+    bytes: &[u8],
+    at: usize,
+) -> Result<Option<(StoryTexts, usize)>, NoMemory>
     requires { at ≤ length bytes.now }
     ensures within { IfOk result (λ o. MatchOption o (Unit {0}) (λ t. (at < t.1) × (t.1 ≤ length bytes.now))) }
     ensures read { IfOk result (λ o. MatchOption o (NoneReads story_form IsStoryAllowed bytes.now at) (λ t. IsRead story_form IsStoryAllowed bytes.now at t.0 t.1)) }
@@ -136,7 +144,11 @@ fn read_story(alloc: Global, bytes: &[u8], at: usize) -> Result<Option<(StoryTex
 }
 
 /// The stories that stand from a place on, before the end of the message. None only where there are no such.
-fn read_stories(alloc: Global, bytes: &[u8], at: usize) -> Result<Option<(Vec<StoryTexts>, usize)>, NoMemory>
+fn read_stories(
+    alloc: Global,
+    bytes: &[u8],
+    at: usize,
+) -> Result<Option<(Vec<StoryTexts>, usize)>, NoMemory>
     requires { at ≤ length bytes.now }
     ensures within { IfOk result (λ o. MatchOption o (Unit {0}) (λ t. (at ≤ t.1) × (t.1 ≤ length bytes.now))) }
     ensures read { IfOk result (λ o. MatchOption o (NoList story_form IsStoryAllowed (codes "</roCreate></mos>") bytes.now at) (λ t. IsListRead story_form IsStoryAllowed (codes "</roCreate></mos>") bytes.now at t.0.items t.1)) }
@@ -156,7 +168,11 @@ fn read_stories(alloc: Global, bytes: &[u8], at: usize) -> Result<Option<(Vec<St
 }
 
 /// The running order of the roCreate that stands at a place, and where its message ends. None only where there is none.
-pub fn read_order(alloc: Global, bytes: &[u8], at: usize) -> Result<Option<(OrderTexts, usize)>, NoMemory>
+pub fn read_order(
+    alloc: Global,
+    bytes: &[u8],
+    at: usize,
+) -> Result<Option<(OrderTexts, usize)>, NoMemory>
     requires { at ≤ length bytes.now }
     ensures within { IfOk result (λ o. MatchOption o (Unit {0}) (λ t. t.1 ≤ length bytes.now)) }
     ensures read { IfOk result (λ o. MatchOption o (NoneReads order_form IsOrderAllowed bytes.now at) (λ t. IsRead order_form IsOrderAllowed bytes.now at t.0 t.1)) }
@@ -167,7 +183,11 @@ pub fn read_order(alloc: Global, bytes: &[u8], at: usize) -> Result<Option<(Orde
             None => Ok(None),
             Some((slug, third)) => match read_stories(alloc, bytes, third)? {
                 None => Ok(None),
-                Some((stories, fourth)) => match behind_literal(bytes, fourth, b"</roCreate></mos>") {
+                Some((stories, fourth)) => match behind_literal(
+                    bytes,
+                    fourth,
+                    b"</roCreate></mos>",
+                ) {
                     None => Ok(None),
                     Some(end) => Ok(Some((OrderTexts { ro, slug, stories }, end))),
                 },

@@ -15,7 +15,11 @@ pub fn behind(bytes: &[u8], here: usize) -> &[u8]
 }
 
 /// The text that stands escaped from a place on to the next `<`, and the place of that. None only where there is none.
-pub fn read_text(alloc: Global, bytes: &[u8], at: usize) -> Result<Option<(Vec<char>, usize)>, NoMemory>
+pub fn read_text(
+    alloc: Global,
+    bytes: &[u8],
+    at: usize,
+) -> Result<Option<(Vec<char>, usize)>, NoMemory>
     requires { at ≤ length bytes.now }
     ensures within { IfOk result (λ o. MatchOption o (Unit {0}) (λ t. (at ≤ t.1) × (t.1 ≤ length bytes.now))) }
     ensures read { IfOk result (λ o. MatchOption o (NoText bytes.now at) (λ t. IsTextRead bytes.now at t.0.items t.1)) }
@@ -36,7 +40,13 @@ pub fn read_text(alloc: Global, bytes: &[u8], at: usize) -> Result<Option<(Vec<c
 
 /// The text that stands escaped between two literals, the second of which begins with `<`, and the place behind them.
 /// None only where there is none.
-pub fn read_field(alloc: Global, bytes: &[u8], at: usize, before: &[u8], after: &[u8]) -> Result<Option<(Vec<char>, usize)>, NoMemory>
+pub fn read_field(
+    alloc: Global,
+    bytes: &[u8],
+    at: usize,
+    before: &[u8],
+    after: &[u8],
+) -> Result<Option<(Vec<char>, usize)>, NoMemory>
     requires at { at ≤ length bytes.now }
     requires ascii { (is_ascii before.now ≡ true) × (is_ascii after.now ≡ true) }
     requires tag { begins_tag after.now ≡ true }

@@ -26,4 +26,4 @@ returns-in-Some-3-clause-read c =
     let next = rw c.in-Some-2.is at c.in_ok-read_field-in-Some.ensures.read in
     let last = rw c.in-Some-3.is at c.in_ok-read_field-in-Some-2.ensures.read in
     head_read c.args.bytes.now c.args.at c.in-Some.mos.items c.in-Some.second first c.in-Some-2.ncs.items c.in-Some-2.third next
-        (record { mos = c.in-Some.mos; ncs = c.in-Some-2.ncs; message_id = c.in-Some-3.message_id; end = c.in-Some-3.end }) refl refl last
+    (record { mos = c.in-Some.mos; ncs = c.in-Some-2.ncs; message_id = c.in-Some-3.message_id; end = c.in-Some-3.end }) refl refl last

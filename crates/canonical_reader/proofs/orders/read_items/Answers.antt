@@ -22,7 +22,7 @@ loop-alloc-preserved c =
       goes_on = omega arith;
       within = high;
       reads = subst (λ (xs : List ItemTexts). ReadsList item_form IsItemAllowed (codes "</story>") c.args.bytes.now c.args.at xs c.in-Some.end) (sym c.in_ok-push-in-Some.ensures.items)
-        (list_step item_form IsItemAllowed (codes "<item>") (codes "</story>") item_starts items_end c.args.bytes.now c.args.at c.loop-alloc.items.items c.loop-alloc.here c.loop-alloc.invariant.reads begins c.in-Some.item c.in-Some.end one);
+          (list_step item_form IsItemAllowed (codes "<item>") (codes "</story>") item_starts items_end c.args.bytes.now c.args.at c.loop-alloc.items.items c.loop-alloc.here c.loop-alloc.invariant.reads begins c.in-Some.item c.in-Some.end one);
     }
 
 pub returns-clause-read : goal.returns-clause-read

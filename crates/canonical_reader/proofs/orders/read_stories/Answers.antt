@@ -22,7 +22,7 @@ loop-alloc-preserved c =
       goes_on = omega arith;
       within = high;
       reads = subst (λ (xs : List StoryTexts). ReadsList story_form IsStoryAllowed (codes "</roCreate></mos>") c.args.bytes.now c.args.at xs c.in-Some.end) (sym c.in_ok-push-in-Some.ensures.items)
-        (list_step story_form IsStoryAllowed (codes "<story>") (codes "</roCreate></mos>") story_starts stories_end c.args.bytes.now c.args.at c.loop-alloc.stories.items c.loop-alloc.here c.loop-alloc.invariant.reads begins c.in-Some.story c.in-Some.end one);
+          (list_step story_form IsStoryAllowed (codes "<story>") (codes "</roCreate></mos>") story_starts stories_end c.args.bytes.now c.args.at c.loop-alloc.stories.items c.loop-alloc.here c.loop-alloc.invariant.reads begins c.in-Some.story c.in-Some.end one);
     }
 
 pub returns-clause-read : goal.returns-clause-read

@@ -20,7 +20,7 @@ loop-chars-preserved c =
       goes_on = omega arith;
       within = omega arith;
       reads = subst (λ (xs : List ℕ). ReadsTexts c.args.bytes.now c.args.at xs (c.loop-chars.here + c.in-Some.count)) (sym c.in_ok-push-in-Some.ensures.items)
-        (texts_step c.args.bytes.now c.args.at c.loop-chars.chars.items c.loop-chars.here c.in-Some.c c.in-Some.count c.loop-chars.invariant.reads no_tag some);
+          (texts_step c.args.bytes.now c.args.at c.loop-chars.chars.items c.loop-chars.here c.in-Some.c c.in-Some.count c.loop-chars.invariant.reads no_tag some);
     }
 
 pub returns-clause-read : goal.returns-clause-read
