@@ -9,11 +9,11 @@ use Rattle.element_action.specs.Answers.{IsTold, IsCause, HasFault}
 pub done_when : {X : Type 0} (o : Option EditFault) (x : X) → o ≡ None → done_unless o x ≡ Done x
 done_when o x h = ap (λ p. done_unless p x) h
 
-told_cause : {X : Type 0} (takes : Bool) (f : EditFault) (e : ActFault) → IsTold f e → IsCause {X = X} takes (Fault f) e
-told_cause {X = X} takes f (Missing id) h = ap (λ (g : EditFault). Fault {X = X} g) h
-told_cause {X = X} takes f (AlreadyThere id) h = ap (λ (g : EditFault). Fault {X = X} g) h
-told_cause true f NoMemory h = tt
-told_cause false f NoMemory h = tt
+pub told_cause : {X : Type 0} (takes : Bool) (d : Applied X) (f : EditFault) (e : ActFault) → d ≡ Fault f → IsTold f e → IsCause takes d e
+told_cause takes d f (Missing id) h t = h ∙ ap (λ (g : EditFault). Fault g) t
+told_cause takes d f (AlreadyThere id) h t = h ∙ ap (λ (g : EditFault). Fault g) t
+told_cause true d f NoMemory h t = tt
+told_cause {X = X} false d f NoMemory h t = subst (λ (p : Applied X). HasFault p) (sym h) tt
 
 pub cause_when : {X : Type 0} (takes : Bool) (o : Option EditFault) (x : X) (f : EditFault) (e : ActFault) → o ≡ Some f → IsTold f e → IsCause takes (done_unless o x) e
-cause_when {X = X} takes o x f e h told = subst (λ (p : Option EditFault). IsCause takes (done_unless p x) e) (sym h) (told_cause {X = X} takes f e told)
+cause_when takes o x f e h t = told_cause takes (done_unless o x) f e (ap (λ p. done_unless p x) h) t

@@ -5,3 +5,6 @@ pub mod TargetLemmas
 pub mod ItemLemmas
 pub mod SourceLemmas
 pub mod FormLemmas
+pub mod EditLemmas
+pub mod LoopLemmas
+pub mod ItemSteps

@@ -92,3 +92,11 @@ module _ {X : Type 0} (key : X → Text) where
   remove_place t (x ∷ xs) (suc n) d h =
       let other : has_id (key x) (t ∷ []) ≡ false = rw (same-sym (key x) t, h.0) refl in
       rw other (ap (λ l. x ∷ l) (remove_place t xs n d.1 h.1))
+
+  pub put_for_absent : (t : Text) (new xs : List X) → has_id t (ids key xs) ≡ false → put_for key t new xs ≡ xs
+  put_for_absent t new [] h = refl
+  put_for_absent t new (x ∷ xs) h = go (same_id t (key x)) (put_for_absent t new xs) h
+    where
+      go : (b : Bool) → (has_id t (ids key xs) ≡ false → put_for key t new xs ≡ xs) → b || has_id t (ids key xs) ≡ false → (if b then new ++ xs else x ∷ put_for key t new xs) ≡ x ∷ xs
+      go true r h = absurd (cc)
+      go false r h = ap (λ l. x ∷ l) (r h)

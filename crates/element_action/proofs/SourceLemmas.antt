@@ -4,11 +4,25 @@ use Rattle.std.proofs.lemmas.List.{take_more, drop_more, drop_all}
 use Rattle.mos_edits.specs.Texts.{Text, same_id, has_id}
 use Rattle.mos_edits.specs.KeyedLists.{ActFault, ids, without, first_of, missing_if_not, lacking_place, first_repeated, first_missing}
 use Rattle.mos_edits.specs.KeyedLists.ActFault.{Missing, AlreadyThere}
-use Rattle.mos_edits.proofs.Identifiers.{same-true, same-self, has-append}
+use Rattle.mos_edits.proofs.Identifiers.{same-true, same-self, has-append, has-without}
 use Rattle.mos_values.specs.Distinct.{AreDistinct}
 use Rattle.mos_edits.proofs.Distinct.{IsDistinct, AreDisjoint, are-distinct, is-distinct, distinct-append, distinct-without}
 use Rattle.element_action.proofs.PlaceLemmas.{Stands, remove_place}
 use Rattle.element_action.proofs.MoveLemmas.{IsApart}
+
+-- an identifier that is looked for in a list from the front
+pub among_next : (id x : Text) (ss : List Text) (k : ℕ) → k < length ss → x ≡ get_or ss k x → same_id id x ≡ false → has_id id (drop k ss) ≡ has_id id (drop (k + 1) ss)
+among_next id x ss k lt at h = ap (λ l. has_id id l) (drop_more ss k x lt) ∙ ap (λ u. same_id id u || has_id id (drop (k + 1) ss)) (sym at) ∙ ap (λ b. b || has_id id (drop (k + 1) ss)) h
+
+pub among_here : (id x : Text) (ss : List Text) (k : ℕ) → k < length ss → x ≡ get_or ss k x → same_id id x ≡ true → has_id id (drop k ss) ≡ true
+among_here id x ss k lt at h = ap (λ l. has_id id l) (drop_more ss k x lt) ∙ ap (λ u. same_id id u || has_id id (drop (k + 1) ss)) (sym at) ∙ ap (λ b. b || has_id id (drop (k + 1) ss)) h
+
+pub among_end : (id : Text) (ss : List Text) (k : ℕ) → length ss ≤ k → has_id id (drop k ss) ≡ false
+among_end id ss k le = ap (λ l. has_id id l) (drop_all k ss le)
+
+-- an identifier that stands in a list beside another
+pub beside_has : (id t : Text) (there : List Text) (a b : Bool) → a ≡ has_id id there → b ≡ same_id id t → a && not b ≡ has_id id (without (λ x. x) (t ∷ []) there)
+beside_has id t there a b h i = (λ j. h j && not (i j)) ∙ (let w = has-without id (t ∷ []) there in grind (arith, w))
 
 -- the same identifiers stand in both
 abbrev AreAlike : List Text → List Text → Type 0

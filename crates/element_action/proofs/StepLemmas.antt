@@ -10,7 +10,7 @@ use Rattle.mos_edits.specs.KeyedLists.{ids, find, with_found, without, put_at, p
 use Rattle.running_order.specs.Places.{put_in}
 use Rattle.mos_edits.proofs.Identifiers.{same-true, same-self, same-sym}
 use Rattle.mos_edits.proofs.Distinct.{IsDistinct}
-use Rattle.element_action.proofs.PlaceLemmas.{Stands, stands_within, stands_find, put_at_place, remove_place}
+use Rattle.element_action.proofs.PlaceLemmas.{Stands, find_none, stands_within, stands_find, put_at_place, remove_place}
 use Rattle.element_action.proofs.MoveLemmas.{put_at_absent}
 
 module _ {X : Type 0} (key : X → Text) where
@@ -134,3 +134,14 @@ module _ {X : Type 0} (key : X → Text) where
     where
       one : (x y : X) → Some x ≡ Some y → x ≡ y
       one x y e = cc
+
+  -- an exchange with what isn't there
+  pub exchange_no_first : (a b : Text) (xs : List X) → has_id a (ids key xs) ≡ false → exchanged key a b xs ≡ xs
+  exchange_no_first a b xs h = rw (find_none key a xs h) refl
+
+  pub exchange_no_second : (a b : Text) (xs : List X) → has_id b (ids key xs) ≡ false → exchanged key a b xs ≡ xs
+  exchange_no_second a b xs h = rw (find_none key b xs h) (go (find key a xs))
+    where
+      go : (o : Option X) → exchange_found key a b o None xs ≡ xs
+      go None = refl
+      go (Some x) = refl

@@ -53,12 +53,15 @@ pub fn put_items_for(order: &mut Order, story: &OptId, target: &OptId, items: &I
     ensures ok { OnOk result (order.new ≡ record order.old { stories = edit_story story.now (put_for shape.item_id target.now items.now) order.old.stories }) }
     ensures err { OnErr result (order.new ≡ order.old) }
 {
-    match (order.story_place(story), order.item_place(story, target)) {
-        (Some(i), Some(at)) => {
-            let _count = item_count(order, i);
-            order.replace_item(i, at, items)
-        }
-        _ => Ok(()),
+    match order.story_place(story) {
+        Some(i) => match order.item_place(story, target) {
+            Some(at) => {
+                let _count = item_count(order, i);
+                order.replace_item(i, at, items)
+            }
+            None => Ok(()),
+        },
+        None => Ok(()),
     }
 }
 
@@ -66,10 +69,16 @@ pub fn put_items_for(order: &mut Order, story: &OptId, target: &OptId, items: &I
 fn move_item(order: &mut Order, story: &OptId, target: &OptId, id: &OptId)
     ensures { order.new ≡ record order.old { stories = edit_story story.now (moved shape.item_id target.now id.now) order.old.stories } }
 {
-    if let (Some(i), Some(from)) = (order.story_place(story), order.item_place(story, id)) {
-        let end = item_count(order, i);
-        let to = place_after_move(end, from, target_place(order, Level::Items(story), target));
-        order.move_item(i, from, to);
+    match order.story_place(story) {
+        Some(i) => match order.item_place(story, id) {
+            Some(from) => {
+                let end = item_count(order, i);
+                let target = target_place(order, Level::Items(story), target);
+                order.move_item(i, from, place_after_move(end, from, target));
+            }
+            None => {}
+        },
+        None => {}
     }
 }
 
@@ -86,9 +95,15 @@ pub fn move_items(order: &mut Order, story: &OptId, target: &OptId, ids: &[OptId
 fn remove_item(order: &mut Order, story: &OptId, id: &OptId)
     ensures { order.new ≡ record order.old { stories = edit_story story.now (without shape.item_id (id.now ∷ [])) order.old.stories } }
 {
-    if let (Some(i), Some(at)) = (order.story_place(story), order.item_place(story, id)) {
-        let _count = item_count(order, i);
-        order.remove_item(i, at);
+    match order.story_place(story) {
+        Some(i) => match order.item_place(story, id) {
+            Some(at) => {
+                let _count = item_count(order, i);
+                order.remove_item(i, at);
+            }
+            None => {}
+        },
+        None => {}
     }
 }
 
@@ -105,12 +120,17 @@ pub fn remove_items(order: &mut Order, story: &OptId, ids: &[OptId])
 pub fn swap_items(order: &mut Order, story: &OptId, first: &OptId, second: &OptId)
     ensures { order.new ≡ record order.old { stories = edit_story story.now (exchanged shape.item_id first.now second.now) order.old.stories } }
 {
-    if let (Some(i), Some(a), Some(b)) = (
-        order.story_place(story),
-        order.item_place(story, first),
-        order.item_place(story, second),
-    ) {
-        let _count = item_count(order, i);
-        order.swap_items(i, a, b);
+    match order.story_place(story) {
+        Some(i) => match order.item_place(story, first) {
+            Some(a) => match order.item_place(story, second) {
+                Some(b) => {
+                    let _count = item_count(order, i);
+                    order.swap_items(i, a, b);
+                }
+                None => {}
+            },
+            None => {}
+        },
+        None => {}
     }
 }

@@ -140,9 +140,13 @@ pub fn find_insert_fault<'a>(
 ) -> Option<FirstFault<'a>>
     ensures { option_map named result ≡ first_of (level_fault level.entry order.now.stories) (first_of (lacking_target (level_ids level.entry order.now.stories) target.now) (first_repeated (level_ids level.entry order.now.stories) [] sources.now)) }
 {
-    find_level_fault(order, level)
-        .or_else(|| find_target_fault(order, level, target))
-        .or_else(|| find_repeated(order, level, None, sources))
+    match find_level_fault(order, level) {
+        Some(fault) => Some(fault),
+        None => match find_target_fault(order, level, target) {
+            Some(fault) => Some(fault),
+            None => find_repeated(order, level, None, sources),
+        },
+    }
 }
 
 /// The first fault of a REPLACE by what has these IDs.
@@ -154,9 +158,13 @@ pub fn find_replace_fault<'a>(
 ) -> Option<FirstFault<'a>>
     ensures { option_map named result ≡ first_of (level_fault level.entry order.now.stories) (first_of (lacking (level_ids level.entry order.now.stories) target.now) (first_repeated (beside (Some target.now) (level_ids level.entry order.now.stories)) [] sources.now)) }
 {
-    find_level_fault(order, level)
-        .or_else(|| find_lacking(order, level, target))
-        .or_else(|| find_repeated(order, level, Some(target), sources))
+    match find_level_fault(order, level) {
+        Some(fault) => Some(fault),
+        None => match find_lacking(order, level, target) {
+            Some(fault) => Some(fault),
+            None => find_repeated(order, level, Some(target), sources),
+        },
+    }
 }
 
 /// The first fault of a MOVE.
@@ -168,9 +176,13 @@ pub fn find_move_fault<'a>(
 ) -> Option<FirstFault<'a>>
     ensures { option_map named result ≡ first_of (level_fault level.entry order.now.stories) (first_of (lacking_place (level_ids level.entry order.now.stories) sources.now target.now) (first_missing (level_ids level.entry order.now.stories) [] sources.now)) }
 {
-    find_level_fault(order, level)
-        .or_else(|| find_place_fault(order, level, sources, target))
-        .or_else(|| find_missing(order, level, sources))
+    match find_level_fault(order, level) {
+        Some(fault) => Some(fault),
+        None => match find_place_fault(order, level, sources, target) {
+            Some(fault) => Some(fault),
+            None => find_missing(order, level, sources),
+        },
+    }
 }
 
 /// The first fault of a DELETE.
@@ -181,7 +193,10 @@ pub fn find_delete_fault<'a>(
 ) -> Option<FirstFault<'a>>
     ensures { option_map named result ≡ first_of (level_fault level.entry order.now.stories) (first_missing (level_ids level.entry order.now.stories) [] sources.now) }
 {
-    find_level_fault(order, level).or_else(|| find_missing(order, level, sources))
+    match find_level_fault(order, level) {
+        Some(fault) => Some(fault),
+        None => find_missing(order, level, sources),
+    }
 }
 
 /// The first fault of a SWAP.
@@ -193,7 +208,11 @@ pub fn find_swap_fault<'a>(
 ) -> Option<FirstFault<'a>>
     ensures { option_map named result ≡ first_of (level_fault level.entry order.now.stories) (first_of (lacking (level_ids level.entry order.now.stories) first.now) (lacking (level_ids level.entry order.now.stories) second.now)) }
 {
-    find_level_fault(order, level)
-        .or_else(|| find_lacking(order, level, first))
-        .or_else(|| find_lacking(order, level, second))
+    match find_level_fault(order, level) {
+        Some(fault) => Some(fault),
+        None => match find_lacking(order, level, first) {
+            Some(fault) => Some(fault),
+            None => find_lacking(order, level, second),
+        },
+    }
 }

@@ -44,9 +44,12 @@ fn move_story(order: &mut Order, target: &OptId, id: &OptId)
     ensures { order.new ≡ record order.old { stories = moved shape.story_id target.now id.now order.old.stories } }
 {
     order.has_distinct_stories();
-    if let Some(from) = order.story_place(id) {
-        let to = place_after_move(order.len(), from, target_place(order, Level::Stories, target));
-        order.move_story(from, to);
+    match order.story_place(id) {
+        Some(from) => {
+            let target = target_place(order, Level::Stories, target);
+            order.move_story(from, place_after_move(order.len(), from, target));
+        }
+        None => {}
     }
 }
 
@@ -64,8 +67,9 @@ fn remove_story(order: &mut Order, id: &OptId)
     ensures { order.new ≡ record order.old { stories = without shape.story_id (id.now ∷ []) order.old.stories } }
 {
     order.has_distinct_stories();
-    if let Some(at) = order.story_place(id) {
-        order.remove_story(at);
+    match order.story_place(id) {
+        Some(at) => order.remove_story(at),
+        None => {}
     }
 }
 
@@ -83,7 +87,11 @@ pub fn swap_stories(order: &mut Order, first: &OptId, second: &OptId)
     ensures { order.new ≡ record order.old { stories = exchanged shape.story_id first.now second.now order.old.stories } }
 {
     order.has_distinct_stories();
-    if let (Some(a), Some(b)) = (order.story_place(first), order.story_place(second)) {
-        order.swap_stories(a, b);
+    match order.story_place(first) {
+        Some(a) => match order.story_place(second) {
+            Some(b) => order.swap_stories(a, b),
+            None => {}
+        },
+        None => {}
     }
 }

@@ -1,0 +1,26 @@
+use Rattle.std.proofs.Common.{◌≡◌, List, [], ◌∷◌, length, Some, None, sym, ap, ◌∙◌}
+use Rattle.mos_edits.specs.KeyedLists.{put_before, put_for, without, exchanged}
+use Rattle.mos_edits.specs.Orders.{Story, shape}
+use Rattle.mos_values.specs.Distinct.{story_ids, item_ids}
+use Rattle.running_order.specs.Places.{place_of, items_at, item_place_of}
+use Rattle.running_order.proofs.Lists.{OnOk-map}
+use Rattle.element_action.specs.Targets.{target_place_of, place_in, place_moved, moved}
+use Rattle.element_action.proofs.ItemLemmas.{items_in}
+use Rattle.element_action.proofs.ItemSteps.{no_story, swapped_no_first, swapped_no_second, swapped_items}
+use Rattle.element_action.proofs.item_edits.swap_items.Goals as goal
+
+pub returns-in-Some-item_place-2 : goal.returns-in-Some-item_place-2
+returns-in-Some-item_place-2 c = ?
+
+pub returns-in-None-item_place-2 : goal.returns-in-None-item_place-2
+returns-in-None-item_place-2 c = ?
+
+pub returns-in-None-item_place : goal.returns-in-None-item_place
+returns-in-None-item_place c =
+    ap (λ (l : List Story). record c.args.order.now { stories = l })
+    (sym (swapped_no_first c.args.story.now c.args.order.now.stories c.args.first.now c.args.second.now (sym c.item_place.ensures.place ∙ c.in-None-item_place.is)))
+
+pub returns-in-None : goal.returns-in-None
+returns-in-None c =
+    ap (λ (l : List Story). record c.args.order.now { stories = l })
+    (sym (no_story c.args.story.now c.args.order.now.stories (exchanged shape.item_id c.args.first.now c.args.second.now) (sym c.story_place.ensures.place ∙ c.in-None.is)))
