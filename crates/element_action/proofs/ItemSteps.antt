@@ -11,7 +11,7 @@ use Rattle.mos_values.specs.Distinct.{AreDistinct, story_ids, item_ids}
 use Rattle.running_order.specs.Places.{place_of, put_in, put_over, items_at, edit_items, item_place_of}
 use Rattle.element_action.specs.Levels.{edit_story}
 use Rattle.element_action.specs.Targets.{target_place_of, place_in, place_moved, moved}
-use Rattle.element_action.proofs.PlaceLemmas.{Stands, place_stands, place_none, remove_place, without_absent, put_for_place, put_for_absent}
+use Rattle.element_action.proofs.PlaceLemmas.{Stands, stands_within, place_stands, place_none, remove_place, without_absent, put_for_place, put_for_absent}
 use Rattle.element_action.proofs.StepLemmas.{exchange_is_swap, exchange_no_first, exchange_no_second}
 use Rattle.element_action.proofs.TargetLemmas.{put_is, place_in_within, target_within, place_moved_within, moved_is, moved_none}
 use Rattle.element_action.proofs.SourceLemmas.{insert_distinct, replace_distinct}
@@ -63,9 +63,10 @@ module _ (story : Text) (ss : List Story) where
         (sym (exchange_is_swap shape.item_id a b (items_in story ss) at bt (is-distinct (item_ids (items_in story ss)) (subst (λ l. AreDistinct (item_ids l)) found d)) (stands a at h) (stands b bt g)))
 
     -- what the item goes to, by the target's place
-    pub to_within : (t id : Text) (from to : ℕ) → item_place_of ss story id ≡ Some from → from < length (items_at ss i)
+    pub to_within : (t id : Text) (from to : ℕ) → item_place_of ss story id ≡ Some from
         → to ≡ place_moved (length (items_at ss i)) from (target_place_of t (item_ids (items_in story ss))) → to < length (items_at ss i)
-    to_within t id from to h lt e =
+    to_within t id from to h e =
+        let lt : from < length (items_at ss i) = subst (λ l. from < length l) (sym found) (stands_within shape.item_id id (items_in story ss) from (stands id from h)) in
         subst (λ k. k < length (items_at ss i)) (sym (e ∙ ap (λ l. place_moved (length (items_at ss i)) from (target_place_of t (item_ids l))) (sym found)))
         (place_moved_within shape.item_id (length (items_at ss i)) from (target_place_of t (item_ids (items_at ss i))) lt (target_within shape.item_id t (items_at ss i)))
 

@@ -1,7 +1,34 @@
+use Rattle.std.proofs.Common.{◌≡◌, true, false, [], Some, None, refl, sym, ap, ◌∙◌}
+use Rattle.std.specs.Option.{option_map}
+use Rattle.mos_edits.specs.KeyedLists.{first_of, lacking, lacking_target, lacking_place, first_repeated, first_missing, done_unless, list_fault, put_before, put_for, picked, without, exchanged}
+use Rattle.mos_edits.specs.KeyedLists.Applied.{Done}
+use Rattle.mos_edits.specs.KeyedLists.ListAction.{Insert, Replace, Move, Delete, Swap}
+use Rattle.mos_edits.specs.Orders.{Order, shape}
+use Rattle.mos_values.specs.Distinct.{story_ids, item_ids}
+use Rattle.element_action.specs.Answers.{named}
+use Rattle.element_action.specs.Levels.{edit_story, beside}
+use Rattle.element_action.specs.Targets.{moved_all}
+use Rattle.element_action.proofs.ItemLemmas.{items_in}
+use Rattle.element_action.proofs.FormLemmas.{done_when, item_fault, item_done}
+use Rattle.element_action.proofs.MoveLemmas.{moves_are}
+use Rattle.element_action.proofs.SourceLemmas.{first-none, missing-none, place-apart}
 use Rattle.element_action.proofs.item_forms.delete.Goals as goal
 
 pub returns-in-Some : goal.returns-in-Some
-returns-in-Some c = ?
+returns-in-Some c =
+    let ss = c.args.order.now.stories in
+    let story = c.args.story.now in
+    let there = item_ids (items_in story ss) in
+    let first = lacking (story_ids ss) story in
+    let found = sym (c.find_delete_fault.ensures ∙ ap (λ l. first_of first (first_missing there [] l)) c.as_slice-ids.ensures) ∙ ap (λ o. option_map named o) c.in-Some.is in
+    (item_fault false story (Delete c.args.sources.now) ss (named c.in-Some.fault) c.told.result found c.told.ensures, refl)
 
 pub returns-in-None : goal.returns-in-None
-returns-in-None c = ?
+returns-in-None c =
+    let ss = c.args.order.now.stories in
+    let story = c.args.story.now in
+    let there = item_ids (items_in story ss) in
+    let first = lacking (story_ids ss) story in
+    let found = sym (c.find_delete_fault.ensures ∙ ap (λ l. first_of first (first_missing there [] l)) c.as_slice-ids.ensures) ∙ ap (λ o. option_map named o) c.in-None.is in
+    let left = ap (λ (o : Order). o.stories) c.remove_items.ensures ∙ ap (λ l. edit_story story (without shape.item_id l) ss) c.as_slice-ids.ensures in
+    (item_done story (Delete c.args.sources.now) ss c.remove_items.new.order.stories found left, ap (λ (o : Order). o.header) c.remove_items.ensures)
