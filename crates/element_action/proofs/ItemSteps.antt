@@ -77,7 +77,7 @@ module _ (story : Text) (ss : List Story) where
         let is = items_in story ss in
         by_id (λ old. move_index old from to) (moved shape.item_id t id)
         (ap (λ k. move_index is from k) (e ∙ ap (λ l. place_moved (length l) from (target_place_of t (item_ids is))) found)
-          ∙ moved_is shape.item_id t id is from (is-distinct (item_ids is) (subst (λ l. AreDistinct (item_ids l)) found d)) (stands id from h))
+        ∙ moved_is shape.item_id t id is from (is-distinct (item_ids is) (subst (λ l. AreDistinct (item_ids l)) found d)) (stands id from h))
 
     pub at_within : (t : Text) (at : ℕ) → at ≡ place_in (length (items_at ss i)) (target_place_of t (item_ids (items_in story ss))) → at ≤ length (items_at ss i)
     at_within t at e =
@@ -104,4 +104,4 @@ module _ (story : Text) (ss : List Story) where
         let is = items_in story ss in
         subst (λ l. AreDistinct (item_ids (remove l at ++ new))) (sym found)
         (subst AreDistinct (sym (map-append shape.item_id (remove is at) new))
-          (replace_distinct shape.item_id t is new at (subst (λ l. AreDistinct (item_ids l)) found d) (stands t at h) r))
+        (replace_distinct shape.item_id t is new at (subst (λ l. AreDistinct (item_ids l)) found d) (stands t at h) r))

@@ -186,11 +186,11 @@ module _ {X : Type 0} (key : X → Text) where
       let here : has_id s (ids key ps) ≡ false = e s (grind (arith, same-self s)) in
       let one = apart_head t s ss n in
       let step : moved key t s (put_before key t ps xs) ≡ put_before key t (ps ++ fs) out =
-          (λ j. put_before key t (with_found (find_put t s ps xs here j) []) (without_put t s ps xs here one j)) ∙ put_twice t fs ps out m in
+      (λ j. put_before key t (with_found (find_put t s ps xs here j) []) (without_put t s ps xs here one j)) ∙ put_twice t fs ps out m in
       let rest = moves_from t ss (ps ++ fs) out d.1 (apart s ss ps xs d.0 (λ z i. e z (grind (arith, i)))) (apart_tail t s ss n) (apart_found t s ps xs m one) in
       let other : AreDisjoint ss (s ∷ []) = beside s ss d.0 in
       let all : (ps ++ fs) ++ picked key ss out ≡ ps ++ picked key (s ∷ ss) xs =
-          append_assoc ps fs (picked key ss out) ∙ ap (λ l. ps ++ (fs ++ l)) (picked_without ss (s ∷ []) xs other) ∙ ap (λ l. ps ++ l) (found_append (find key s xs) (picked key ss xs)) in
+      append_assoc ps fs (picked key ss out) ∙ ap (λ l. ps ++ (fs ++ l)) (picked_without ss (s ∷ []) xs other) ∙ ap (λ l. ps ++ l) (found_append (find key s xs) (picked key ss xs)) in
       ap (moved_all key t ss) step ∙ rest ∙ (λ j. put_before key t (all j) (without_twice (s ∷ []) ss xs j))
     where
       beside : (s : Text) (ss : List Text) → has_id s ss ≡ false → AreDisjoint ss (s ∷ [])

@@ -65,7 +65,12 @@ fn patch_header(order: &mut Option<Order>, patch: &HeaderPatch) -> Result<(), Ac
 }
 
 // roElementAction.
-fn act_on(alloc: Global, order: &mut Option<Order>, ro: &Id, action: &Action) -> Result<(), ActFault>
+fn act_on(
+    alloc: Global,
+    order: &mut Option<Order>,
+    ro: &Id,
+    action: &Action,
+) -> Result<(), ActFault>
     ensures { IsApplied (takes_memory (form_of action.now)) (apply_of ro.now order.old (edit.Act ro.now action.now)) order.old order.new result }
 {
     match order {

@@ -68,7 +68,9 @@ pub fn missing_order(ro: &Id) -> ActFault
     ensures { IsTold (Missing ro.now) result }
 {
     match ro.try_clone() {
-        Ok(ro) => ActFault::Missing { id: OptId::from_id(ro) },
+        Ok(ro) => ActFault::Missing {
+            id: OptId::from_id(ro),
+        },
         Err(_) => ActFault::NoMemory,
     }
 }
@@ -78,7 +80,9 @@ pub fn order_there(ro: &Id) -> ActFault
     ensures { IsTold (AlreadyThere ro.now) result }
 {
     match ro.try_clone() {
-        Ok(ro) => ActFault::AlreadyThere { id: OptId::from_id(ro) },
+        Ok(ro) => ActFault::AlreadyThere {
+            id: OptId::from_id(ro),
+        },
         Err(_) => ActFault::NoMemory,
     }
 }

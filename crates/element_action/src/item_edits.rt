@@ -32,7 +32,12 @@ fn item_count(order: &Order, story: usize) -> usize
 }
 
 /// Puts copies of items in before the target, or at the end. Where memory runs out, the order stays as it was.
-pub fn put_items(order: &mut Order, story: &OptId, target: &OptId, items: &Items) -> Result<(), NoMemory>
+pub fn put_items(
+    order: &mut Order,
+    story: &OptId,
+    target: &OptId,
+    items: &Items,
+) -> Result<(), NoMemory>
     requires { first_repeated (level_ids (items_in story) order.old.stories) [] (item_ids items.now) ≡ None }
     ensures ok { OnOk result (order.new ≡ record order.old { stories = edit_story story.now (put_before shape.item_id target.now items.now) order.old.stories }) }
     ensures err { OnErr result (order.new ≡ order.old) }
@@ -48,7 +53,12 @@ pub fn put_items(order: &mut Order, story: &OptId, target: &OptId, items: &Items
 }
 
 /// Puts copies of items in place of the target. Where memory runs out, the order stays as it was.
-pub fn put_items_for(order: &mut Order, story: &OptId, target: &OptId, items: &Items) -> Result<(), NoMemory>
+pub fn put_items_for(
+    order: &mut Order,
+    story: &OptId,
+    target: &OptId,
+    items: &Items,
+) -> Result<(), NoMemory>
     requires { first_repeated (beside (Some target.now) (level_ids (items_in story) order.old.stories)) [] (item_ids items.now) ≡ None }
     ensures ok { OnOk result (order.new ≡ record order.old { stories = edit_story story.now (put_for shape.item_id target.now items.now) order.old.stories }) }
     ensures err { OnErr result (order.new ≡ order.old) }

@@ -74,7 +74,11 @@ fn find_level_fault<'a>(order: &Order, level: Level<'a>) -> Option<FirstFault<'a
 }
 
 // The target of an INSERT.
-fn find_target_fault<'a>(order: &Order, level: Level<'_>, target: &'a OptId) -> Option<FirstFault<'a>>
+fn find_target_fault<'a>(
+    order: &Order,
+    level: Level<'_>,
+    target: &'a OptId,
+) -> Option<FirstFault<'a>>
     ensures { option_map named result ≡ lacking_target (level_ids level.entry order.now.stories) target.now }
 {
     if target.text().is_empty() {

@@ -12,14 +12,21 @@ use crate::search::{
     find_delete_fault, find_insert_fault, find_move_fault, find_replace_fault, find_swap_fault,
 };
 use crate::sources::ids_of_stories;
-use crate::story_edits::{move_stories, put_stories, put_stories_for, remove_stories, swap_stories};
+use crate::story_edits::{
+    move_stories, put_stories, put_stories_for, remove_stories, swap_stories,
+};
 use mos_fields::{OptId, OptIds};
 use mos_values::Stories;
 use running_order::Order;
 use std::alloc::Global;
 
 /// Puts stories before the target.
-pub fn insert(alloc: Global, order: &mut Order, target: &OptId, sources: &Stories) -> Result<(), ActFault>
+pub fn insert(
+    alloc: Global,
+    order: &mut Order,
+    target: &OptId,
+    sources: &Stories,
+) -> Result<(), ActFault>
     ensures { IsAnswer true (act_of shape (OnStories (Insert target.now sources.now)) order.old.stories) order.old order.new result }
 {
     let ids = ids_of_stories(alloc, sources)?;
@@ -30,7 +37,12 @@ pub fn insert(alloc: Global, order: &mut Order, target: &OptId, sources: &Storie
 }
 
 /// Puts stories in place of the target.
-pub fn replace(alloc: Global, order: &mut Order, target: &OptId, sources: &Stories) -> Result<(), ActFault>
+pub fn replace(
+    alloc: Global,
+    order: &mut Order,
+    target: &OptId,
+    sources: &Stories,
+) -> Result<(), ActFault>
     ensures { IsAnswer true (act_of shape (OnStories (Replace target.now sources.now)) order.old.stories) order.old order.new result }
 {
     let ids = ids_of_stories(alloc, sources)?;

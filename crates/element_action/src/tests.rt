@@ -2,9 +2,7 @@
 
 use crate::{ActFault, apply};
 use mos_fields::{Air, Id, OptId, OptIds, Slug};
-use mos_values::{
-    Action, Edit, Header, HeaderPatch, Item, Items, OrderBody, Stories, Story, Unreads,
-};
+use mos_values::{Action, Edit, Header, Item, Items, OrderBody, Stories, Story, Unreads};
 use running_order::Order;
 use std::alloc::Global;
 use std::process::Abort;
@@ -146,21 +144,30 @@ fn letters_of_answer(alloc: Global, answer: &Result<(), ActFault>) -> Result<Vec
     Ok(letters)
 }
 
-fn story_action(
-    alloc: Global,
-    form: Form,
-    target: char,
-    sources: &str,
-) -> Result<Action, Fail> {
+fn story_action(alloc: Global, form: Form, target: char, sources: &str) -> Result<Action, Fail> {
     let target = opt_id(alloc, target)?;
     Ok(match form {
-        Form::Insert => Action::InsertStories { target, sources: stories(alloc, sources)? },
-        Form::Replace => Action::ReplaceStory { target, sources: stories(alloc, sources)? },
-        Form::Move => Action::MoveStories { target, sources: opt_ids(alloc, sources)? },
-        Form::Delete => Action::DeleteStories { sources: opt_ids(alloc, sources)? },
+        Form::Insert => Action::InsertStories {
+            target,
+            sources: stories(alloc, sources)?,
+        },
+        Form::Replace => Action::ReplaceStory {
+            target,
+            sources: stories(alloc, sources)?,
+        },
+        Form::Move => Action::MoveStories {
+            target,
+            sources: opt_ids(alloc, sources)?,
+        },
+        Form::Delete => Action::DeleteStories {
+            sources: opt_ids(alloc, sources)?,
+        },
         Form::Swap => {
             let second = sources.chars().next().unwrap_or('-');
-            Action::SwapStories { first: target, second: opt_id(alloc, second)? }
+            Action::SwapStories {
+                first: target,
+                second: opt_id(alloc, second)?,
+            }
         }
     })
 }
@@ -175,13 +182,32 @@ fn item_action(
     let story = opt_id(alloc, story)?;
     let target = opt_id(alloc, target)?;
     Ok(match form {
-        Form::Insert => Action::InsertItems { story, target, sources: items(alloc, sources)? },
-        Form::Replace => Action::ReplaceItem { story, target, sources: items(alloc, sources)? },
-        Form::Move => Action::MoveItems { story, target, sources: opt_ids(alloc, sources)? },
-        Form::Delete => Action::DeleteItems { story, sources: opt_ids(alloc, sources)? },
+        Form::Insert => Action::InsertItems {
+            story,
+            target,
+            sources: items(alloc, sources)?,
+        },
+        Form::Replace => Action::ReplaceItem {
+            story,
+            target,
+            sources: items(alloc, sources)?,
+        },
+        Form::Move => Action::MoveItems {
+            story,
+            target,
+            sources: opt_ids(alloc, sources)?,
+        },
+        Form::Delete => Action::DeleteItems {
+            story,
+            sources: opt_ids(alloc, sources)?,
+        },
         Form::Swap => {
             let second = sources.chars().next().unwrap_or('-');
-            Action::SwapItems { story, first: target, second: opt_id(alloc, second)? }
+            Action::SwapItems {
+                story,
+                first: target,
+                second: opt_id(alloc, second)?,
+            }
         }
     })
 }
@@ -199,7 +225,10 @@ fn action(
     } else {
         item_action(alloc, form, story, target, sources)?
     };
-    Ok(Edit::Act { ro: id(alloc, 'r')?, action })
+    Ok(Edit::Act {
+        ro: id(alloc, 'r')?,
+        action,
+    })
 }
 
 fn is_spelled(letters: &[char], text: &str) -> bool {
@@ -222,22 +251,35 @@ fn check(
     Ok(())
 }
 
+fn order_of(alloc: Global, letters: &str) -> Result<Option<Order>, Fail> {
+    Ok(Some(Order::from_body(alloc, &body(alloc, letters)?)?))
+}
+
 #[test]
 fn moves_before_a_target(rt: HostRuntime) -> Result<(), Fail> {
     let alloc = rt.alloc();
-    let mut order = None;
-    check(&rt, alloc, &mut order, &Edit::Create(body(alloc, "ABC")?), "", "ABC")?;
-    check(&rt, alloc, &mut order, &action(alloc, Form::Move, ' ', 'A', "C")?, "", "CAB")?;
-    check(&rt, alloc, &mut order, &action(alloc, Form::Move, ' ', 'A', "A")?, "-A", "CAB")?;
-    check(&rt, alloc, &mut order, &action(alloc, Form::Swap, ' ', 'A', "A")?, "", "CAB")?;
-    check(&rt, alloc, &mut order, &action(alloc, Form::Delete, ' ', '-', "BB")?, "-B", "CAB")
+    let mut order = order_of(alloc, "ABC")?;
+    for (form, target, sources, answer, after) in [
+        (Form::Move, 'A', "C", "", "CAB"),
+        (Form::Move, 'A', "A", "-A", "CAB"),
+        (Form::Swap, 'A', "A", "", "CAB"),
+        (Form::Delete, '-', "BB", "-B", "CAB"),
+        (Form::Move, '-', "AC", "", "BAC"),
+        (Form::Move, 'C', "AB", "", "ABC"),
+        (Form::Delete, '-', "CA", "", "B"),
+        (Form::Insert, 'B', "", "", "B"),
+        (Form::Replace, 'B', "", "", ""),
+    ] {
+        let edit = action(alloc, form, ' ', target, sources)?;
+        check(&rt, alloc, &mut order, &edit, answer, after)?;
+    }
+    Ok(())
 }
 
 #[test]
 fn edits_stories_and_items(rt: HostRuntime) -> Result<(), Fail> {
     let alloc = rt.alloc();
-    let mut order = None;
-    check(&rt, alloc, &mut order, &Edit::Create(body(alloc, "ABC")?), "", "ABC")?;
+    let mut order = order_of(alloc, "ABC")?;
     for (form, story, target, sources, answer, after) in [
         (Form::Insert, ' ', '-', "D", "", "ABCD"),
         (Form::Replace, ' ', 'B', "BE", "", "ABECD"),
@@ -257,9 +299,8 @@ fn edits_stories_and_items(rt: HostRuntime) -> Result<(), Fail> {
 #[test]
 fn the_first_fault_is_answered(rt: HostRuntime) -> Result<(), Fail> {
     let alloc = rt.alloc();
-    let mut order = None;
     let before = "ABxyzC";
-    check(&rt, alloc, &mut order, &Edit::Create(body(alloc, before)?), "", before)?;
+    let mut order = order_of(alloc, before)?;
     for (form, story, target, sources, answer) in [
         (Form::Insert, ' ', 'Q', "A", "-Q"),
         (Form::Insert, ' ', 'A', "DAD", "+A"),
@@ -307,17 +348,33 @@ fn the_first_fault_is_answered(rt: HostRuntime) -> Result<(), Fail> {
 #[test]
 fn edits_need_their_order(rt: HostRuntime) -> Result<(), Fail> {
     let alloc = rt.alloc();
+    let ro = id(alloc, 'r')?;
+    let create = Edit::Create(body(alloc, "AB")?);
+    let replace = Edit::Replace(body(alloc, "C")?);
+    let metadata = Edit::Metadata(header(alloc)?.into_patch());
+    let swap = action(alloc, Form::Swap, ' ', 'C', "C")?;
+    let air = Edit::Air {
+        ro: ro.try_clone()?,
+        air: Air::NotReady,
+    };
+    let delete = Edit::Delete(ro);
     let mut order = None;
-    let patch = HeaderPatch { slug: None, ..header(alloc)?.into_patch() };
-    check(&rt, alloc, &mut order, &Edit::Delete(id(alloc, 'r')?), "-r", "-")?;
-    check(&rt, alloc, &mut order, &Edit::Replace(body(alloc, "A")?), "-r", "-")?;
-    check(&rt, alloc, &mut order, &Edit::Air { ro: id(alloc, 'r')?, air: Air::Ready }, "-r", "-")?;
-    check(&rt, alloc, &mut order, &Edit::Metadata(patch), "-r", "-")?;
-    check(&rt, alloc, &mut order, &action(alloc, Form::Swap, ' ', 'A', "A")?, "-r", "-")?;
-    check(&rt, alloc, &mut order, &Edit::Create(body(alloc, "AB")?), "", "AB")?;
-    check(&rt, alloc, &mut order, &Edit::Create(body(alloc, "A")?), "+r", "AB")?;
-    check(&rt, alloc, &mut order, &Edit::Air { ro: id(alloc, 'r')?, air: Air::NotReady }, "", "AB")?;
-    check(&rt, alloc, &mut order, &Edit::Replace(body(alloc, "C")?), "", "C")?;
-    check(&rt, alloc, &mut order, &Edit::Metadata(header(alloc)?.into_patch()), "", "C")?;
-    check(&rt, alloc, &mut order, &Edit::Delete(id(alloc, 'r')?), "", "-")
+    for (edit, answer, after) in [
+        (&replace, "-r", "-"),
+        (&delete, "-r", "-"),
+        (&metadata, "-r", "-"),
+        (&swap, "-r", "-"),
+        (&air, "-r", "-"),
+        (&create, "", "AB"),
+        (&create, "+r", "AB"),
+        (&swap, "-C", "AB"),
+        (&replace, "", "C"),
+        (&swap, "", "C"),
+        (&metadata, "", "C"),
+        (&air, "", "C"),
+        (&delete, "", "-"),
+    ] {
+        check(&rt, alloc, &mut order, edit, answer, after)?;
+    }
+    Ok(())
 }

@@ -11,10 +11,9 @@ use Rattle.element_action.proofs.edits.act_on.Goals as goal
 pub returns-in-None : goal.returns-in-None
 returns-in-None c =
     let ro = c.args.ro.now in
-    let a = c.args.action.now in
-    (
+    let a = c.args.action.now in (
       told_cause (takes_memory (form_of a)) (apply ro c.args.order.now (edit.Act ro a)) (Missing ro) c.missing_order.result
-      (ap (λ o. apply ro o (edit.Act ro a)) c.in-None.is ∙ act_none ro ro a) c.missing_order.ensures,
+          (ap (λ o. apply ro o (edit.Act ro a)) c.in-None.is ∙ act_none ro ro a) c.missing_order.ensures,
       refl,
     )
 

@@ -12,11 +12,10 @@ use Rattle.element_action.proofs.edits.create.Goals as goal
 pub returns-in-Some : goal.returns-in-Some
 returns-in-Some c =
     let body = c.args.body.now in
-    let ro = body.header.ro in
-    (
+    let ro = body.header.ro in (
       told_cause true (apply ro c.args.order.now (edit.Create body)) (AlreadyThere ro) c.order_there.result
-      (ap (λ o. apply ro o (edit.Create body)) c.in-Some.is ∙ apply-created ro c.in-Some.field-0 body)
-      (subst (λ (b : Order). IsTold (AlreadyThere b.header.ro) c.order_there.result) c.body.view_is c.order_there.ensures),
+          (ap (λ o. apply ro o (edit.Create body)) c.in-Some.is ∙ apply-created ro c.in-Some.field-0 body)
+          (subst (λ (b : Order). IsTold (AlreadyThere b.header.ro) c.order_there.result) c.body.view_is c.order_there.ensures),
       refl,
     )
 

@@ -11,10 +11,9 @@ use Rattle.element_action.proofs.edits.release.Goals as goal
 
 pub returns-in-None : goal.returns-in-None
 returns-in-None c =
-    let ro = c.args.ro.now in
-    (
+    let ro = c.args.ro.now in (
       told_cause false (apply ro c.args.order.now (edit.Air ro c.args._air)) (Missing ro) c.missing_order.result
-      (ap (λ o. apply ro o (edit.Air ro c.args._air)) c.in-None.is ∙ air_none ro ro c.args._air) c.missing_order.ensures,
+          (ap (λ o. apply ro o (edit.Air ro c.args._air)) c.in-None.is ∙ air_none ro ro c.args._air) c.missing_order.ensures,
       refl,
     )
 

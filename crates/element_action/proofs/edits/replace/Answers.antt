@@ -12,11 +12,10 @@ use Rattle.element_action.proofs.edits.replace.Goals as goal
 pub returns-in-None : goal.returns-in-None
 returns-in-None c =
     let body = c.args.body.now in
-    let ro = body.header.ro in
-    (
+    let ro = body.header.ro in (
       told_cause true (apply ro c.args.order.now (edit.Replace body)) (Missing ro) c.missing_order.result
-      (ap (λ o. apply ro o (edit.Replace body)) c.in-None.is ∙ replace_none ro body)
-      (subst (λ (b : Order). IsTold (Missing b.header.ro) c.missing_order.result) c.body.view_is c.missing_order.ensures),
+          (ap (λ o. apply ro o (edit.Replace body)) c.in-None.is ∙ replace_none ro body)
+          (subst (λ (b : Order). IsTold (Missing b.header.ro) c.missing_order.result) c.body.view_is c.missing_order.ensures),
       refl,
     )
 

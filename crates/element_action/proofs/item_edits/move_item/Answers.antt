@@ -15,7 +15,7 @@ move_item-requires-clause-to c =
     let here = sym c.story_place.ensures.place ∙ c.in-Some.is in
     let from = c.in-Some-item_place.from in
     let to : c.place_after_move.result ≡ place_moved (length (items_at ss c.in-Some.i)) from (target_place_of c.args.target.now (item_ids (items_in c.args.story.now ss))) =
-        c.place_after_move.ensures ∙ (λ j. place_moved (c.item_count-end.ensures.count j) from (c.target_place-target.ensures j)) in
+    c.place_after_move.ensures ∙ (λ j. place_moved (c.item_count-end.ensures.count j) from (c.target_place-target.ensures j)) in
     to_within c.args.story.now ss c.in-Some.i here c.args.target.now c.args.id.now from c.place_after_move.result (sym c.item_place.ensures.place ∙ c.in-Some-item_place.is) to
 
 pub returns-in-Some-item_place : goal.returns-in-Some-item_place
@@ -24,7 +24,7 @@ returns-in-Some-item_place c =
     let here = sym c.story_place.ensures.place ∙ c.in-Some.is in
     let from = c.in-Some-item_place.from in
     let to : c.place_after_move.result ≡ place_moved (length (items_at ss c.in-Some.i)) from (target_place_of c.args.target.now (item_ids (items_in c.args.story.now ss))) =
-        c.place_after_move.ensures ∙ (λ j. place_moved (c.item_count-end.ensures.count j) from (c.target_place-target.ensures j)) in
+    c.place_after_move.ensures ∙ (λ j. place_moved (c.item_count-end.ensures.count j) from (c.target_place-target.ensures j)) in
     c.move_item.ensures
     ∙ ap (λ (l : List Story). record c.args.order.now { stories = l })
     (moved_item c.args.story.now ss c.in-Some.i here c.args.target.now c.args.id.now from c.place_after_move.result (sym c.item_place.ensures.place ∙ c.in-Some-item_place.is) c.item_count-end.ensures.distinct to)

@@ -26,7 +26,7 @@ returns-in-Some-clause-ok c =
     let here = sym c.story_place.ensures.place ∙ c.in-Some.is in
     OnOk-map c.insert_items.result
     (λ e. e ∙ ap (λ (l : List Story). record c.args.order.now { stories = l })
-      (put_item c.args.story.now ss c.in-Some.i here c.args.target.now c.place_before-at.result c.args.items.now (c.place_before-at.ensures ∙ (λ j. place_in (c.item_count-end.ensures.count j) (c.target_place.ensures j)))))
+    (put_item c.args.story.now ss c.in-Some.i here c.args.target.now c.place_before-at.result c.args.items.now (c.place_before-at.ensures ∙ (λ j. place_in (c.item_count-end.ensures.count j) (c.target_place.ensures j)))))
     c.insert_items.ensures.ok
 
 pub returns-in-None-clause-ok : goal.returns-in-None-clause-ok

@@ -20,7 +20,7 @@ returns-in-Some-item_place-clause-ok c =
     let here = sym c.story_place.ensures.place ∙ c.in-Some.is in
     OnOk-map c.replace_item.result
     (λ e. e ∙ ap (λ (l : List Story). record c.args.order.now { stories = l })
-      (replaced_item c.args.story.now c.args.order.now.stories c.in-Some.i here c.args.target.now c.in-Some-item_place.at c.args.items.now (sym c.item_place.ensures.place ∙ c.in-Some-item_place.is)))
+    (replaced_item c.args.story.now c.args.order.now.stories c.in-Some.i here c.args.target.now c.in-Some-item_place.at c.args.items.now (sym c.item_place.ensures.place ∙ c.in-Some-item_place.is)))
     c.replace_item.ensures.ok
 
 pub returns-in-None-item_place-clause-ok : goal.returns-in-None-item_place-clause-ok

@@ -33,10 +33,10 @@ returns-in-None c =
     let t = c.args.target.now in
     let ids = c.args.sources.now in
     let found : first_of first (first_of (lacking_place there ids t) (first_missing there [] ids)) ≡ None =
-        sym (c.find_move_fault.ensures ∙ ap (λ l. first_of first (first_of (lacking_place there l t) (first_missing there [] l))) c.as_slice-ids.ensures) ∙ ap (λ o. option_map named o) c.in-None.is in
+    sym (c.find_move_fault.ensures ∙ ap (λ l. first_of first (first_of (lacking_place there l t) (first_missing there [] l))) c.as_slice-ids.ensures) ∙ ap (λ o. option_map named o) c.in-None.is in
     let n = first-none (lacking_place there ids t) (first_missing there [] ids) (first-none first (first_of (lacking_place there ids t) (first_missing there [] ids)) found).1 in
     let d = (missing-none there [] ids n.1).0 in
     let a = place-apart there ids t n.0 in
     let left = ap (λ (o : Order). o.stories) c.move_items.ensures ∙ ap (λ l. edit_story story (moved_all shape.item_id t l) ss) c.as_slice-ids.ensures
-        ∙ (λ j. edit_story story (λ items. moves_are shape.item_id t ids items d a j) ss) in
+    ∙ (λ j. edit_story story (λ items. moves_are shape.item_id t ids items d a j) ss) in
     (item_done story (Move t ids) ss c.move_items.new.order.stories found left, ap (λ (o : Order). o.header) c.move_items.ensures)

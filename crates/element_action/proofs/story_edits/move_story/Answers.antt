@@ -14,7 +14,7 @@ returns-in-Some c =
     let from = c.in-Some.from in
     let there = place_stands shape.story_id c.args.id.now ss from (sym c.story_place.ensures.place ∙ c.in-Some.is) in
     let to : c.place_after_move.result ≡ place_moved (length ss) from (target_place_of c.args.target.now (story_ids ss)) =
-        c.place_after_move.ensures ∙ (λ j. place_moved (c.len.ensures j) from (c.target_place-target.ensures j)) in
+    c.place_after_move.ensures ∙ (λ j. place_moved (c.len.ensures j) from (c.target_place-target.ensures j)) in
     c.move_story.ensures
     ∙ ap (λ (l : List Story). record c.args.order.now { stories = l })
     (ap (λ k. move_index ss from k) to ∙ moved_is shape.story_id c.args.target.now c.args.id.now ss from (is-distinct (story_ids ss) c.has_distinct_stories.ensures) there)

@@ -21,11 +21,10 @@ returns-in-None c =
     let t = c.args.target.now in
     let ids = c.args.sources.now in
     let h : first_of (lacking_place there ids t) (first_missing there [] ids) ≡ None =
-        ap (λ l. first_of (lacking_place there l t) (first_missing there [] l)) (sym c.as_slice-ids.ensures) ∙ sym c.find_move_fault.ensures ∙ ap (λ o. option_map named o) c.in-None.is in
+    ap (λ l. first_of (lacking_place there l t) (first_missing there [] l)) (sym c.as_slice-ids.ensures) ∙ sym c.find_move_fault.ensures ∙ ap (λ o. option_map named o) c.in-None.is in
     let n = first-none (lacking_place there ids t) (first_missing there [] ids) h in
-    let moves = moves_are shape.story_id t ids ss (missing-none there [] ids n.1).0 (place-apart there ids t n.0) in
-    (
+    let moves = moves_are shape.story_id t ids ss (missing-none there [] ids n.1).0 (place-apart there ids t n.0) in (
       done_when (first_of (lacking_place there ids t) (first_missing there [] ids)) (put_before shape.story_id t (picked shape.story_id ids ss) (without shape.story_id ids ss)) h
-      ∙ ap (λ l. Done l) (sym (ap (λ (o : Order). o.stories) c.move_stories.ensures ∙ ap (λ l. moved_all shape.story_id t l ss) c.as_slice-ids.ensures ∙ moves)),
+          ∙ ap (λ l. Done l) (sym (ap (λ (o : Order). o.stories) c.move_stories.ensures ∙ ap (λ l. moved_all shape.story_id t l ss) c.as_slice-ids.ensures ∙ moves)),
       ap (λ (o : Order). o.header) c.move_stories.ensures,
     )
