@@ -20,6 +20,3 @@ mod target;
 pub use actions::act;
 pub use edits::apply;
 pub use fault::ActFault;
-
-#[cfg(test)]
-mod tests;
