@@ -1,7 +1,7 @@
 -- What each kind of edit says of an order that is there, and of none.
-use Rattle.std.proofs.Common.{◌≡◌, Option, Some, None, refl}
+use Rattle.std.proofs.Common.{◌≡◌, Some, None, refl}
 use Rattle.mos_edits.specs.Texts.{Text}
-use Rattle.mos_edits.specs.KeyedLists.ActFault.{Missing, AlreadyThere}
+use Rattle.mos_edits.specs.KeyedLists.ActFault.{Missing}
 use Rattle.mos_edits.specs.KeyedLists.Applied.{Done, Fault}
 use Rattle.mos_edits.specs.Actions.{act}
 use Rattle.mos_edits.specs.Orders.{Order, HeaderPatch, shape, form_of, patched, with_stories, apply}

@@ -1,5 +1,5 @@
 -- The answer of a form, by the first fault that was found.
-use Rattle.std.proofs.Common.{◌≡◌, List, Result, Ok, Err, Bool, true, false, Option, Some, None, refl, sym, ap, ◌∙◌, subst}
+use Rattle.std.proofs.Common.{◌≡◌, List, Result, Ok, Err, Bool, true, false, Option, Some, None, sym, ap, ◌∙◌, subst}
 use Rattle.std.specs.Result.{OnOk, OnErr, IfErr}
 use Rattle.mos_edits.specs.Texts.{Text}
 use Rattle.mos_edits.specs.KeyedLists.{ActFault as EditFault, Applied, ListAction, first_of, lacking, done_unless, list_fault, list_result}
@@ -11,7 +11,7 @@ use Rattle.element_action.specs.Levels.{edit_story}
 use Rattle.mos_edits.specs.KeyedLists.Applied.{Done, Fault}
 use Rattle.element_action.specs.declared.fault.ActFault.{ActFault}
 use Rattle.element_action.specs.declared.fault.ActFault.TheVariants.{Missing, AlreadyThere, NoMemory}
-use Rattle.element_action.specs.Answers.{IsTold, IsCause, IsAnswer, IsApplied, HasFault}
+use Rattle.element_action.specs.Answers.{IsTold, IsCause, IsApplied, HasFault}
 use Rattle.element_action.proofs.ItemLemmas.{items_in, act_items}
 
 pub done_when : {X : Type 0} (o : Option EditFault) (x : X) → o ≡ None → done_unless o x ≡ Done x

@@ -1,17 +1,15 @@
 -- The items of a story that is found by its identifier.
-use Rattle.std.proofs.Common.{◌≡◌, ℕ, zero, suc, ◌<◌, List, [], ◌∷◌, ◌++◌, length, position, slice_get, Bool, true, false, ◌||◌, Option, Some, None, option_and_then, arith, refl, if◌then◌else◌, sym, ap, ◌∙◌, subst}
-use Rattle.std.specs.Option.{is_some}
+use Rattle.std.proofs.Common.{◌≡◌, ℕ, zero, suc, List, [], ◌∷◌, ◌++◌, Bool, true, false, ◌||◌, Option, Some, None, option_and_then, refl, if◌then◌else◌, sym, ap, ◌∙◌}
 use Rattle.mos_edits.specs.Texts.{Text, same_id, has_id}
-use Rattle.mos_edits.specs.KeyedLists.{ActFault, Applied, ListAction, ids, find, put_for, first_of, missing_if_not, lacking, done_unless, list_fault, list_result, act_list}
-use Rattle.mos_edits.specs.KeyedLists.ActFault.{Missing}
-use Rattle.mos_edits.specs.KeyedLists.Applied.{Done, Fault}
+use Rattle.mos_edits.specs.KeyedLists.{ActFault, ListAction, find, put_for, first_of, lacking, done_unless, list_fault, list_result}
+use Rattle.mos_edits.specs.KeyedLists.Applied.{Done}
 use Rattle.mos_edits.specs.Actions.{act, act_in, put_items}
 use Rattle.mos_edits.specs.Actions.Action.{OnItems}
 use Rattle.mos_edits.specs.Orders.{Item, Story, shape}
 use Rattle.mos_values.specs.Distinct.{story_ids, item_ids}
 use Rattle.running_order.specs.Places.{place_of, items_at, edit_items, item_place_of}
 use Rattle.element_action.specs.Levels.{items_of, edit_story}
-use Rattle.element_action.proofs.PlaceLemmas.{Stands, place_stands, place_has, place_none, find_none}
+use Rattle.element_action.proofs.PlaceLemmas.{Stands, place_stands, place_none, find_none}
 
 -- the items of the story that is found
 abbrev pub items_in : Text → List Story → List Item

@@ -1,8 +1,8 @@
 -- Elements that are moved one after another before the same target stand there in that order.
-use Rattle.std.proofs.Common.{◌≡◌, ℕ, zero, suc, ◌+◌, ◌-◌, ◌<◌, ◌≤◌, List, [], ◌∷◌, ◌++◌, length, take, drop, map, slice_get, get_or, remove, insert, Bool, true, false, not, ◌||◌, ◌&&◌, cond, Option, Some, None, arith, refl, if◌then◌else◌, sym, ap, ◌∙◌, subst, append_assoc}
+use Rattle.std.proofs.Common.{◌≡◌, List, [], ◌∷◌, ◌++◌, Bool, true, false, ◌||◌, Option, Some, None, arith, refl, if◌then◌else◌, sym, ap, ◌∙◌, subst, append_assoc}
 use Rattle.std.proofs.lemmas.List.{map-append, append-nil}
 use Rattle.mos_edits.specs.Texts.{Text, same_id, has_id}
-use Rattle.mos_edits.specs.KeyedLists.{ids, find, with_found, picked, without, put_for, put_at, put_before}
+use Rattle.mos_edits.specs.KeyedLists.{ids, find, with_found, picked, without, put_at, put_before}
 use Rattle.mos_edits.proofs.Identifiers.{same-true, same-self, same-sym, has-append}
 use Rattle.mos_edits.proofs.Distinct.{IsDistinct, AreDisjoint, key-find}
 use Rattle.element_action.specs.Targets.{moved, moved_all}

@@ -1,11 +1,11 @@
 -- The place of an identifier, and what stands there.
-use Rattle.std.proofs.Common.{◌≡◌, ℕ, zero, suc, ◌+◌, ◌-◌, ◌<◌, ◌≤◌, List, [], ◌∷◌, ◌++◌, length, take, drop, map, position, slice_get, get_or, remove, insert, Bool, true, false, not, ◌||◌, ◌&&◌, cond, Option, Some, None, arith, refl, if◌then◌else◌, sym, ap, ◌∙◌, subst}
+use Rattle.std.proofs.Common.{◌≡◌, ℕ, zero, suc, ◌+◌, ◌<◌, List, [], ◌∷◌, ◌++◌, length, slice_get, get_or, remove, Bool, true, false, ◌||◌, cond, Some, None, arith, refl, if◌then◌else◌, sym, ap, ◌∙◌, subst}
 use Rattle.std.proofs.lemmas.List.Quantifiers.{position-Some}
 use Rattle.std.proofs.lemmas.Iterator.Adapters.{position_from-zero}
 use Rattle.std.specs.List.{position_from}
-use Rattle.std.specs.Option.{is_some, option_map_or}
+use Rattle.std.specs.Option.{is_some}
 use Rattle.mos_edits.specs.Texts.{Text, same_id, has_id}
-use Rattle.mos_edits.specs.KeyedLists.{ids, find, with_found, without, put_for, put_at, put_before}
+use Rattle.mos_edits.specs.KeyedLists.{ids, find, without, put_for, put_at}
 use Rattle.running_order.specs.Places.{place_of, put_in, put_over}
 use Rattle.mos_edits.proofs.Identifiers.{same-true, same-self, same-sym}
 use Rattle.mos_edits.proofs.Distinct.{IsDistinct}

@@ -1,17 +1,15 @@
 -- One element moved from a place to a place, and two that are exchanged.
-use Rattle.std.proofs.Common.{◌≡◌, ℕ, zero, suc, ◌+◌, ◌-◌, ◌<◌, ◌≤◌, List, [], ◌∷◌, ◌++◌, length, take, drop, slice_get, get_or, set, remove, insert, Bool, true, false, not, ◌||◌, ◌&&◌, Option, Some, None, arith, refl, if◌then◌else◌, sym, ap, ◌∙◌, subst}
+use Rattle.std.proofs.Common.{◌≡◌, ℕ, zero, suc, ◌+◌, ◌<◌, ◌≤◌, List, [], ◌∷◌, ◌++◌, length, slice_get, get_or, set, remove, true, false, Option, Some, None, arith, refl, sym, ap, ◌∙◌, subst}
 use Rattle.std.proofs.lemmas.List.{take_all, drop_all}
 use Rattle.std.proofs.lemmas.List.Edits.{length-remove}
 use Rattle.std.specs.List.{swap}
-use Rattle.std.specs.Option.{option_map_or}
 use Rattle.indexmap.specs.IndexMap.{move_index}
 use Rattle.mos_edits.specs.Texts.{Text, same_id, has_id}
-use Rattle.mos_edits.specs.KeyedLists.{ids, find, with_found, without, put_at, put_before, exchange, exchange_found, exchanged}
+use Rattle.mos_edits.specs.KeyedLists.{ids, find, with_found, without, put_at, exchange, exchange_found, exchanged}
 use Rattle.running_order.specs.Places.{put_in}
-use Rattle.mos_edits.proofs.Identifiers.{same-true, same-self, same-sym}
+use Rattle.mos_edits.proofs.Identifiers.{same-true}
 use Rattle.mos_edits.proofs.Distinct.{IsDistinct}
 use Rattle.element_action.proofs.PlaceLemmas.{Stands, find_none, stands_within, stands_find, put_at_place, remove_place}
-use Rattle.element_action.proofs.MoveLemmas.{put_at_absent}
 
 module _ {X : Type 0} (key : X → Text) where
   -- what stood behind the removed one stands one place before, and what stood before it stands there still

@@ -1,10 +1,10 @@
 -- What stands before a target, or at the end.
-use Rattle.std.proofs.Common.{◌≡◌, ℕ, zero, suc, ◌+◌, ◌-◌, ◌<◌, ◌≤◌, List, [], ◌∷◌, ◌++◌, length, take, drop, Bool, true, false, not, ◌&&◌, ◌||◌, Option, Some, None, nat_lt, arith, refl, if◌then◌else◌, sym, ap, ◌∙◌, subst}
+use Rattle.std.proofs.Common.{◌≡◌, ℕ, zero, suc, ◌-◌, ◌<◌, ◌≤◌, List, [], ◌∷◌, ◌++◌, length, Bool, true, false, Option, Some, None, nat_lt, arith, refl, if◌then◌else◌, sym, ap, ◌∙◌, subst}
 use Rattle.std.proofs.lemmas.List.{take_all, drop_all, append-nil}
 use Rattle.std.proofs.lemmas.Bool.Decides.{nat_tests}
 use Rattle.std.specs.Option.{IfSome}
 use Rattle.indexmap.specs.IndexMap.{move_index}
-use Rattle.mos_edits.specs.Texts.{Text, same_id, has_id}
+use Rattle.mos_edits.specs.Texts.{Text, has_id}
 use Rattle.mos_edits.specs.KeyedLists.{ids, find, with_found, without, put_at, put_before}
 use Rattle.running_order.specs.Places.{place_of, put_in}
 use Rattle.mos_edits.proofs.Identifiers.{same-true, same-self}

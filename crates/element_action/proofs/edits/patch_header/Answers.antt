@@ -1,12 +1,10 @@
-use Rattle.std.proofs.Common.{◌≡◌, true, false, Some, None, refl, sym, ap, subst, ◌∙◌}
-use Rattle.mos_edits.specs.KeyedLists.ActFault.{Missing, AlreadyThere}
+use Rattle.std.proofs.Common.{true, Some, refl, sym, ap, ◌∙◌}
+use Rattle.mos_edits.specs.KeyedLists.ActFault.{Missing}
 use Rattle.mos_edits.specs.KeyedLists.Applied.{Done}
 use Rattle.mos_edits.specs.Orders.{Order, apply}
-use Rattle.mos_edits.proofs.Applying.{apply-create, apply-created}
 use Rattle.mos_values.specs.declared.edit.Edit.TheVariants as edit
-use Rattle.element_action.specs.Answers.{IsTold}
 use Rattle.element_action.proofs.FormLemmas.{told_cause}
-use Rattle.element_action.proofs.EditLemmas.{replace_none, replace_there, delete_none, delete_there, patch_none, patch_there, act_none, act_there, air_none, air_there}
+use Rattle.element_action.proofs.EditLemmas.{patch_none, patch_there}
 use Rattle.element_action.proofs.edits.patch_header.Goals as goal
 
 pub returns-in-None : goal.returns-in-None

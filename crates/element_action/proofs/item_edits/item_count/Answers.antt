@@ -2,7 +2,6 @@ use Rattle.std.proofs.Common.{◌≡◌, length, slice_get, Some, sym, ap, subst
 use Rattle.std.specs.Option.{option_copied}
 use Rattle.mos_edits.specs.Orders.{Story}
 use Rattle.mos_values.specs.Distinct.{AreDistinct, item_ids}
-use Rattle.running_order.specs.Places.{items_at}
 use Rattle.running_order.proofs.Entries.{items_at-at}
 use Rattle.element_action.proofs.item_edits.item_count.Goals as goal
 

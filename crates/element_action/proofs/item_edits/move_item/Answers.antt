@@ -1,10 +1,8 @@
-use Rattle.std.proofs.Common.{◌≡◌, List, [], ◌∷◌, length, Some, None, sym, ap, ◌∙◌}
-use Rattle.mos_edits.specs.KeyedLists.{put_before, put_for, without, exchanged}
+use Rattle.std.proofs.Common.{◌≡◌, List, length, sym, ap, ◌∙◌}
 use Rattle.mos_edits.specs.Orders.{Story, shape}
-use Rattle.mos_values.specs.Distinct.{story_ids, item_ids}
-use Rattle.running_order.specs.Places.{place_of, items_at, item_place_of}
-use Rattle.running_order.proofs.Lists.{OnOk-map}
-use Rattle.element_action.specs.Targets.{target_place_of, place_in, place_moved, moved}
+use Rattle.mos_values.specs.Distinct.{item_ids}
+use Rattle.running_order.specs.Places.{items_at}
+use Rattle.element_action.specs.Targets.{target_place_of, place_moved, moved}
 use Rattle.element_action.proofs.ItemLemmas.{items_in}
 use Rattle.element_action.proofs.ItemSteps.{no_story, moved_no_item, to_within, moved_item}
 use Rattle.element_action.proofs.item_edits.move_item.Goals as goal

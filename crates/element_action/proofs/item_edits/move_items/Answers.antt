@@ -1,5 +1,5 @@
-use Rattle.std.proofs.Common.{◌≡◌, List, ◌+◌, drop, sym, ap, ◌∙◌}
-use Rattle.mos_edits.specs.Orders.{Order, Story, shape}
+use Rattle.std.proofs.Common.{◌+◌, drop, sym, ap, ◌∙◌}
+use Rattle.mos_edits.specs.Orders.{Order, shape}
 use Rattle.element_action.specs.Levels.{edit_story}
 use Rattle.element_action.specs.Targets.{moved, moved_all}
 use Rattle.element_action.proofs.ItemLemmas.{edit_twice, edit_nothing}

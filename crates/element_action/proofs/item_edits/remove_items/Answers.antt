@@ -1,6 +1,6 @@
-use Rattle.std.proofs.Common.{◌≡◌, List, [], ◌∷◌, ◌+◌, drop, sym, ap, ◌∙◌}
+use Rattle.std.proofs.Common.{[], ◌∷◌, ◌+◌, drop, sym, ap, ◌∙◌}
 use Rattle.mos_edits.specs.KeyedLists.{without}
-use Rattle.mos_edits.specs.Orders.{Order, Story, shape}
+use Rattle.mos_edits.specs.Orders.{Order, shape}
 use Rattle.element_action.specs.Levels.{edit_story}
 use Rattle.element_action.proofs.ItemLemmas.{edit_twice, edit_nothing}
 use Rattle.element_action.proofs.LoopLemmas.{removals_next, removals_end}

@@ -1,15 +1,14 @@
-use Rattle.std.proofs.Common.{◌≡◌, true, false, [], Some, None, refl, sym, ap, ◌∙◌}
+use Rattle.std.proofs.Common.{◌≡◌, false, [], None, refl, sym, ap, ◌∙◌}
 use Rattle.std.specs.Option.{option_map}
-use Rattle.mos_edits.specs.KeyedLists.{first_of, lacking, lacking_target, lacking_place, first_repeated, first_missing, done_unless, list_fault, put_before, put_for, picked, without, exchanged}
-use Rattle.mos_edits.specs.KeyedLists.Applied.{Done}
-use Rattle.mos_edits.specs.KeyedLists.ListAction.{Insert, Replace, Move, Delete, Swap}
+use Rattle.mos_edits.specs.KeyedLists.{first_of, lacking, lacking_place, first_missing}
+use Rattle.mos_edits.specs.KeyedLists.ListAction.{Move}
 use Rattle.mos_edits.specs.Orders.{Order, shape}
 use Rattle.mos_values.specs.Distinct.{story_ids, item_ids}
 use Rattle.element_action.specs.Answers.{named}
-use Rattle.element_action.specs.Levels.{edit_story, beside}
+use Rattle.element_action.specs.Levels.{edit_story}
 use Rattle.element_action.specs.Targets.{moved_all}
 use Rattle.element_action.proofs.ItemLemmas.{items_in}
-use Rattle.element_action.proofs.FormLemmas.{done_when, item_fault, item_done}
+use Rattle.element_action.proofs.FormLemmas.{item_fault, item_done}
 use Rattle.element_action.proofs.MoveLemmas.{moves_are}
 use Rattle.element_action.proofs.SourceLemmas.{first-none, missing-none, place-apart}
 use Rattle.element_action.proofs.item_forms.shift.Goals as goal

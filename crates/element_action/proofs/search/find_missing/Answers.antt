@@ -1,4 +1,4 @@
-use Rattle.std.proofs.Common.{◌≡◌, true, false, take, drop, sym, ap, ◌∙◌}
+use Rattle.std.proofs.Common.{take, sym, ap, ◌∙◌}
 use Rattle.mos_edits.specs.Texts.{has_id}
 use Rattle.element_action.specs.Levels.{level_ids}
 use Rattle.element_action.proofs.SourceLemmas.{missing_next, missing_end}

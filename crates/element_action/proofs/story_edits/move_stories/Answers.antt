@@ -1,6 +1,6 @@
-use Rattle.std.proofs.Common.{◌≡◌, List, ◌+◌, drop, sym, ap, ◌∙◌}
-use Rattle.mos_edits.specs.Orders.{Order, Story, shape}
-use Rattle.element_action.specs.Targets.{moved, moved_all}
+use Rattle.std.proofs.Common.{◌+◌, drop, sym, ap, ◌∙◌}
+use Rattle.mos_edits.specs.Orders.{Order, shape}
+use Rattle.element_action.specs.Targets.{moved_all}
 use Rattle.element_action.proofs.LoopLemmas.{moves_next, moves_end}
 use Rattle.element_action.proofs.story_edits.move_stories.Goals as goal
 

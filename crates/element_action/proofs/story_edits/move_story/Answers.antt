@@ -1,4 +1,4 @@
-use Rattle.std.proofs.Common.{◌≡◌, List, length, Some, None, sym, ap, ◌∙◌}
+use Rattle.std.proofs.Common.{◌≡◌, List, length, sym, ap, ◌∙◌}
 use Rattle.indexmap.specs.IndexMap.{move_index}
 use Rattle.mos_edits.specs.Orders.{Story, shape}
 use Rattle.mos_edits.proofs.Distinct.{is-distinct}

@@ -1,7 +1,5 @@
-use Rattle.std.proofs.Common.{◌≡◌, List, Some, None, sym, ap, ◌∙◌}
+use Rattle.std.proofs.Common.{List, sym, ap, ◌∙◌}
 use Rattle.mos_edits.specs.Orders.{Story, shape}
-use Rattle.mos_values.specs.Distinct.{story_ids}
-use Rattle.running_order.specs.Places.{place_of}
 use Rattle.running_order.proofs.Lists.{OnOk-map}
 use Rattle.element_action.proofs.PlaceLemmas.{place_stands, place_none, put_for_place, put_for_absent}
 use Rattle.element_action.proofs.SourceLemmas.{replace_distinct}

@@ -1,6 +1,6 @@
-use Rattle.std.proofs.Common.{◌≡◌, List, ◌+◌, drop, sym, ap, ◌∙◌}
+use Rattle.std.proofs.Common.{◌+◌, drop, sym, ap, ◌∙◌}
 use Rattle.mos_edits.specs.KeyedLists.{without}
-use Rattle.mos_edits.specs.Orders.{Order, Story, shape}
+use Rattle.mos_edits.specs.Orders.{Order, shape}
 use Rattle.element_action.proofs.LoopLemmas.{removals_next, removals_end}
 use Rattle.element_action.proofs.story_edits.remove_stories.Goals as goal
 

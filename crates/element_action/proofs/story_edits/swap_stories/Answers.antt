@@ -1,4 +1,4 @@
-use Rattle.std.proofs.Common.{◌≡◌, List, Some, None, sym, ap, ◌∙◌}
+use Rattle.std.proofs.Common.{List, sym, ap, ◌∙◌}
 use Rattle.mos_edits.specs.Orders.{Story, shape}
 use Rattle.mos_edits.proofs.Distinct.{is-distinct}
 use Rattle.mos_values.specs.Distinct.{story_ids}
