@@ -1,0 +1,50 @@
+-- What each kind of edit says of an order that is there, and of none.
+use Rattle.std.proofs.Common.{◌≡◌, Some, None, refl}
+use Rattle.mos_edits.specs.Texts.{Text}
+use Rattle.mos_edits.specs.KeyedLists.ActFault.{Missing}
+use Rattle.mos_edits.specs.KeyedLists.Applied.{Done, Fault}
+use Rattle.mos_edits.specs.Actions.{act}
+use Rattle.mos_edits.specs.Orders.{Order, HeaderPatch, shape, form_of, patched, with_stories, apply}
+use Rattle.mos_values.specs.declared.action.Action as values
+use Rattle.mos_values.specs.declared.edit.Edit.TheVariants as edit
+use Rattle.mos_fields.specs.declared.air.Air.{Air}
+
+pub replace_none : (r : Text) (body : Order) → apply r None (edit.Replace body) ≡ Fault (Missing r)
+unfolding apply
+replace_none r body = refl
+
+pub replace_there : (r : Text) (o body : Order) → apply r (Some o) (edit.Replace body) ≡ Done (Some body)
+unfolding apply
+replace_there r o body = refl
+
+pub delete_none : (r q : Text) → apply r None (edit.Delete q) ≡ Fault (Missing r)
+unfolding apply
+delete_none r q = refl
+
+pub delete_there : (r q : Text) (o : Order) → apply r (Some o) (edit.Delete q) ≡ Done None
+unfolding apply
+delete_there r q o = refl
+
+pub patch_none : (r : Text) (p : HeaderPatch) → apply r None (edit.Metadata p) ≡ Fault (Missing r)
+unfolding apply
+patch_none r p = refl
+
+pub patch_there : (r : Text) (o : Order) (p : HeaderPatch) → apply r (Some o) (edit.Metadata p) ≡ Done (Some (record o { header = patched p o.header }))
+unfolding apply
+patch_there r o p = refl
+
+pub act_none : (r q : Text) (a : values.Action) → apply r None (edit.Act q a) ≡ Fault (Missing r)
+unfolding apply
+act_none r q a = refl
+
+pub act_there : (r q : Text) (o : Order) (a : values.Action) → apply r (Some o) (edit.Act q a) ≡ with_stories o.header (act shape (form_of a) o.stories)
+unfolding apply
+act_there r q o a = refl
+
+pub air_none : (r q : Text) (a : Air) → apply r None (edit.Air q a) ≡ Fault (Missing r)
+unfolding apply
+air_none r q a = refl
+
+pub air_there : (r q : Text) (o : Order) (a : Air) → apply r (Some o) (edit.Air q a) ≡ Done (Some o)
+unfolding apply
+air_there r q o a = refl

@@ -1,0 +1,18 @@
+use Rattle.std.proofs.Common.{◌+◌, drop, sym, ap, ◌∙◌}
+use Rattle.mos_edits.specs.KeyedLists.{without}
+use Rattle.mos_edits.specs.Orders.{Order, shape}
+use Rattle.element_action.proofs.LoopLemmas.{removals_next, removals_end}
+use Rattle.element_action.proofs.story_edits.remove_stories.Goals as goal
+
+pub loop-id-preserved : goal.loop-id-preserved
+loop-id-preserved c =
+    record {
+      header = ap (λ (o : Order). o.header) c.remove_story.ensures ∙ c.loop-id.invariant.header;
+      rest = ap (λ (o : Order). without shape.story_id (drop (c.loop-id.id-index + 1) c.args.ids.now) o.stories) c.remove_story.ensures
+          ∙ removals_next shape.story_id c.args.ids.now c.loop-id.id-index c.id-item.result c.loop-id.order.stories c.loop-id-test.true c.id-item.is ∙ c.loop-id.invariant.rest;
+    }
+
+pub returns : goal.returns
+returns c =
+    let rest = sym (removals_end shape.story_id c.args.ids.now c.loop-id.id-index c.loop-id.order.stories c.loop-id-test.false) ∙ c.loop-id.invariant.rest in
+    λ j. record { header = c.loop-id.invariant.header j; stories = rest j }

@@ -1,0 +1,3 @@
+pub mod Levels
+pub mod Targets
+pub mod Answers

@@ -1,0 +1,29 @@
+-- Places of targets, and moves before a target.
+use Rattle.std.specs.Prelude.{ℕ, ◌-◌, List, [], ◌∷◌, Option, Some, None, nat_lt, if◌then◌else◌}
+use Rattle.mos_edits.specs.Texts.{Text}
+use Rattle.mos_edits.specs.KeyedLists.{find, with_found, without, put_before}
+use Rattle.running_order.specs.Places.{place_of}
+
+-- the place of a target; none for an empty one, which stands for the end
+abbrev pub target_place_of : Text → List Text → Option ℕ
+target_place_of [] ids = None
+target_place_of (c ∷ cs) ids = place_of (c ∷ cs) ids
+
+-- where something is put in: before the target, or at the end
+abbrev pub place_in : ℕ → Option ℕ → ℕ
+place_in end None = end
+place_in end (Some p) = p
+
+-- where something that is taken out of the place `from` stands before the target, or last
+abbrev pub place_moved : ℕ → ℕ → Option ℕ → ℕ
+place_moved end from None = end - 1
+place_moved end from (Some p) = if nat_lt p from then p else (if nat_lt from p then p - 1 else end - 1)
+
+-- one element moved before the target
+abbrev pub moved : {X : Type 0} → (X → Text) → Text → Text → List X → List X
+moved key t s xs = put_before key t (with_found (find key s xs) []) (without key (s ∷ []) xs)
+
+-- several, one after another
+abbrev pub moved_all : {X : Type 0} → (X → Text) → Text → List Text → List X → List X
+moved_all key t [] xs = xs
+moved_all key t (s ∷ ss) xs = moved_all key t ss (moved key t s xs)

@@ -1,0 +1,22 @@
+//! Element actions and the other edits of a running order.
+//!
+//! `act` does a roElementAction on an order, `apply` any edit. Both answer the first fault, and leave the order as it
+//! was where there is one.
+#![tactic(auto)]
+
+mod actions;
+mod edits;
+mod fault;
+mod first_fault;
+mod item_edits;
+mod item_forms;
+mod level;
+mod search;
+mod sources;
+mod story_edits;
+mod story_forms;
+mod target;
+
+pub use actions::act;
+pub use edits::apply;
+pub use fault::ActFault;
