@@ -6,7 +6,7 @@ use Rattle.mos_edits.specs.Entries.{is_before, insert_id}
 use Rattle.mos_machines.specs.Tables.{look, put_row, row_ids, map_rows}
 use Rattle.mos_machines.proofs.RowTables.{ids-put, ids-map}
 use Rattle.std.proofs.lemmas.Option.{slice_get_within, get_or_from_slice_get}
-use Rattle.order_table.specs.Rows.{IsBeforeAll, IsAscending, find_row, count_before, is_row_of, IsThere, IsMissing}
+use Rattle.order_table.specs.Rows.{IsBeforeAll, IsAscending, find_row, count_before, is_row_of, IsThere, IsMissing, put_rows}
 use Rattle.order_table.proofs.Order.{before-self, before-trans, before-differs, behind}
 
 pub before-all : (r x : Text) (xs : List Text) → is_before r x ≡ true → IsBeforeAll x xs → IsBeforeAll r xs
@@ -214,3 +214,11 @@ map-ascending f rows h = subst IsAscending (sym (ids-map f rows)) h
 pub ascending-after : {X A B : Type 0} (r : Text) (v : X) (old new : List (Text × X)) (o : Result A B) → OnOk o (new ≡ put_row r v old) → OnErr o (new ≡ old) → IsAscending (row_ids old) → IsAscending (row_ids new)
 ascending-after {X = X} r v old new (Ok a) e f h = subst (λ (rows : List (Text × X)). IsAscending (row_ids rows)) (sym e) (put-ascending r v old h)
 ascending-after {X = X} r v old new (Err b) e f h = subst (λ (rows : List (Text × X)). IsAscending (row_ids rows)) (sym f) h
+
+pub put-all-ascending : {X : Type 0} (new rows : List (Text × X)) → IsAscending (row_ids rows) → IsAscending (row_ids (put_rows new rows))
+put-all-ascending [] rows h = h
+put-all-ascending (x ∷ xs) rows h = put-all-ascending xs (put_row x.0 x.1 rows) (put-ascending x.0 x.1 rows h)
+
+pub ascending-after-all : {X A B : Type 0} (xs old new : List (Text × X)) (o : Result A B) → OnOk o (new ≡ put_rows xs old) → OnErr o (new ≡ old) → IsAscending (row_ids old) → IsAscending (row_ids new)
+ascending-after-all {X = X} xs old new (Ok a) e f h = subst (λ (rows : List (Text × X)). IsAscending (row_ids rows)) (sym e) (put-all-ascending xs old h)
+ascending-after-all {X = X} xs old new (Err b) e f h = subst (λ (rows : List (Text × X)). IsAscending (row_ids rows)) (sym f) h

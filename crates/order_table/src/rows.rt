@@ -1,8 +1,9 @@
 //! Ascending rows: looking one up, and writing one.
-ghost use Rattle.std.specs.Prelude.{◌≡◌, slice_get, OnOk, OnErr, Some, IsSome, MatchResult};
+ghost use Rattle.std.specs.Prelude.{◌≡◌, ◌+◌, ◌<◌, ◌≤◌, slice_get, OnOk, OnErr, Some, IsSome, MatchResult, vec_len};
 ghost use Rattle.std.specs.Option.{option_copied};
+ghost use Rattle.std.specs.Vec.{vec_capacity};
 ghost use Rattle.mos_machines.specs.Tables.{row_ids, put_row};
-ghost use Rattle.order_table.specs.Rows.{IsAscending, find_row, is_row_of, IsThere, IsMissing};
+ghost use Rattle.order_table.specs.Rows.{IsAscending, find_row, is_row_of, IsThere, IsMissing, put_rows};
 
 use crate::place::{is_same, place_of};
 use mos_fields::{Id, NoMemory};
@@ -63,6 +64,33 @@ pub fn put_in<T: Drop>(rows: &mut Vec<(Id, T)>, ro: &Id, value: T) -> Result<(),
     match search(rows, ro) {
         Ok(place) => rows[place].1 = value,
         Err(place) => rows.insert(place, (ro.try_clone()?, value))?,
+    }
+    Ok(())
+}
+
+// Puts a value into the row of this roID, where there is room for one more row.
+fn put_within<T: Drop>(rows: &mut Vec<(Id, T)>, ro: Id, value: T)
+    requires ascending { IsAscending (row_ids rows.old.items) }
+    requires room { vec_len rows.old < vec_capacity rows.old }
+    ensures items { rows.new.items ≡ put_row ro value rows.old.items }
+    ensures len { vec_len rows.new ≤ vec_len rows.old + 1 }
+    ensures capacity { vec_capacity rows.old ≤ vec_capacity rows.new }
+{
+    match search(rows, &ro) {
+        Ok(place) => rows[place].1 = value,
+        Err(place) => rows.insert(place, (ro, value)).unwrap(),
+    }
+}
+
+// Puts values into the rows of their roIDs, one after the other: all of them, or none without memory for all.
+pub fn put_all_in<T: Drop>(rows: &mut Vec<(Id, T)>, new: Vec<(Id, T)>) -> Result<(), NoMemory>
+    requires { IsAscending (row_ids rows.old.items) }
+    ensures ok { OnOk result (rows.new.items ≡ put_rows new.items rows.old.items) }
+    ensures err { OnErr result (rows.new.items ≡ rows.old.items) }
+{
+    rows.reserve(new.len())?;
+    for (ro, value) in new {
+        put_within(rows, ro, value);
     }
     Ok(())
 }

@@ -2,10 +2,10 @@
 ghost use Rattle.std.specs.Prelude.{◌≡◌, [], OnOk, OnErr, IsSome, Some};
 ghost use Rattle.std.specs.Option.{option_copied};
 ghost use Rattle.mos_machines.specs.Tables.{row_ids, put_row, map_rows};
-ghost use Rattle.order_table.specs.Rows.{IsAscending, find_row};
+ghost use Rattle.order_table.specs.Rows.{IsAscending, find_row, put_rows};
 
 use crate::row_change::{RowChange, change_rows};
-use crate::rows::{exchange_in, find_in, put_in};
+use crate::rows::{exchange_in, find_in, put_all_in, put_in};
 use mos_fields::{Id, NoMemory};
 use std::alloc::Global;
 use std::marker::Model;
@@ -86,5 +86,13 @@ impl<T: Drop> OrderTable<T> {
         ensures err { OnErr result (self.new ≡ self.old) }
     {
         put_in(&mut self.rows, ro, value)
+    }
+    /// Puts values into the rows of their roIDs, one after the other. Without memory for all of them the table stays as it
+    /// was, and they are dropped.
+    pub fn put_all(&mut self, new: Vec<(Id, T)>) -> Result<(), NoMemory>
+        ensures ok { OnOk result (self.new ≡ put_rows new.items self.old) }
+        ensures err { OnErr result (self.new ≡ self.old) }
+    {
+        put_all_in(&mut self.rows, new)
     }
 }
