@@ -22,7 +22,7 @@ not-behind r x h = by (is_before r x) refl
 
 module _ {X : Type 0} where
   -- a roID that stands before all rows is in none
-  find-none : (r : Text) (rows : List (Text × X)) → IsBeforeAll r (row_ids rows) → find_row r rows ≡ None
+  pub find-none : (r : Text) (rows : List (Text × X)) → IsBeforeAll r (row_ids rows) → find_row r rows ≡ None
   find-none r [] h = refl
   find-none r (x ∷ xs) h = by (same_id r x.0) refl (find-none r xs h.1)
     where

@@ -18,6 +18,11 @@ abbrev pub find_row : {X : Type 0} → Text → List (Text × X) → Option X
 find_row r [] = None
 find_row r (x ∷ xs) = if same_id r x.0 then Some x.1 else find_row r xs
 
+-- the value that was found, or what stands for one that isn't there
+abbrev pub value_or : {X : Type 0} → X → Option X → X
+value_or d None = d
+value_or d (Some x) = x
+
 -- how many of ascending roIDs stand before `r`: its place among them
 abbrev pub count_before : Text → List Text → ℕ
 count_before r [] = zero

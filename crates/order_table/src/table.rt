@@ -40,6 +40,11 @@ impl<T> OrderTable<T> {
         }
     }
 
+    /// The allocator of the table.
+    pub fn allocator(&self) -> Global {
+        *self.rows.allocator()
+    }
+
     /// The rows, to go over them in ascending order.
     pub fn rows(&self) -> &[(Id, T)]
         ensures { result.now ≡ self.now }
