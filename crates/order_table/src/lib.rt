@@ -9,5 +9,6 @@ mod row_change;
 mod rows;
 mod table;
 
+pub use place::is_same;
 pub use row_change::RowChange;
 pub use table::OrderTable;

@@ -18,7 +18,7 @@ pub fn is_before(a: &Id, b: &Id) -> bool
     }
 }
 
-// Whether two roIDs are one.
+/// Whether two roIDs are one.
 pub fn is_same(a: &Id, b: &Id) -> bool
     ensures { result ≡ same_id a.now b.now }
 {

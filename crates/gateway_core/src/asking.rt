@@ -1,0 +1,42 @@
+//! What is in flight to the server on the connection that the device opened, and what is to be confirmed there.
+ghost use Rattle.std.specs.Prelude.{◌≡◌};
+ghost use Rattle.mos_machines.specs.Device.{is_all as is_all_of};
+ghost use Rattle.gateway_core.specs.Parts.{asking_of};
+
+use mos_fields::Id;
+
+/// The request that is in flight to the server.
+#[derive(Drop)]
+pub enum Asking {
+    /// None.
+    Nothing,
+    /// A roReq of this order.
+    Order(Id),
+    /// A roReqAll.
+    All,
+    /// A heartbeat.
+    Beat,
+}
+
+/// The heartbeat that confirms a list that was taken.
+#[derive(Drop)]
+pub enum Confirm {
+    /// None is to be sent.
+    NotDue,
+    /// One is to be sent, for this order.
+    Due(Id),
+    /// One was sent, for this order, and isn't answered yet.
+    Unanswered(Id),
+}
+
+impl Asking {
+    // Whether it is a roReqAll.
+    pub fn is_all(&self) -> bool
+        ensures { result ≡ is_all_of (asking_of self.now) }
+    {
+        match self {
+            Asking::All => true,
+            _ => false,
+        }
+    }
+}

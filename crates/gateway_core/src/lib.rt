@@ -1,0 +1,14 @@
+//! The gateway's machine: what a device keeps of the running orders, and its steps.
+//!
+//! A `Gate` is seen as the tables of its state. Each call is one step of the device, by its definition in `mos_machines`.
+#![tactic(auto)]
+
+mod asking;
+mod changes;
+mod gate;
+mod known;
+mod orders;
+
+pub use asking::{Asking, Confirm};
+pub use gate::Gate;
+pub use known::{DeckState, Known, Phase};

@@ -1,0 +1,66 @@
+//! Single orders of a gateway's table.
+ghost use Rattle.std.specs.Prelude.{◌≡◌, OnOk, OnErr, IsSome};
+ghost use Rattle.std.specs.Option.{option_copied};
+ghost use Rattle.mos_machines.specs.Tables.{KnownOrder, unknown_order, look, put_row};
+ghost use Rattle.order_table.specs.Rows.{find_row};
+ghost use Rattle.gateway_core.specs.Parts.{phase_of};
+
+use crate::known::{Known, Phase};
+use mos_fields::{Id, NoMemory};
+use order_table::OrderTable;
+use running_order::Order;
+
+// How an order stands.
+pub fn phase_in(orders: &OrderTable<Known>, ro: &Id) -> Phase
+    ensures { phase_of result ≡ (look unknown_order orders.now ro.now).phase }
+{
+    match orders.find(ro) {
+        Some(known) => known.phase,
+        None => Phase::Out,
+    }
+}
+
+// Whether it is to be asked for.
+pub fn is_wanted_in(orders: &OrderTable<Known>, ro: &Id) -> bool
+    ensures { result ≡ (look unknown_order orders.now ro.now).wanted }
+{
+    match orders.find(ro) {
+        Some(known) => known.wanted,
+        None => false,
+    }
+}
+
+// The order that is held, or that there is none.
+pub fn held_in<'a>(orders: &'a OrderTable<Known>, ro: &Id) -> Option<&'a Order>
+    ensures { option_copied result ≡ (look unknown_order orders.now ro.now).held }
+{
+    match orders.find(ro) {
+        Some(known) => known.held.as_ref(),
+        None => None,
+    }
+}
+
+// Gives an order a row, where it has none. Only that takes memory.
+pub fn know(orders: &mut OrderTable<Known>, ro: &Id) -> Result<(), NoMemory>
+    ensures there { OnOk result (IsSome (find_row ro.now orders.new)) }
+    ensures value { OnOk result (look unknown_order orders.new ro.now ≡ look unknown_order orders.old ro.now) }
+    ensures row { OnOk result ((v : KnownOrder) → put_row ro.now v orders.new ≡ put_row ro.now v orders.old) }
+    ensures err { OnErr result (orders.new ≡ orders.old) }
+{
+    match orders.find(ro) {
+        Some(_) => Ok(()),
+        None => orders.put(ro, Known::unknown()),
+    }
+}
+
+// Says how an order stands that has a row, and whether it is wanted. What is held stays.
+pub fn mark(orders: &mut OrderTable<Known>, ro: &Id, phase: Phase, wanted: bool)
+    requires { IsSome (find_row ro.now orders.old) }
+    ensures { orders.new ≡ put_row ro.now (record (look unknown_order orders.old ro.now) { phase = phase_of phase; wanted = wanted }) orders.old }
+{
+    let mut known = Known::unknown();
+    orders.exchange(ro, &mut known);
+    known.phase = phase;
+    known.wanted = wanted;
+    orders.exchange(ro, &mut known);
+}
