@@ -1,5 +1,5 @@
 -- The device's steps on the tables of a gateway.
-use Rattle.std.proofs.Common.{◌≡◌, ℕ, Bool, true, false, List, [], ◌∷◌, Option, Some, None, IsSome, refl, sym, ap, ◌∙◌, subst, if◌then◌else◌, ◌||◌}
+use Rattle.std.proofs.Common.{◌≡◌, ℕ, Bool, true, false, List, [], ◌∷◌, Option, Some, None, IsSome, Result, Ok, Err, OnOk, refl, sym, ap, ◌∙◌, subst, if◌then◌else◌, ◌||◌}
 use Rattle.mos_edits.specs.Texts.{Text, same_id, set_order}
 use Rattle.mos_edits.proofs.Identifiers.{same-true}
 use Rattle.mos_edits.specs.Entries.{insert_id}
@@ -10,8 +10,22 @@ use Rattle.mos_machines.specs.Device.Confirmation.{NotDue}
 use Rattle.mos_machines.specs.Tables.{look, put_row, row_ids, map_rows, KnownOrder, unknown_order, GateTables, gate_of, with_row}
 use Rattle.mos_machines.proofs.RowTables.{look-put, look-map, ids-put, ids-map, gate-put, gate-accepted, gate-dropped, crossed_order, dropped_order, has_row}
 use Rattle.order_table.specs.Rows.{IsAscending, find_row, value_or}
-use Rattle.order_table.proofs.Looked.{look-found, find-map, find-kept, ids-there}
+use Rattle.order_table.proofs.Looked.{look-found, find-put, find-map, find-kept, ids-there}
 use Rattle.gateway_core.specs.Parts.{IsAskedKnown, wanting_out}
+
+-- what is known of an order that was looked up
+pub look-some : (r : Text) (rows : List (Text × KnownOrder)) (k : KnownOrder) → find_row r rows ≡ Some k → look unknown_order rows r ≡ k
+look-some r rows k e = look-found unknown_order r rows ∙ ap (value_or unknown_order) e
+
+pub look-none : (r : Text) (rows : List (Text × KnownOrder)) → find_row r rows ≡ None → look unknown_order rows r ≡ unknown_order
+look-none r rows e = look-found unknown_order r rows ∙ ap (value_or unknown_order) e
+
+pub some-put : (r : Text) (v : KnownOrder) (rows : List (Text × KnownOrder)) → IsSome (find_row r (put_row r v rows))
+some-put r v rows = subst (λ (o : Option KnownOrder). IsSome o) (sym (find-put r v rows)) refl
+
+pub on-ok : {X Y : Type 0} {A B : Type 0} (r : Result X Y) → OnOk r A → (A → B) → OnOk r B
+on-ok (Ok x) a f = f a
+on-ok (Err y) a f = a
 
 -- the order that is asked for keeps its row
 pub asked-map : (f : Text → KnownOrder → KnownOrder) (out : GateOut) (rows : List (Text × KnownOrder)) → IsAskedKnown out rows → IsAskedKnown out (map_rows f rows)

@@ -1,5 +1,5 @@
 //! What is in flight to the server on the connection that the device opened, and what is to be confirmed there.
-ghost use Rattle.std.specs.Prelude.{◌≡◌};
+ghost use Rattle.std.specs.Prelude.{◌≡◌, ◌||◌};
 ghost use Rattle.mos_machines.specs.Device.{is_all as is_all_of};
 ghost use Rattle.gateway_core.specs.Parts.{asking_of};
 
@@ -38,5 +38,12 @@ impl Asking {
             Asking::All => true,
             _ => false,
         }
+    }
+
+    // Whether all orders are to be asked for once nothing of this is in flight any more.
+    pub fn leaves_all_wanted(&self, want_all: bool) -> bool
+        ensures { result ≡ (want_all || is_all_of (asking_of self.now)) }
+    {
+        want_all || self.is_all()
     }
 }

@@ -2,7 +2,7 @@
 ghost use Rattle.std.specs.Prelude.{◌≡◌, slice_get};
 ghost use Rattle.std.specs.Option.{option_copied};
 ghost use Rattle.mos_machines.specs.Messages.{is_link as is_link_of};
-ghost use Rattle.mos_machines.specs.Device.{is_in, no_gate, gate_accepted, gate_dropped, gate_opened, gate_beat};
+ghost use Rattle.mos_machines.specs.Device.{is_in, no_gate, gate_accepted, gate_dropped, gate_dropped_if, gate_opened, gate_beat};
 ghost use Rattle.mos_machines.specs.Tables.{gate_of};
 ghost use Rattle.mos_machines.specs.Steps.{DeviceEvent, device_step};
 ghost use Rattle.machine_answers.specs.Answers.{step_of};
@@ -109,18 +109,26 @@ impl Gate {
         let out = replace(&mut self.out, Asking::Nothing);
         let confirm = replace(&mut self.confirm, Confirm::NotDue);
         self.link = None;
-        self.want_all = self.want_all || out.is_all();
+        self.want_all = out.leaves_all_wanted(self.want_all);
         self.note = false;
         self.orders.change_all(&Dropping { out, confirm });
+    }
+
+    // The connection that the device opened ended, where it had one.
+    fn drop_former(&mut self)
+        ensures { gate_of self.new ≡ gate_dropped_if (gate_of self.old).link (gate_of self.old) }
+    {
+        match self.link {
+            Some(_) => self.drop_link(),
+            None => {}
+        }
     }
 
     /// The device opened this connection; a former one counts as ended. It takes no memory.
     pub fn device_opened(&mut self, link: u64)
         ensures { gate_of self.new ≡ gate_opened link (gate_of self.old) }
     {
-        if self.link.is_some() {
-            self.drop_link();
-        }
+        self.drop_former();
         self.link = Some(link);
         self.out = Asking::Nothing;
     }
