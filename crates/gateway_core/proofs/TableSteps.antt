@@ -1,17 +1,17 @@
 -- The device's steps on the tables of a gateway.
-use Rattle.std.proofs.Common.{◌≡◌, ℕ, Bool, true, false, List, [], ◌∷◌, Option, Some, None, IsSome, Result, Ok, Err, OnOk, refl, sym, ap, ◌∙◌, subst, if◌then◌else◌, ◌||◌}
+use Rattle.std.proofs.Common.{◌≡◌, ℕ, Bool, true, false, List, [], ◌∷◌, Option, Some, None, IsSome, Result, Ok, Err, OnOk, OnErr, IfOk, refl, sym, ap, ◌∙◌, subst, if◌then◌else◌, ◌||◌}
 use Rattle.mos_edits.specs.Texts.{Text, same_id, set_order}
 use Rattle.mos_edits.proofs.Identifiers.{same-true}
 use Rattle.mos_edits.specs.Entries.{insert_id}
 use Rattle.mos_edits.specs.Orders.{Order}
-use Rattle.mos_machines.specs.Device.{GateOut, Confirmation, GateState, Phase, is_for, is_confirmed, is_all, crossed, gate_accepted, gate_dropped, gate_with, ReadResult}
+use Rattle.mos_machines.specs.Device.{GateOut, Confirmation, GateState, Phase, is_for, is_confirmed, is_all, crossed, gate_accepted, gate_dropped, gate_with, ReadResult, gate_want, wanted_phase, wants_out}
 use Rattle.mos_machines.specs.Device.GateOut.{NotAsking, AsksFor, AsksAll, AsksBeat}
 use Rattle.mos_machines.specs.Device.Confirmation.{NotDue}
 use Rattle.mos_machines.specs.Tables.{look, put_row, row_ids, map_rows, KnownOrder, unknown_order, GateTables, gate_of, with_row}
 use Rattle.mos_machines.proofs.RowTables.{look-put, look-map, ids-put, ids-map, gate-put, gate-accepted, gate-dropped, crossed_order, dropped_order, has_row}
 use Rattle.order_table.specs.Rows.{IsAscending, find_row, value_or}
 use Rattle.order_table.proofs.Looked.{look-found, find-put, find-map, find-kept, ids-there}
-use Rattle.gateway_core.specs.Parts.{IsAskedKnown, wanting_out}
+use Rattle.gateway_core.specs.Parts.{IsAskedKnown, wanting_out, wanted_order}
 
 -- what is known of an order that was looked up
 pub look-some : (r : Text) (rows : List (Text × KnownOrder)) (k : KnownOrder) → find_row r rows ≡ Some k → look unknown_order rows r ≡ k
@@ -26,6 +26,10 @@ some-put r v rows = subst (λ (o : Option KnownOrder). IsSome o) (sym (find-put 
 pub on-ok : {X Y : Type 0} {A B : Type 0} (r : Result X Y) → OnOk r A → (A → B) → OnOk r B
 on-ok (Ok x) a f = f a
 on-ok (Err y) a f = a
+
+pub if-ok-is : {X Y : Type 0} (r : Result X Y) (x y : X) → x ≡ y → IfOk r (λ a. a ≡ x) → IfOk r (λ a. a ≡ y)
+if-ok-is (Ok a) x y e h = h ∙ e
+if-ok-is (Err f) x y e h = h
 
 -- the order that is asked for keeps its row
 pub asked-map : (f : Text → KnownOrder → KnownOrder) (out : GateOut) (rows : List (Text × KnownOrder)) → IsAskedKnown out rows → IsAskedKnown out (map_rows f rows)
@@ -67,3 +71,30 @@ accepted_tables c g = record { upper = Some c; link = g.link; out = g.out; want_
 
 pub accepted : (c : ℕ) (g : GateTables) → gate_of (accepted_tables c g) ≡ gate_accepted c (gate_of g)
 accepted c g = gate-accepted c g
+
+-- A row written anew whose order is held as before.
+set-same : {X : Type 0} (f : Text → X) (r : Text) → set_order f r (f r) ≡ f
+set-same {X = X} f r = λ i. λ q. by q (same_id q r) refl i
+  where
+    by : (q : Text) (b : Bool) → same_id q r ≡ b → (if b then f r else f q) ≡ f q
+    by q true e = ap f (sym (same-true q r e))
+    by q false e = refl
+
+pub kept-put : (g : GateTables) (r : Text) (p : Phase) (w : Bool) → gate_of (record g { orders = put_row r (record (look unknown_order g.orders r) { phase = p; wanted = w }) g.orders }) ≡ record (gate_of g) { known = insert_id r (gate_of g).known; phase = set_order (gate_of g).phase r p; wanted = set_order (gate_of g).wanted r w }
+kept-put g r p w =
+    gate-put g r (record (look unknown_order g.orders r) { phase = p; wanted = w })
+    ∙ ap (λ (h : Text → Option Order). record (gate_of g) { known = insert_id r (gate_of g).known; held = h; phase = set_order (gate_of g).phase r p; wanted = set_order (gate_of g).wanted r w }) (set-same (gate_of g).held r)
+
+pub wanted : (g : GateTables) (r : Text) → gate_of (record g { orders = put_row r (wanted_order (look unknown_order g.orders r)) g.orders }) ≡ gate_want r (gate_of g)
+wanted g r = kept-put g r (wanted_phase (look unknown_order g.orders r).phase) (wants_out (wanted_phase (look unknown_order g.orders r).phase) || (look unknown_order g.orders r).wanted)
+
+-- a row that is there written anew: the same orders are known
+pub there-put : (g : GateTables) (r : Text) (p : Phase) (w : Bool) → IsAscending (row_ids g.orders) → IsSome (find_row r g.orders) → gate_of (record g { orders = put_row r (record (look unknown_order g.orders r) { phase = p; wanted = w }) g.orders }) ≡ record (gate_of g) { phase = set_order (gate_of g).phase r p; wanted = set_order (gate_of g).wanted r w }
+there-put g r p w a h =
+    kept-put g r p w
+    ∙ ap (λ (ids : List Text). record (gate_of g) { known = ids; phase = set_order (gate_of g).phase r p; wanted = set_order (gate_of g).wanted r w }) (ids-there r g.orders a h)
+
+-- a call that takes memory, and leaves the rest as it was without
+pub asked-after : {X Y : Type 0} (o : Result X Y) (r : Text) (v : KnownOrder) (out : GateOut) (old new : List (Text × KnownOrder)) → OnOk o (new ≡ put_row r v old) → OnErr o (new ≡ old) → IsAskedKnown out old → IsAskedKnown out new
+asked-after (Ok x) r v out old new e f h = subst (λ (rows : List (Text × KnownOrder)). IsAskedKnown out rows) (sym e) (asked-put r v out old h)
+asked-after (Err y) r v out old new e f h = subst (λ (rows : List (Text × KnownOrder)). IsAskedKnown out rows) (sym f) h

@@ -1,7 +1,7 @@
 -- How the parts of a gateway stand for those of the device's state.
-use Rattle.std.specs.Prelude.{List, Some, IsSome, ◌||◌}
+use Rattle.std.specs.Prelude.{List, [], ◌∷◌, Bool, true, false, Option, Some, None, IsSome, if◌then◌else◌, ◌||◌}
 use Rattle.mos_edits.specs.Texts.{Text}
-use Rattle.mos_machines.specs.Device.{Phase as DevicePhase, GateOut, Confirmation, Decks, wants_out}
+use Rattle.mos_machines.specs.Device.{Phase as DevicePhase, GateOut, Confirmation, Decks, wants_out, wanted_phase}
 use Rattle.mos_machines.specs.Device.GateOut.{NotAsking, AsksFor, AsksAll, AsksBeat}
 use Rattle.mos_machines.specs.Tables.{KnownOrder}
 use Rattle.order_table.specs.Rows.{find_row}
@@ -41,3 +41,21 @@ IsAskedKnown a rows = Unit {0}
 -- an order that is out of step is wanted
 abbrev pub wanting_out : KnownOrder → KnownOrder
 wanting_out k = record { held = k.held; phase = k.phase; wanted = k.wanted || wants_out k.phase }
+
+-- an order that is wanted from now on
+abbrev pub wanted_order : KnownOrder → KnownOrder
+wanted_order k = record { held = k.held; phase = wanted_phase k.phase; wanted = wants_out (wanted_phase k.phase) || k.wanted }
+
+-- the first row whose order is wanted
+abbrev pub first_wanted_row : List (Text × KnownOrder) → Option Text
+first_wanted_row [] = None
+first_wanted_row (x ∷ xs) = if x.1.wanted then Some x.0 else first_wanted_row xs
+
+-- a confirmation that is due is sent
+abbrev pub is_due : Confirmation → Bool
+is_due (Confirmation.Due r) = true
+is_due c = false
+
+abbrev pub once_sent : Confirmation → Confirmation
+once_sent (Confirmation.Due r) = Confirmation.Unanswered r
+once_sent c = c

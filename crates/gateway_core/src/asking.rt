@@ -1,9 +1,10 @@
 //! What is in flight to the server on the connection that the device opened, and what is to be confirmed there.
 ghost use Rattle.std.specs.Prelude.{◌≡◌, ◌||◌};
-ghost use Rattle.mos_machines.specs.Device.{is_all as is_all_of};
-ghost use Rattle.gateway_core.specs.Parts.{asking_of};
+ghost use Rattle.mos_machines.specs.Device.{is_all as is_all_of, confirmed};
+ghost use Rattle.gateway_core.specs.Parts.{asking_of, confirmation_of, is_due, once_sent};
 
 use mos_fields::Id;
+use std::mem::replace;
 
 /// The request that is in flight to the server.
 #[derive(Drop)]
@@ -45,5 +46,34 @@ impl Asking {
         ensures { result ≡ (want_all || is_all_of (asking_of self.now)) }
     {
         want_all || self.is_all()
+    }
+}
+
+impl Confirm {
+    // Sends the heartbeat that is due; says whether one was.
+    pub fn send(&mut self) -> bool
+        ensures due { result ≡ is_due (confirmation_of self.old) }
+        ensures sent { confirmation_of self.new ≡ once_sent (confirmation_of self.old) }
+    {
+        match replace(self, Confirm::NotDue) {
+            Confirm::Due(ro) => {
+                *self = Confirm::Unanswered(ro);
+                true
+            }
+            confirm => {
+                *self = confirm;
+                false
+            }
+        }
+    }
+
+    // The heartbeat that was sent was answered.
+    pub fn answered(&mut self)
+        ensures { confirmation_of self.new ≡ confirmed (confirmation_of self.old) }
+    {
+        match replace(self, Confirm::NotDue) {
+            Confirm::Unanswered(_) => {}
+            confirm => *self = confirm,
+        }
     }
 }

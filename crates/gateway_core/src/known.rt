@@ -1,7 +1,7 @@
 //! What a gateway knows of one order.
 ghost use Rattle.std.specs.Prelude.{◌≡◌};
 ghost use Rattle.mos_machines.specs.Tables.{unknown_order};
-ghost use Rattle.mos_machines.specs.Device.{is_in as is_in_of, wants_out as wants_out_of};
+ghost use Rattle.mos_machines.specs.Device.{is_in as is_in_of, wants_out as wants_out_of, wanted_phase};
 ghost use Rattle.gateway_core.specs.Parts.{phase_of};
 
 use running_order::Order;
@@ -62,7 +62,24 @@ impl Known {
     }
 }
 
+// Whether an order is to be asked for.
+pub fn is_wanted(known: &Known) -> bool
+    ensures { result ≡ known.now.wanted }
+{
+    known.wanted
+}
+
 impl Phase {
+    // How an order stands that is wanted from now on.
+    pub fn once_wanted(self) -> Phase
+        ensures { phase_of result ≡ wanted_phase (phase_of self) }
+    {
+        match self {
+            Phase::In => Phase::Out,
+            phase => phase,
+        }
+    }
+
     /// Whether the order is in step.
     pub fn is_in(self) -> bool
         ensures { result ≡ is_in_of (phase_of self) }

@@ -4,6 +4,7 @@
 #![tactic(auto)]
 
 mod asking;
+mod asks;
 mod changes;
 mod gate;
 mod known;

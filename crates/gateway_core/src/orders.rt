@@ -3,9 +3,9 @@ ghost use Rattle.std.specs.Prelude.{◌≡◌, OnOk, OnErr, IsSome};
 ghost use Rattle.std.specs.Option.{option_copied};
 ghost use Rattle.mos_machines.specs.Tables.{KnownOrder, unknown_order, look, put_row};
 ghost use Rattle.order_table.specs.Rows.{find_row};
-ghost use Rattle.gateway_core.specs.Parts.{phase_of};
+ghost use Rattle.gateway_core.specs.Parts.{phase_of, wanted_order, first_wanted_row};
 
-use crate::known::{Known, Phase};
+use crate::known::{Known, Phase, is_wanted};
 use mos_fields::{Id, NoMemory};
 use order_table::OrderTable;
 use running_order::Order;
@@ -63,4 +63,28 @@ pub fn mark(orders: &mut OrderTable<Known>, ro: &Id, phase: Phase, wanted: bool)
     known.phase = phase;
     known.wanted = wanted;
     orders.exchange(ro, &mut known);
+}
+
+// Wants an order, unless it is asked for; one that is in step is out of step from then on. Only a new row takes memory.
+pub fn want_in(orders: &mut OrderTable<Known>, ro: &Id) -> Result<(), NoMemory>
+    ensures ok { OnOk result (orders.new ≡ put_row ro.now (wanted_order (look unknown_order orders.old ro.now)) orders.old) }
+    ensures err { OnErr result (orders.new ≡ orders.old) }
+{
+    let phase = phase_in(orders, ro).once_wanted();
+    let wanted = phase.is_out() || is_wanted_in(orders, ro);
+    know(orders, ro)?;
+    mark(orders, ro, phase, wanted);
+    Ok(())
+}
+
+// The least roID that is to be asked for.
+pub fn first_wanted(rows: &[(Id, Known)]) -> Option<&Id>
+    ensures { option_copied result ≡ first_wanted_row rows.now }
+{
+    'rows: for row in rows {
+        if is_wanted(&row.1) {
+            return Some(&row.0);
+        }
+    }
+    None
 }
