@@ -2,9 +2,11 @@
 use Rattle.std.proofs.Common.{◌≡◌, ℕ, Bool, true, false, List, [], ◌∷◌, Option, Some, None, IsSome, Result, Ok, Err, OnOk, OnErr, IfOk, refl, sym, ap, ◌∙◌, subst, if◌then◌else◌, ◌||◌}
 use Rattle.mos_edits.specs.Texts.{Text, same_id, set_order}
 use Rattle.mos_edits.proofs.Identifiers.{same-true}
-use Rattle.mos_edits.specs.Entries.{insert_id}
+use Rattle.mos_edits.specs.Entries.{insert_id, is_before}
 use Rattle.mos_edits.specs.Orders.{Order}
 use Rattle.mos_machines.specs.Device.{GateOut, Confirmation, GateState, Phase, is_for, is_confirmed, is_all, crossed, gate_accepted, gate_dropped, gate_with, ReadResult, gate_want, wanted_phase, wants_out}
+use Rattle.mos_machines.specs.Device.Phase.{InStep, OutOfStep}
+use Rattle.order_table.proofs.AscendingRows.{before-all, find-none}
 use Rattle.mos_machines.specs.Device.GateOut.{NotAsking, AsksFor, AsksAll, AsksBeat}
 use Rattle.mos_machines.specs.Device.Confirmation.{NotDue}
 use Rattle.mos_machines.specs.Tables.{look, put_row, row_ids, map_rows, KnownOrder, unknown_order, GateTables, gate_of, with_row}
@@ -30,6 +32,32 @@ on-ok (Err y) a f = a
 pub if-ok-is : {X Y : Type 0} (r : Result X Y) (x y : X) → x ≡ y → IfOk r (λ a. a ≡ x) → IfOk r (λ a. a ≡ y)
 if-ok-is (Ok a) x y e h = h ∙ e
 if-ok-is (Err f) x y e h = h
+
+pub on-err : {X Y : Type 0} {A B : Type 0} (r : Result X Y) → OnErr r A → (A → B) → OnErr r B
+on-err (Ok x) a f = a
+on-err (Err y) a f = f a
+
+-- an order that is in step has a row
+pub in-found : (r : Text) (rows : List (Text × KnownOrder)) → (look unknown_order rows r).phase ≡ InStep → IsSome (find_row r rows)
+in-found r rows e = by (find_row r rows) (ap (λ k. k.phase) (sym (look-found unknown_order r rows)) ∙ e)
+  where
+    by : (o : Option KnownOrder) → (value_or unknown_order o).phase ≡ InStep → IsSome o
+    by None h = absurd (cc)
+    by (Some k) h = refl
+
+-- a row written as it is
+pub put-same : (r : Text) (v : KnownOrder) (rows : List (Text × KnownOrder)) → IsAscending (row_ids rows) → find_row r rows ≡ Some v → put_row r v rows ≡ rows
+put-same r v [] a e = absurd (cc)
+put-same r v (x ∷ xs) a e = by (same_id r x.0) refl (is_before r x.0) refl e (put-same r v xs a.1)
+  where
+    pair : r ≡ x.0 → v ≡ x.1 → (r, v) ∷ xs ≡ x ∷ xs
+    pair p q = λ i. (p i, q i) ∷ xs
+
+    by : (b : Bool) → same_id r x.0 ≡ b → (c : Bool) → is_before r x.0 ≡ c → (if b then Some x.1 else find_row r xs) ≡ Some v → (find_row r xs ≡ Some v → put_row r v xs ≡ xs)
+        → (if b then (r, v) ∷ xs else (if c then (r, v) ∷ (x ∷ xs) else x ∷ put_row r v xs)) ≡ x ∷ xs
+    by true s c d h i = pair (same-true r x.0 s) (let q : x.1 ≡ v = cc in sym q)
+    by false s true d h i = absurd (let n = find-none r xs (before-all r x.0 (row_ids xs) d a.0) in cc)
+    by false s false d h i = ap (λ (ys : List (Text × KnownOrder)). x ∷ ys) (i h)
 
 -- the order that is asked for keeps its row
 pub asked-map : (f : Text → KnownOrder → KnownOrder) (out : GateOut) (rows : List (Text × KnownOrder)) → IsAskedKnown out rows → IsAskedKnown out (map_rows f rows)

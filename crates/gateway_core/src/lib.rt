@@ -6,9 +6,11 @@
 mod asking;
 mod asks;
 mod changes;
+mod edits;
 mod gate;
 mod known;
 mod orders;
+mod reading;
 
 pub use asking::{Asking, Confirm};
 pub use gate::Gate;
