@@ -1,3 +1,4 @@
 pub mod TableSteps
 pub mod AskSteps
 pub mod ReadSteps
+pub mod UpperSteps

@@ -101,7 +101,7 @@ pub accepted : (c : ℕ) (g : GateTables) → gate_of (accepted_tables c g) ≡ 
 accepted c g = gate-accepted c g
 
 -- A row written anew whose order is held as before.
-set-same : {X : Type 0} (f : Text → X) (r : Text) → set_order f r (f r) ≡ f
+pub set-same : {X : Type 0} (f : Text → X) (r : Text) → set_order f r (f r) ≡ f
 set-same {X = X} f r = λ i. λ q. by q (same_id q r) refl i
   where
     by : (q : Text) (b : Bool) → same_id q r ≡ b → (if b then f r else f q) ≡ f q

@@ -11,6 +11,8 @@ use Rattle.mos_machines.specs.Device.{Decks, ReadResult, Phase, read_edit, ready
 use Rattle.mos_machines.specs.Device.Phase.{InStep, OutOfStep, Asked, Crossed}
 use Rattle.mos_machines.specs.Tables.{KnownOrder, unknown_order, look, put_row}
 use Rattle.mos_values.specs.declared.edit.Edit.TheVariants as edits
+use Rattle.mos_values.specs.declared.message.Message as values
+use Rattle.mos_values.specs.declared.message.Message.TheVariants as carried
 use Rattle.mos_values.specs.declared.ro_ack.RoAck.{RoAck}
 use Rattle.mos_fields.specs.declared.air.Air.TheVariants.{Ready}
 use Rattle.std.specs.declared.alloc.AllocError.{AllocError}
@@ -106,3 +108,7 @@ abbrev pub IsRefused : Text → ActFault → Result RoAck AllocError → Type 0
 IsRefused ro (Missing id) r = IfOk r (λ a. a ≡ acked ro (Status.Faulty (EditFault.Missing id)))
 IsRefused ro (AlreadyThere id) r = IfOk r (λ a. a ≡ acked ro (Status.Faulty (EditFault.AlreadyThere id)))
 IsRefused ro NoMemory r = IfOk r (λ a. ⊥)
+
+abbrev pub IsHeartbeat : values.Message → Type 0
+IsHeartbeat (carried.Heartbeat time) = Unit {0}
+IsHeartbeat m = ⊥

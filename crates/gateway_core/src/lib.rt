@@ -11,6 +11,7 @@ mod gate;
 mod known;
 mod orders;
 mod reading;
+mod upper;
 
 pub use asking::{Asking, Confirm};
 pub use gate::Gate;
