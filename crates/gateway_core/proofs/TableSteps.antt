@@ -1,10 +1,10 @@
 -- The device's steps on the tables of a gateway.
-use Rattle.std.proofs.Common.{◌≡◌, ℕ, Bool, true, false, List, [], ◌∷◌, Option, Some, None, IsSome, Result, Ok, Err, OnOk, OnErr, IfOk, refl, sym, ap, ◌∙◌, subst, if◌then◌else◌, ◌||◌}
+use Rattle.std.proofs.Common.{◌≡◌, ℕ, Bool, true, false, List, [], ◌∷◌, Option, Some, None, IsSome, Result, Ok, Err, OnOk, OnErr, IfOk, refl, sym, ap, ◌∙◌, subst, if◌then◌else◌, ◌||◌, ◌&&◌}
 use Rattle.mos_edits.specs.Texts.{Text, same_id, set_order}
 use Rattle.mos_edits.proofs.Identifiers.{same-true}
 use Rattle.mos_edits.specs.Entries.{insert_id, is_before}
 use Rattle.mos_edits.specs.Orders.{Order}
-use Rattle.mos_machines.specs.Device.{GateOut, Confirmation, GateState, Phase, is_for, is_confirmed, is_all, crossed, gate_accepted, gate_dropped, gate_with, ReadResult, gate_want, wanted_phase, wants_out}
+use Rattle.mos_machines.specs.Device.{GateOut, Confirmation, GateState, Phase, is_for, is_confirmed, is_all, crossed, gate_accepted, gate_dropped, gate_with, ReadResult, gate_want, wanted_phase, wants_out, is_in, got_phase, got_order, got_refusal, is_known}
 use Rattle.mos_machines.specs.Device.Phase.{InStep, OutOfStep}
 use Rattle.order_table.proofs.AscendingRows.{before-all, find-none}
 use Rattle.mos_machines.specs.Device.GateOut.{NotAsking, AsksFor, AsksAll, AsksBeat}
@@ -13,6 +13,7 @@ use Rattle.mos_machines.specs.Tables.{look, put_row, row_ids, map_rows, KnownOrd
 use Rattle.mos_machines.proofs.RowTables.{look-put, look-map, ids-put, ids-map, gate-put, gate-accepted, gate-dropped, crossed_order, dropped_order, has_row}
 use Rattle.order_table.specs.Rows.{IsAscending, find_row, value_or}
 use Rattle.order_table.proofs.Looked.{look-found, find-put, find-map, find-kept, ids-there}
+use Rattle.gateway_core.specs.Gots.{got_known}
 use Rattle.gateway_core.specs.Parts.{IsAskedKnown, wanting_out, wanted_order}
 
 -- what is known of an order that was looked up
@@ -126,3 +127,42 @@ there-put g r p w a h =
 pub asked-after : {X Y : Type 0} (o : Result X Y) (r : Text) (v : KnownOrder) (out : GateOut) (old new : List (Text × KnownOrder)) → OnOk o (new ≡ put_row r v old) → OnErr o (new ≡ old) → IsAskedKnown out old → IsAskedKnown out new
 asked-after (Ok x) r v out old new e f h = subst (λ (rows : List (Text × KnownOrder)). IsAskedKnown out rows) (sym e) (asked-put r v out old h)
 asked-after (Err y) r v out old new e f h = subst (λ (rows : List (Text × KnownOrder)). IsAskedKnown out rows) (sym f) h
+
+-- what came for the order that was asked for
+pub got-tables : (g : GateTables) (r : Text) (o : Option Order) → g.out ≡ NotAsking
+    → gate_of (record g { confirm = if is_in (got_phase (look unknown_order g.orders r).phase) then Confirmation.Due r else g.confirm; orders = put_row r (got_known (look unknown_order g.orders r) o) g.orders }) ≡ got_order (gate_of g) r o
+got-tables g r o e =
+    gate-put (record g { confirm = if is_in (got_phase (look unknown_order g.orders r).phase) then Confirmation.Due r else g.confirm }) r (got_known (look unknown_order g.orders r) o)
+    ∙ ap (λ (x : GateOut). record (got_order (gate_of g) r o) { out = x }) e
+
+pub refused-tables : (g : GateTables) (r : Text) → IsAscending (row_ids g.orders) → IsSome (find_row r g.orders)
+    → gate_of (record g { out = NotAsking; orders = put_row r (record (look unknown_order g.orders r) { phase = OutOfStep; wanted = true }) g.orders }) ≡ got_refusal (gate_of g) r
+refused-tables g r a h = there-put (record g { out = NotAsking }) r OutOfStep true a h
+
+-- each order that is out of step is wanted
+abbrev pub wanting_known : List Text → Text → KnownOrder → KnownOrder
+wanting_known ids r k = record { held = k.held; phase = k.phase; wanted = k.wanted || (is_known r ids && wants_out k.phase) }
+
+pub look-wanting : (rows : List (Text × KnownOrder)) (q : Text) → look unknown_order (map_rows (λ r. wanting_out) rows) q ≡ wanting_known (row_ids rows) q (look unknown_order rows q)
+look-wanting [] q = refl
+look-wanting (x ∷ xs) q = by (same_id q x.0) (look-wanting xs q)
+  where
+    by : (b : Bool) → look unknown_order (map_rows (λ r. wanting_out) xs) q ≡ wanting_known (row_ids xs) q (look unknown_order xs q)
+        → (if b then wanting_out x.1 else look unknown_order (map_rows (λ r. wanting_out) xs) q)
+        ≡ record { held = (if b then x.1 else look unknown_order xs q).held; phase = (if b then x.1 else look unknown_order xs q).phase; wanted = (if b then x.1 else look unknown_order xs q).wanted || ((if b then true else is_known q (row_ids xs)) && wants_out (if b then x.1 else look unknown_order xs q).phase) }
+    by true i = refl
+    by false i = i
+
+pub wanting-tables : (g : GateTables) → gate_of (record g { out = NotAsking; orders = map_rows (λ r. wanting_out) g.orders }) ≡ record (gate_of g) { out = NotAsking; wanted = λ r. (gate_of g).wanted r || (is_known r (gate_of g).known && wants_out ((gate_of g).phase r)) }
+wanting-tables g = λ i. record {
+  upper = g.upper;
+  link = g.link;
+  out = NotAsking;
+  want_all = g.want_all;
+  confirm = g.confirm;
+  note = g.note;
+  known = ids-map (λ r. wanting_out) g.orders i;
+  held = λ q. (look-wanting g.orders q i).held;
+  phase = λ q. (look-wanting g.orders q i).phase;
+  wanted = λ q. (look-wanting g.orders q i).wanted;
+}

@@ -1,6 +1,6 @@
 //! What is in flight to the server on the connection that the device opened, and what is to be confirmed there.
-ghost use Rattle.std.specs.Prelude.{◌≡◌, ◌||◌};
-ghost use Rattle.mos_machines.specs.Device.{is_all as is_all_of, confirmed};
+ghost use Rattle.std.specs.Prelude.{◌≡◌, ◌||◌, if◌then◌else◌};
+ghost use Rattle.mos_machines.specs.Device.{is_all as is_all_of, confirmed, Confirmation};
 ghost use Rattle.gateway_core.specs.Parts.{asking_of, confirmation_of, is_due, once_sent};
 
 use mos_fields::Id;
@@ -74,6 +74,15 @@ impl Confirm {
         match replace(self, Confirm::NotDue) {
             Confirm::Unanswered(_) => {}
             confirm => *self = confirm,
+        }
+    }
+
+    // A list of this order came; where the order is in step now, the list is to be confirmed.
+    pub fn list(&mut self, in_step: bool, ro: Id)
+        ensures { confirmation_of self.new ≡ (if in_step then Confirmation.Due ro else confirmation_of self.old) }
+    {
+        if in_step {
+            *self = Confirm::Due(ro);
         }
     }
 }

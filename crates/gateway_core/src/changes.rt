@@ -39,7 +39,7 @@ pub struct Dropping {
     pub confirm: Confirm,
 }
 
-fn is_for(ro: &Id, out: &Asking) -> bool
+pub fn is_for(ro: &Id, out: &Asking) -> bool
     ensures { result ≡ is_for_of ro.now (asking_of out.now) }
 {
     match out {

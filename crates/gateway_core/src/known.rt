@@ -1,7 +1,7 @@
 //! What a gateway knows of one order.
 ghost use Rattle.std.specs.Prelude.{◌≡◌};
 ghost use Rattle.mos_machines.specs.Tables.{unknown_order};
-ghost use Rattle.mos_machines.specs.Device.{is_in as is_in_of, wants_out as wants_out_of, wanted_phase};
+ghost use Rattle.mos_machines.specs.Device.{is_in as is_in_of, wants_out as wants_out_of, wanted_phase, got_phase};
 ghost use Rattle.gateway_core.specs.Parts.{phase_of};
 
 use running_order::Order;
@@ -70,6 +70,16 @@ pub fn is_wanted(known: &Known) -> bool
 }
 
 impl Phase {
+    // How an order stands once its list came.
+    pub fn once_listed(self) -> Phase
+        ensures { phase_of result ≡ got_phase (phase_of self) }
+    {
+        match self {
+            Phase::Asked => Phase::In,
+            _ => Phase::Out,
+        }
+    }
+
     // How an order stands that is wanted from now on.
     pub fn once_wanted(self) -> Phase
         ensures { phase_of result ≡ wanted_phase (phase_of self) }

@@ -3,6 +3,7 @@
 //! A `Gate` is seen as the tables of its state. Each call is one step of the device, by its definition in `mos_machines`.
 #![tactic(auto)]
 
+mod answers;
 mod asking;
 mod asks;
 mod changes;
@@ -11,6 +12,7 @@ mod gate;
 mod known;
 mod orders;
 mod reading;
+mod statuses;
 mod upper;
 
 pub use asking::{Asking, Confirm};

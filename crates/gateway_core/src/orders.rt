@@ -3,6 +3,8 @@ ghost use Rattle.std.specs.Prelude.{◌≡◌, OnOk, OnErr, IsSome};
 ghost use Rattle.std.specs.Option.{option_copied};
 ghost use Rattle.mos_machines.specs.Tables.{KnownOrder, unknown_order, look, put_row};
 ghost use Rattle.order_table.specs.Rows.{find_row};
+ghost use Rattle.mos_machines.specs.Device.{is_in, got_phase};
+ghost use Rattle.gateway_core.specs.Gots.{got_known};
 ghost use Rattle.gateway_core.specs.Parts.{phase_of, wanted_order, first_wanted_row};
 
 use crate::known::{Known, Phase, is_wanted};
@@ -87,4 +89,21 @@ pub fn first_wanted(rows: &[(Id, Known)]) -> Option<&Id>
         }
     }
     None
+}
+
+// Holds what came for an order that has a row; says whether the order is in step then. Without that it is wanted again.
+pub fn hold(orders: &mut OrderTable<Known>, ro: &Id, held: Option<Order>) -> bool
+    requires { IsSome (find_row ro.now orders.old) }
+    ensures row { orders.new ≡ put_row ro.now (got_known (look unknown_order orders.old ro.now) held) orders.old }
+    ensures in_step { result ≡ is_in (got_phase (look unknown_order orders.old ro.now).phase) }
+{
+    let phase = phase_in(orders, ro).once_listed();
+    let in_step = phase.is_in();
+    let mut known = Known {
+        held,
+        phase,
+        wanted: !in_step,
+    };
+    orders.exchange(ro, &mut known);
+    in_step
 }
