@@ -23,3 +23,7 @@ refused_asked g a = record g { out = NotAsking }
 -- whether a roAck says that there is no such order
 abbrev pub says_no_order : Text → Bool
 says_no_order text = is_no_order (read_status text)
+
+abbrev pub is_beat : GateOut → Bool
+is_beat AsksBeat = true
+is_beat a = false

@@ -10,6 +10,7 @@ mod changes;
 mod edits;
 mod gate;
 mod known;
+mod listing;
 mod orders;
 mod reading;
 mod statuses;

@@ -1,6 +1,6 @@
 //! What the gateway hears on the connection of the server.
-ghost use Rattle.std.specs.Prelude.{◌≡◌, OnOk, OnErr, IfOk, IsOk};
-ghost use Rattle.mos_machines.specs.Device.{would_arm as would_arm_of};
+ghost use Rattle.std.specs.Prelude.{◌≡◌, ◌&&◌, OnOk, OnErr, IfOk, IsOk};
+ghost use Rattle.mos_machines.specs.Device.{would_arm as would_arm_of, is_in, is_some_order};
 ghost use Rattle.mos_machines.specs.Tables.{gate_of};
 ghost use Rattle.mos_machines.specs.Steps.{DeviceEvent, device_step};
 ghost use Rattle.mos_machines.specs.Values.{seen};
@@ -14,7 +14,7 @@ use crate::gate::{Gate, is_link};
 use crate::known::DeckState;
 use crate::reading::read_message;
 use machine_answers::Heard;
-use mos_fields::NoMemory;
+use mos_fields::{Air, Id, NoMemory};
 use mos_values::Message;
 
 impl Gate {
@@ -49,5 +49,21 @@ impl Gate {
     {
         let ack = read_message(self.orders.allocator(), &mut self.orders, m, decks)?;
         Ok(Heard::Say(Message::RoAck(ack)))
+    }
+
+    /// Whether this message, read on this connection, is a READY of an order that is in step and held. It takes no memory.
+    pub fn would_arm(&self, link: u64, m: &Message) -> bool
+        ensures { result ≡ would_arm_of (gate_of self.now) link (seen m.now) }
+    {
+        match m {
+            Message::RoReadyToAir { ro, air: Air::Ready } => is_link(self.upper, link) && self.is_held_in_step(ro),
+            _ => false,
+        }
+    }
+
+    fn is_held_in_step(&self, ro: &Id) -> bool
+        ensures { result ≡ (is_in ((gate_of self.now).phase ro.now) && is_some_order ((gate_of self.now).held ro.now)) }
+    {
+        self.is_in_step(ro) && self.order(ro).is_some()
     }
 }
