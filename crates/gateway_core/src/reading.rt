@@ -161,8 +161,7 @@ fn read_whole(alloc: Global, orders: &mut OrderTable<Known>, ro: &Id, body: Opti
     match phase_in(orders, ro) {
         Phase::In => hold_whole(alloc, orders, ro, body),
         Phase::Out => hold_whole(alloc, orders, ro, body),
-        Phase::Asked => read_asked(alloc, orders, ro),
-        Phase::Crossed => read_asked(alloc, orders, ro),
+        _ => read_asked(alloc, orders, ro),
     }
 }
 

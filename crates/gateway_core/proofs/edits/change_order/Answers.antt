@@ -1,8 +1,8 @@
-use Rattle.std.proofs.Common.{◌≡◌, true, Some, sym, ap, ◌∙◌}
+use Rattle.std.proofs.Common.{◌≡◌, Some, sym, ap, ◌∙◌}
 use Rattle.mos_edits.specs.KeyedLists.Applied.{Done}
 use Rattle.mos_edits.specs.Actions.{act}
 use Rattle.mos_edits.specs.Orders.{apply, shape, form_of}
-use Rattle.element_action.specs.Answers.{IsCause}
+use Rattle.element_action.specs.Answers.{takes_memory}
 use Rattle.gateway_core.specs.Reads.{edit_of, IsTold}
 use Rattle.gateway_core.proofs.TableSteps.{on-ok}
 use Rattle.gateway_core.proofs.ReadSteps.{apply-header, apply-act, apply-ready, if-err, told}
@@ -25,7 +25,7 @@ pub returns-in-Action-clause-fault : goal.returns-in-Action-clause-fault
 returns-in-Action-clause-fault c =
     let ro = c.args.ro.now in
     let o = c.args.order.now in
-    if-err c.act.result _ _ (λ f h. told true o.header (act shape (form_of c.in-Action.action.now) o.stories) _ f (ap (λ x. apply ro (Some o) (edit_of ro x)) c.in-Action.is ∙ apply-act ro ro o c.in-Action.action.now) h) c.act.ensures.fault
+    if-err c.act.result _ _ (λ f h. told (takes_memory (form_of c.in-Action.action.now)) o.header (act shape (form_of c.in-Action.action.now) o.stories) _ f (ap (λ x. apply ro (Some o) (edit_of ro x)) c.in-Action.is ∙ apply-act ro ro o c.in-Action.action.now) h) c.act.ensures.fault
 
 pub returns-in-Release-clause-ok : goal.returns-in-Release-clause-ok
 returns-in-Release-clause-ok c =
