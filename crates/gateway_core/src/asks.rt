@@ -42,7 +42,9 @@ fn ask_all() -> Sent
 fn ask_for(ro: &Id) -> Result<Sent, NoMemory>
     ensures { IfOk result (λ s. s ≡ sent.Out (carried.RoReq ro.now) (tag.Ask ro.now)) }
 {
-    let tag = Tag::Ask { ro: ro.try_clone()? };
+    let tag = Tag::Ask {
+        ro: ro.try_clone()?,
+    };
     Ok(Sent::Out {
         message: Message::RoReq(ro.try_clone()?),
         tag,

@@ -60,7 +60,12 @@ fn missing(ro: &Id) -> ActFault
 }
 
 // Applies a change to an order that is there.
-fn change_order(alloc: Global, order: &mut Order, ro: &Id, change: Change<'_>) -> Result<(), ActFault>
+fn change_order(
+    alloc: Global,
+    order: &mut Order,
+    ro: &Id,
+    change: Change<'_>,
+) -> Result<(), ActFault>
     ensures ok { OnOk result (apply_of ro.now (Some order.old) (edit_of ro.now change.entry) ≡ Done (Some order.new)) }
     ensures fault { IfErr result (IsTold (apply_of ro.now (Some order.old) (edit_of ro.now change.entry))) }
     ensures err { OnErr result (order.new ≡ order.old) }
@@ -76,7 +81,12 @@ fn change_order(alloc: Global, order: &mut Order, ro: &Id, change: Change<'_>) -
 }
 
 // Applies a change to what is held. After a fault that stays as it was.
-pub fn apply(alloc: Global, held: &mut Option<Order>, ro: &Id, change: Change<'_>) -> Result<(), ActFault>
+pub fn apply(
+    alloc: Global,
+    held: &mut Option<Order>,
+    ro: &Id,
+    change: Change<'_>,
+) -> Result<(), ActFault>
     ensures ok { OnOk result (apply_of ro.now held.old (edit_of ro.now change.entry) ≡ Done held.new) }
     ensures fault { IfErr result (IsTold (apply_of ro.now held.old (edit_of ro.now change.entry))) }
     ensures err { OnErr result (held.new ≡ held.old) }

@@ -13,7 +13,11 @@ use order_table::OrderTable;
 use std::alloc::Global;
 
 // Adds a row for an order that has none.
-fn push_missing(new: &mut Vec<(Id, Known)>, orders: &OrderTable<Known>, ro: &Id) -> Result<(), NoMemory>
+fn push_missing(
+    new: &mut Vec<(Id, Known)>,
+    orders: &OrderTable<Known>,
+    ro: &Id,
+) -> Result<(), NoMemory>
     ensures { OnOk result (new.new.items ≡ new.old.items ++ missing_one ro.now (find_row ro.now orders.now)) }
 {
     match orders.find(ro) {
@@ -26,7 +30,11 @@ fn push_missing(new: &mut Vec<(Id, Known)>, orders: &OrderTable<Known>, ro: &Id)
 }
 
 // The rows for the listed orders that have none.
-fn missing(alloc: Global, orders: &OrderTable<Known>, headers: &[HeaderPatch]) -> Result<Vec<(Id, Known)>, NoMemory>
+fn missing(
+    alloc: Global,
+    orders: &OrderTable<Known>,
+    headers: &[HeaderPatch],
+) -> Result<Vec<(Id, Known)>, NoMemory>
     ensures { IfOk result (λ v. v.items ≡ missing_rows headers.now orders.now) }
 {
     let mut new = Vec::new(alloc);

@@ -44,7 +44,11 @@ fn read_asked(alloc: Global, orders: &mut OrderTable<Known>, ro: &Id) -> Result<
 }
 
 // A change of an order that is out of step isn't taken; the order is asked for.
-fn read_out_of_step(alloc: Global, orders: &mut OrderTable<Known>, ro: &Id) -> Result<RoAck, NoMemory>
+fn read_out_of_step(
+    alloc: Global,
+    orders: &mut OrderTable<Known>,
+    ro: &Id,
+) -> Result<RoAck, NoMemory>
     ensures rows { OnOk result (orders.new ≡ put_row ro.now (kept (out_result (look unknown_order orders.old ro.now))) orders.old) }
     ensures answer { IfOk result (λ a. a ≡ acked ro.now MachineStatus.NotInStep) }
     ensures err { OnErr result (orders.new ≡ orders.old) }
@@ -75,7 +79,13 @@ fn refuse(alloc: Global, ro: &Id, fault: ActFault) -> Result<RoAck, NoMemory>
 }
 
 // A change of an order that is in step is applied to what is held; after a fault the order is out of step and asked for.
-fn read_in_step(alloc: Global, known: &mut Known, ro: &Id, change: Change<'_>, decks: DeckState) -> Result<RoAck, NoMemory>
+fn read_in_step(
+    alloc: Global,
+    known: &mut Known,
+    ro: &Id,
+    change: Change<'_>,
+    decks: DeckState,
+) -> Result<RoAck, NoMemory>
     requires { known.old.phase ≡ InStep }
     ensures rows { OnOk result (known.new ≡ kept (known_result known.old (decks_of decks) (entry_at ro.now change.entry))) }
     ensures answer { IfOk result (λ a. a ≡ acked ro.now (known_result known.old (decks_of decks) (entry_at ro.now change.entry)).status) }
@@ -94,7 +104,13 @@ fn read_in_step(alloc: Global, known: &mut Known, ro: &Id, change: Change<'_>, d
 }
 
 // The same of an order in the table.
-fn read_known(alloc: Global, orders: &mut OrderTable<Known>, ro: &Id, change: Change<'_>, decks: DeckState) -> Result<RoAck, NoMemory>
+fn read_known(
+    alloc: Global,
+    orders: &mut OrderTable<Known>,
+    ro: &Id,
+    change: Change<'_>,
+    decks: DeckState,
+) -> Result<RoAck, NoMemory>
     requires { (look unknown_order orders.old ro.now).phase ≡ InStep }
     ensures rows { OnOk result (orders.new ≡ put_row ro.now (kept (rows_result orders.old (decks_of decks) (entry_at ro.now change.entry))) orders.old) }
     ensures answer { IfOk result (λ a. a ≡ acked ro.now (rows_result orders.old (decks_of decks) (entry_at ro.now change.entry)).status) }
@@ -109,7 +125,13 @@ fn read_known(alloc: Global, orders: &mut OrderTable<Known>, ro: &Id, change: Ch
 }
 
 // roElementAction, roMetadataReplace and READY.
-fn read_change(alloc: Global, orders: &mut OrderTable<Known>, ro: &Id, change: Change<'_>, decks: DeckState) -> Result<RoAck, NoMemory>
+fn read_change(
+    alloc: Global,
+    orders: &mut OrderTable<Known>,
+    ro: &Id,
+    change: Change<'_>,
+    decks: DeckState,
+) -> Result<RoAck, NoMemory>
     ensures rows { OnOk result (orders.new ≡ put_result ro.now (rows_result orders.old (decks_of decks) (entry_at ro.now change.entry)) orders.old) }
     ensures answer { IfOk result (λ a. a ≡ acked ro.now (rows_result orders.old (decks_of decks) (entry_at ro.now change.entry)).status) }
     ensures err { OnErr result (orders.new ≡ orders.old) }
@@ -133,7 +155,12 @@ fn copied(alloc: Global, body: Option<&OrderBody>) -> Result<Option<Order>, NoMe
 }
 
 // A whole order, or that there is none from now on, is held in step.
-fn hold_whole(alloc: Global, orders: &mut OrderTable<Known>, ro: &Id, body: Option<&OrderBody>) -> Result<RoAck, NoMemory>
+fn hold_whole(
+    alloc: Global,
+    orders: &mut OrderTable<Known>,
+    ro: &Id,
+    body: Option<&OrderBody>,
+) -> Result<RoAck, NoMemory>
     ensures rows { OnOk result (orders.new ≡ put_row ro.now (record { held = option_copied body.entry; phase = InStep; wanted = (look unknown_order orders.old ro.now).wanted }) orders.old) }
     ensures answer { IfOk result (λ a. a ≡ acked ro.now MachineStatus.Okay) }
     ensures err { OnErr result (orders.new ≡ orders.old) }
@@ -153,7 +180,12 @@ fn hold_whole(alloc: Global, orders: &mut OrderTable<Known>, ro: &Id, body: Opti
 }
 
 // roCreate, roReplace and roDelete.
-fn read_whole(alloc: Global, orders: &mut OrderTable<Known>, ro: &Id, body: Option<&OrderBody>) -> Result<RoAck, NoMemory>
+fn read_whole(
+    alloc: Global,
+    orders: &mut OrderTable<Known>,
+    ro: &Id,
+    body: Option<&OrderBody>,
+) -> Result<RoAck, NoMemory>
     ensures rows { OnOk result (orders.new ≡ put_result ro.now (whole_result orders.old ro.now (option_copied body.entry)) orders.old) }
     ensures answer { IfOk result (λ a. a ≡ acked ro.now (whole_result orders.old ro.now (option_copied body.entry)).status) }
     ensures err { OnErr result (orders.new ≡ orders.old) }
@@ -204,7 +236,12 @@ fn unknown(alloc: Global) -> Result<RoAck, NoMemory>
 }
 
 // A message that isn't a heartbeat, with the roAck that answers it.
-pub fn read_message(alloc: Global, orders: &mut OrderTable<Known>, m: &Message, decks: DeckState) -> Result<RoAck, NoMemory>
+pub fn read_message(
+    alloc: Global,
+    orders: &mut OrderTable<Known>,
+    m: &Message,
+    decks: DeckState,
+) -> Result<RoAck, NoMemory>
     ensures rows { OnOk result (orders.new ≡ read_rows orders.old (decks_of decks) (seen m.now)) }
     ensures answer { IfOk result (λ a. a ≡ read_ack orders.old (decks_of decks) (seen m.now)) }
     ensures err { OnErr result (orders.new ≡ orders.old) }
@@ -213,8 +250,20 @@ pub fn read_message(alloc: Global, orders: &mut OrderTable<Known>, m: &Message, 
         Message::RoCreate(body) => read_whole(alloc, orders, &body.header.ro, Some(body)),
         Message::RoReplace(body) => read_whole(alloc, orders, &body.header.ro, Some(body)),
         Message::RoDelete(ro) => read_whole(alloc, orders, ro, None),
-        Message::RoMetadataReplace(patch) => read_change(alloc, orders, &patch.ro, Change::Header(patch), decks),
-        Message::RoElementAction { ro, action } => read_change(alloc, orders, ro, Change::Action(action), decks),
+        Message::RoMetadataReplace(patch) => read_change(
+            alloc,
+            orders,
+            &patch.ro,
+            Change::Header(patch),
+            decks,
+        ),
+        Message::RoElementAction { ro, action } => read_change(
+            alloc,
+            orders,
+            ro,
+            Change::Action(action),
+            decks,
+        ),
         Message::RoReadyToAir { ro, air } => read_air(alloc, orders, ro, *air, decks),
         Message::RoAck(ack) => unasked(alloc, &ack.ro),
         Message::RoReq(ro) => unsupported(alloc, ro),
@@ -226,7 +275,13 @@ pub fn read_message(alloc: Global, orders: &mut OrderTable<Known>, m: &Message, 
 }
 
 // READY and NOT READY.
-fn read_air(alloc: Global, orders: &mut OrderTable<Known>, ro: &Id, air: Air, decks: DeckState) -> Result<RoAck, NoMemory>
+fn read_air(
+    alloc: Global,
+    orders: &mut OrderTable<Known>,
+    ro: &Id,
+    air: Air,
+    decks: DeckState,
+) -> Result<RoAck, NoMemory>
     ensures rows { OnOk result (orders.new ≡ read_rows orders.old (decks_of decks) (seen (carried.RoReadyToAir ro.now air))) }
     ensures answer { IfOk result (λ a. a ≡ read_ack orders.old (decks_of decks) (seen (carried.RoReadyToAir ro.now air))) }
     ensures err { OnErr result (orders.new ≡ orders.old) }

@@ -26,7 +26,9 @@ pub fn is_for_any(ro: &OptId, out: &Asking) -> bool
 }
 
 // NO RUNNING ORDER, in code units.
-const NO_RUNNING_ORDER: [u16; 16] = [78, 79, 32, 82, 85, 78, 78, 73, 78, 71, 32, 79, 82, 68, 69, 82];
+const NO_RUNNING_ORDER: [u16; 16] = [
+    78, 79, 32, 82, 85, 78, 78, 73, 78, 71, 32, 79, 82, 68, 69, 82,
+];
 
 // Whether a status says that there is no such order.
 pub fn says_no_order(status: &Slug) -> bool

@@ -12,7 +12,10 @@ const NO_DECKS: DeckState = DeckState {
 };
 
 fn noon() -> Result<MosTime, Fail> {
-    let text = ['2', '0', '0', '9', '-', '0', '4', '-', '1', '1', 'T', '1', '2', ':', '0', '0', ':', '0', '0', 'Z'];
+    let text = [
+        '2', '0', '0', '9', '-', '0', '4', '-', '1', '1', 'T', '1', '2', ':', '0', '0', ':', '0',
+        '0', 'Z',
+    ];
     Ok(MosTime::try_new(&text)?)
 }
 
@@ -60,7 +63,10 @@ fn ready_is_taken_only_in_step(rt: HostRuntime) -> Result<(), Fail> {
     gate.upper_accepted(1);
     let ready = ready(alloc)?;
     let text = status(alloc, &mut gate, &ready)?;
-    assert_eq!(rt; text.as_slice(), ['N', 'O', 'T', ' ', 'I', 'N', ' ', 'S', 'T', 'E', 'P'].as_slice());
+    assert_eq!(rt;
+        text.as_slice(),
+        ['N', 'O', 'T', ' ', 'I', 'N', ' ', 'S', 'T', 'E', 'P'].as_slice()
+    );
     let create = Message::RoCreate(body(alloc)?);
     let text = status(alloc, &mut gate, &create)?;
     assert_eq!(rt; text.as_slice(), ['O', 'K'].as_slice());
@@ -79,10 +85,19 @@ fn a_deleted_order_is_missing(rt: HostRuntime) -> Result<(), Fail> {
     assert_eq!(rt; text.as_slice(), ['O', 'K'].as_slice());
     let ready = ready(alloc)?;
     let text = status(alloc, &mut gate, &ready)?;
-    assert_eq!(rt; text.as_slice(), ['M', 'I', 'S', 'S', 'I', 'N', 'G', ' ', 'R', '1'].as_slice());
+    assert_eq!(rt;
+        text.as_slice(),
+        ['M', 'I', 'S', 'S', 'I', 'N', 'G', ' ', 'R', '1'].as_slice()
+    );
     let request = Message::RoReq(id(alloc)?);
     let text = status(alloc, &mut gate, &request)?;
-    assert_eq!(rt; text.as_slice(), ['N', 'O', 'T', ' ', 'S', 'U', 'P', 'P', 'O', 'R', 'T', 'E', 'D'].as_slice());
+    assert_eq!(rt;
+        text.as_slice(),
+        [
+            'N', 'O', 'T', ' ', 'S', 'U', 'P', 'P', 'O', 'R', 'T', 'E', 'D'
+        ]
+        .as_slice()
+    );
     Ok(())
 }
 

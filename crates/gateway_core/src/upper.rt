@@ -27,7 +27,12 @@ impl Gate {
     /// message is answered `NOT SUPPORTED`.
     ///
     /// The only error is that memory runs out; the gateway then stays as it was.
-    pub fn read_upper(&mut self, link: u64, m: &Message, decks: DeckState) -> Result<Heard, NoMemory>
+    pub fn read_upper(
+        &mut self,
+        link: u64,
+        m: &Message,
+        decks: DeckState,
+    ) -> Result<Heard, NoMemory>
         ensures answer { IfOk result (λ h. h ≡ heard_of (device_step (gate_of self.old) (DeviceEvent.ReadUpper link (seen m.now) (decks_of decks))).0) }
         ensures step { OnOk result (gate_of self.new ≡ (device_step (gate_of self.old) (DeviceEvent.ReadUpper link (seen m.now) (decks_of decks))).1) }
         ensures err { OnErr result (self.new ≡ self.old) }
@@ -56,7 +61,10 @@ impl Gate {
         ensures { result ≡ would_arm_of (gate_of self.now) link (seen m.now) }
     {
         match m {
-            Message::RoReadyToAir { ro, air: Air::Ready } => is_link(self.upper, link) && self.is_held_in_step(ro),
+            Message::RoReadyToAir {
+                ro,
+                air: Air::Ready,
+            } => is_link(self.upper, link) && self.is_held_in_step(ro),
             _ => false,
         }
     }

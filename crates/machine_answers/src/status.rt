@@ -46,14 +46,12 @@ impl Status {
                 alloc,
                 &['N', 'O', 'T', ' ', 'I', 'N', ' ', 'S', 'T', 'E', 'P'],
             ),
-            Status::Missing(id) => words_with(
-                alloc,
-                &['M', 'I', 'S', 'S', 'I', 'N', 'G', ' '],
-                id,
-            ),
+            Status::Missing(id) => words_with(alloc, &['M', 'I', 'S', 'S', 'I', 'N', 'G', ' '], id),
             Status::AlreadyThere(id) => words_with(
                 alloc,
-                &['A', 'L', 'R', 'E', 'A', 'D', 'Y', ' ', 'T', 'H', 'E', 'R', 'E', ' '],
+                &[
+                    'A', 'L', 'R', 'E', 'A', 'D', 'Y', ' ', 'T', 'H', 'E', 'R', 'E', ' ',
+                ],
                 id,
             ),
             Status::Full => words(alloc, &['F', 'U', 'L', 'L']),
@@ -65,11 +63,15 @@ impl Status {
             Status::NotNow => words(alloc, &['N', 'O', 'T', ' ', 'N', 'O', 'W']),
             Status::NoRunningOrder => words(
                 alloc,
-                &['N', 'O', ' ', 'R', 'U', 'N', 'N', 'I', 'N', 'G', ' ', 'O', 'R', 'D', 'E', 'R'],
+                &[
+                    'N', 'O', ' ', 'R', 'U', 'N', 'N', 'I', 'N', 'G', ' ', 'O', 'R', 'D', 'E', 'R',
+                ],
             ),
             Status::NotSupported => words(
                 alloc,
-                &['N', 'O', 'T', ' ', 'S', 'U', 'P', 'P', 'O', 'R', 'T', 'E', 'D'],
+                &[
+                    'N', 'O', 'T', ' ', 'S', 'U', 'P', 'P', 'O', 'R', 'T', 'E', 'D',
+                ],
             ),
         }
     }

@@ -1,9 +1,9 @@
 -- Ascending rows: where one stands, what a written row makes of them, and what stays.
-use Rattle.std.proofs.Common.{◌≡◌, ℕ, zero, suc, ◌+◌, ◌<◌, ◌≤◌, Bool, true, false, List, [], ◌∷◌, ◌++◌, length, take, drop, get_or, set, insert, slice_get, Option, Some, None, Result, Ok, Err, OnOk, OnErr, refl, sym, ap, ◌∙◌, subst, if◌then◌else◌, arith}
+use Rattle.std.proofs.Common.{◌≡◌, ℕ, zero, suc, ◌+◌, ◌<◌, ◌≤◌, Bool, true, false, List, [], ◌∷◌, length, get_or, set, insert, slice_get, Option, Some, None, Result, Ok, Err, OnOk, OnErr, refl, sym, ap, ◌∙◌, subst, if◌then◌else◌, arith}
 use Rattle.mos_edits.specs.Texts.{Text, same_id}
 use Rattle.mos_edits.proofs.Identifiers.{same-true, same-sym}
 use Rattle.mos_edits.specs.Entries.{is_before, insert_id}
-use Rattle.mos_machines.specs.Tables.{look, put_row, row_ids, map_rows}
+use Rattle.mos_machines.specs.Tables.{put_row, row_ids, map_rows}
 use Rattle.mos_machines.proofs.RowTables.{ids-put, ids-map}
 use Rattle.std.proofs.lemmas.Option.{slice_get_within, get_or_from_slice_get}
 use Rattle.order_table.specs.Rows.{IsBeforeAll, IsAscending, find_row, count_before, is_row_of, IsThere, IsMissing, put_rows}

@@ -13,8 +13,8 @@ returns-in-None-clause-value c =
     let ro = c.args.ro.now in
     let rows = c.args.orders.now in
     on-ok c.put.result c.put.ensures.ok (λ e.
-        ap (λ rows. look unknown_order rows ro) e ∙ (look-some ro (put_row ro c.unknown.result rows) c.unknown.result (find-put ro c.unknown.result rows)
-        ∙ (c.unknown.ensures ∙ sym (look-none ro rows (sym c.in-None.ensures)))))
+    ap (λ rows. look unknown_order rows ro) e ∙ (look-some ro (put_row ro c.unknown.result rows) c.unknown.result (find-put ro c.unknown.result rows)
+    ∙ (c.unknown.ensures ∙ sym (look-none ro rows (sym c.in-None.ensures)))))
 
 pub returns-in-None-clause-row : goal.returns-in-None-clause-row
 returns-in-None-clause-row c = on-ok c.put.result c.put.ensures.ok (λ e v. ap (put_row c.args.ro.now v) e ∙ put-put c.args.ro.now c.unknown.result v c.args.orders.now)

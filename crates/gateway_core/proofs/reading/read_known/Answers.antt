@@ -25,11 +25,11 @@ returns-clause-rows c =
     let v = c.exchange.new.value in
     let is = look-some ro rows v c.exchange.ensures.value in
     on-ok c.read_in_step-answer.result c.read_in_step-answer.ensures.rows (λ h.
-        c.exchange-2.ensures.table
-        ∙ (ap (λ k. put_row ro k c.exchange.new.self) h
-        ∙ (ap (put_row ro (kept (known_result v decks e))) c.exchange.ensures.table
-        ∙ (put-put ro c.unknown-known.result (kept (known_result v decks e)) rows
-        ∙ ap (λ k. put_row ro (kept (known_result k decks e)) rows) (sym is)))))
+    c.exchange-2.ensures.table
+    ∙ (ap (λ k. put_row ro k c.exchange.new.self) h
+    ∙ (ap (put_row ro (kept (known_result v decks e))) c.exchange.ensures.table
+    ∙ (put-put ro c.unknown-known.result (kept (known_result v decks e)) rows
+    ∙ ap (λ k. put_row ro (kept (known_result k decks e)) rows) (sym is)))))
 
 pub returns-clause-answer : goal.returns-clause-answer
 returns-clause-answer c =
@@ -43,7 +43,7 @@ returns-clause-err c =
     let rows = c.args.orders.now in
     let v = c.exchange.new.value in
     on-err c.read_in_step-answer.result c.read_in_step-answer.ensures.err (λ h.
-        c.exchange-2.ensures.table
-        ∙ (ap (λ k. put_row ro k c.exchange.new.self) h
-        ∙ (ap (put_row ro v) c.exchange.ensures.table
-        ∙ (put-put ro c.unknown-known.result v rows ∙ put-same ro v rows c.has_ascending_ids.ensures c.exchange.ensures.value))))
+    c.exchange-2.ensures.table
+    ∙ (ap (λ k. put_row ro k c.exchange.new.self) h
+    ∙ (ap (put_row ro v) c.exchange.ensures.table
+    ∙ (put-put ro c.unknown-known.result v rows ∙ put-same ro v rows c.has_ascending_ids.ensures c.exchange.ensures.value))))

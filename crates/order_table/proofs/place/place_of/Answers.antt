@@ -1,8 +1,6 @@
-use Rattle.std.proofs.Common.{◌≡◌, ◌+◌, ◌-◌, ◌/◌, ◌<◌, ◌≤◌, true, false, length, slice_get, Some, refl, sym, ap, ◌∙◌, arith}
+use Rattle.std.proofs.Common.{◌≡◌, ◌+◌, ◌-◌, ◌/◌, ◌<◌, true, false, length, slice_get, Some, refl, sym, ap, ◌∙◌, arith}
 use Rattle.std.proofs.lemmas.Option.{slice_get_read}
 use Rattle.mos_edits.specs.Entries.{is_before}
-use Rattle.mos_machines.specs.Tables.{row_ids}
-use Rattle.order_table.specs.Rows.{count_before}
 use Rattle.order_table.proofs.AscendingRows.{count-within, count-above, count-below}
 use Rattle.order_table.proofs.place.place_of.Goals as goal
 

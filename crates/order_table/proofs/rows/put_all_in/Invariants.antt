@@ -12,5 +12,5 @@ invariant-loop-ro g l =
       is_finite : (goal.iterator-loop-ro g).is_finite l.ro-iterator;
       ascending : IsAscending (row_ids l.rows.items);
       room : vec_len l.rows + length (into_iter_items l.ro-iterator) ≤ vec_capacity l.rows;
-      rest : put_rows (into_iter_items l.ro-iterator) l.rows.items ≡ put_rows l.fn.new.items l.fn.rows.items
+      rest : put_rows (into_iter_items l.ro-iterator) l.rows.items ≡ put_rows l.fn.new.items l.fn.rows.items;
     }

@@ -13,5 +13,5 @@ pub returns-clause-ok : goal.returns-clause-ok
 returns-clause-ok c =
     let g = c.self.inside in
     on-ok c.want_in.result c.want_in.ensures.ok (λ e.
-        ap (λ rows. gate_of (record { upper = g.upper; link = g.link; out = asking_of g.out; want_all = g.want_all; confirm = confirmation_of g.confirm; note = g.note; orders = rows })) e
-        ∙ (wanted (the_view g) c.args.ro.now ∙ ap (λ t. gate_want c.args.ro.now (gate_of t)) c.self.view_is))
+    ap (λ rows. gate_of (record { upper = g.upper; link = g.link; out = asking_of g.out; want_all = g.want_all; confirm = confirmation_of g.confirm; note = g.note; orders = rows })) e
+    ∙ (wanted (the_view g) c.args.ro.now ∙ ap (λ t. gate_want c.args.ro.now (gate_of t)) c.self.view_is))
