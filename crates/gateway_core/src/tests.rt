@@ -1,7 +1,7 @@
 //! A gateway that accepted one connection and reads the messages of the server.
 use crate::{DeckState, Gate, Phase};
 use machine_answers::{Heard, Sent, Step, Tag};
-use mos_fields::{Air, Id, MosTime, Slug};
+use mos_fields::{Air, Id, MosTime, NoMemory, Slug};
 use mos_values::{Header, Message, OrderBody, Unreads};
 use std::alloc::Global;
 use std::test::Fail;
@@ -46,14 +46,30 @@ fn ready(alloc: Global) -> Result<Message, Fail> {
     })
 }
 
-// The text of the roAck that answers a message on connection 1; empty where the answer is none.
+// Appends the text of the roAck that answers a message; nothing where the answer is none.
+fn push_status(heard: &Heard, text: &mut Vec<char>) -> Result<(), NoMemory> {
+    match heard {
+        Heard::Say(Message::RoAck(ack)) => ack.status.push_to(text),
+        _ => Ok(()),
+    }
+}
+
+// The text of the roAck that answers a message on connection 1.
 fn status(alloc: Global, gate: &mut Gate, m: &Message) -> Result<Vec<char>, Fail> {
     let mut text = Vec::new(alloc);
-    match gate.read_upper(1, m, NO_DECKS)? {
-        Heard::Say(Message::RoAck(ack)) => ack.status.push_to(&mut text)?,
-        _ => {}
-    }
+    let heard = gate.read_upper(1, m, NO_DECKS)?;
+    push_status(&heard, &mut text)?;
     Ok(text)
+}
+
+fn is_of_all(sent: &Sent) -> bool {
+    match sent {
+        Sent::Out {
+            message: _,
+            tag: Tag::AskAll,
+        } => true,
+        _ => false,
+    }
 }
 
 #[test]
@@ -108,13 +124,8 @@ fn the_first_request_is_of_all_orders(rt: HostRuntime) -> Result<(), Fail> {
     gate.upper_accepted(1);
     gate.device_opened(2);
     let noon = noon()?;
-    match gate.next_ask(2, &noon)? {
-        Sent::Out { message: _, tag } => match tag {
-            Tag::AskAll => assert!(rt; true),
-            _ => assert!(rt; false),
-        },
-        _ => assert!(rt; false),
-    }
+    let sent = gate.next_ask(2, &noon)?;
+    assert!(rt; is_of_all(&sent));
     assert!(rt; gate.read_answer(2, &Message::Heartbeat(noon))? == Step::Unasked);
     assert!(rt; gate.phase(&id(alloc)?) == Phase::Out);
     Ok(())
