@@ -147,6 +147,30 @@ fn other_input_is_refused(rt: HostRuntime) -> Result<(), Fail> {
     Ok(())
 }
 
+/// A roDelete of an order whose roID has so many characters.
+fn deletion(rt: &HostRuntime, count: usize) -> Result<String, Fail> {
+    let mut text = String::from_str(
+        rt.alloc(),
+        "<mos><mosID>d</mosID><ncsID>n</ncsID><messageID>8</messageID><roDelete><roID>",
+    )?;
+    for _ in 0..count {
+        text.push('R')?;
+    }
+    text.push_str("</roID></roDelete></mos>")?;
+    Ok(text)
+}
+
+#[test]
+fn an_order_id_has_128_characters_at_most(rt: HostRuntime) -> Result<(), Fail> {
+    let longest = deletion(&rt, 128)?;
+    let (status, _) = take(&rt, longest.as_str(), &[], &[], &[])?;
+    assert_eq!(rt; status, Status::Done);
+    let longer = deletion(&rt, 129)?;
+    let (status, _) = take(&rt, longer.as_str(), &[], &[], &[])?;
+    assert_eq!(rt; status, Status::Refused);
+    Ok(())
+}
+
 #[test]
 fn a_failed_write_ends_the_run(rt: HostRuntime) -> Result<(), Fail> {
     let mut two = String::from_str(rt.alloc(), HEARTBEAT)?;
