@@ -1,0 +1,4 @@
+pub mod UnitLemmas
+pub mod FormLemmas
+pub mod NameLemmas
+pub mod KnownLemmas

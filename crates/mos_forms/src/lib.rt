@@ -1,0 +1,18 @@
+//! Texts of fields by their forms, and the attributes that the tables name.
+//!
+//! A text's form says which texts a field may have, and how each is written canonically. `mos_grammar` says what a start
+//! tag's attributes show; the functions here read them.
+#![tactic(auto)]
+
+mod attributes;
+mod chars;
+mod given;
+mod known;
+mod numbers;
+mod reading;
+mod white;
+
+pub use attributes::{read_attribute, read_operation};
+pub use given::Given;
+pub use reading::read_form;
+pub use white::is_white;
