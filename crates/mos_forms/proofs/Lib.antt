@@ -2,3 +2,5 @@ pub mod UnitLemmas
 pub mod FormLemmas
 pub mod NameLemmas
 pub mod KnownLemmas
+pub mod EndLemmas
+pub mod TailLemmas

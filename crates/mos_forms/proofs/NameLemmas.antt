@@ -10,19 +10,19 @@ use Rattle.mos_fields.specs.declared.field.Field.{Field}
 use Rattle.mos_fields.specs.declared.field.Field.TheVariants as fields
 use Rattle.mos_fields.proofs.CharacterLemmas.{chars_of-pair, chars_of-unpaired, chars_of-units_of}
 
-abbrev is_ascii : ℕ → Bool
+abbrev pub is_ascii : ℕ → Bool
 is_ascii u = nat_lt u 128
 
-ascii_not_pair : (a u v : ℕ) → is_ascii a ≡ true → (a == pair_char u v) ≡ false
+pub ascii_not_pair : (a u v : ℕ) → is_ascii a ≡ true → (a == pair_char u v) ≡ false
 ascii_not_pair a u v h = ne_eqb a (pair_char u v) (λ e. let l = ltb-true a 128 h in omega (arith, l, e))
 
-ascii_not_high : (a u : ℕ) → is_ascii a ≡ true → is_high u ≡ true → (a == u) ≡ false
+pub ascii_not_high : (a u : ℕ) → is_ascii a ≡ true → is_high u ≡ true → (a == u) ≡ false
 ascii_not_high a u h i = grind (arith, nat_tests)
 
-differs : (a u : ℕ) (x y : Text) → (a == u) ≡ false → same (a ∷ x) (u ∷ y) ≡ false
+pub differs : (a u : ℕ) (x y : Text) → (a == u) ≡ false → same (a ∷ x) (u ∷ y) ≡ false
 differs a u x y e = ap (λ z. z && same x y) e
 
-same_chars : (e us : List ℕ) → list_all is_ascii e ≡ true → same e (chars_of us) ≡ same e us
+pub same_chars : (e us : List ℕ) → list_all is_ascii e ≡ true → same e (chars_of us) ≡ same e us
 unfolding chars_of
 same_chars e [] h = refl
 same_chars e (u ∷ []) h = refl

@@ -1,4 +1,4 @@
-//! Texts of fields by their forms, and the attributes that the tables name.
+//! Texts of fields by their forms, the attributes that the tables name, and the rest of raw elements.
 //!
 //! A text's form says which texts a field may have, and how each is written canonically. `mos_grammar` says what a start
 //! tag's attributes show; the functions here read them.
@@ -10,9 +10,11 @@ mod given;
 mod known;
 mod numbers;
 mod reading;
+mod tail;
 mod white;
 
 pub use attributes::{read_attribute, read_operation};
 pub use given::Given;
 pub use reading::read_form;
+pub use tail::{is_tail, join};
 pub use white::is_white;

@@ -1,0 +1,5 @@
+pub mod Parts
+pub mod Opened
+pub mod Roles
+pub mod States
+pub mod Standing
