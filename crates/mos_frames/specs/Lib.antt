@@ -1,5 +1,2 @@
 pub mod Parts
 pub mod Opened
-pub mod Roles
-pub mod States
-pub mod Standing

@@ -3,21 +3,13 @@
 //! `mos_grammar` says which tokens are a message, what its value is, and what a token shows that doesn't fit.
 #![tactic(auto)]
 
-mod admission;
+mod aiming;
 mod arranging;
 mod child;
-mod fault;
 mod field_name;
 mod frame;
-mod frames;
-mod inside;
 mod keys;
 mod messages;
-mod mode;
-mod open_field;
 mod others;
-mod role;
 mod times;
 
-pub use fault::FrameFault;
-pub use frames::{Frames, Progress};

@@ -1,0 +1,4 @@
+pub mod KeyLemmas
+pub mod PartLemmas
+pub mod FrameLemmas
+pub mod ColumnLemmas
