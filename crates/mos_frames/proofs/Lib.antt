@@ -2,3 +2,4 @@ pub mod KeyLemmas
 pub mod PartLemmas
 pub mod FrameLemmas
 pub mod ColumnLemmas
+pub mod RoleLemmas

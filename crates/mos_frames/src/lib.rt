@@ -3,13 +3,20 @@
 //! `mos_grammar` says which tokens are a message, what its value is, and what a token shows that doesn't fit.
 #![tactic(auto)]
 
+mod admission;
 mod aiming;
 mod arranging;
 mod child;
+mod empty;
+mod fault;
 mod field_name;
 mod frame;
 mod keys;
 mod messages;
+mod mode;
+mod open_field;
 mod others;
+mod role;
 mod times;
 
+pub use fault::FrameFault;
