@@ -3,3 +3,4 @@ pub mod PartLemmas
 pub mod FrameLemmas
 pub mod ColumnLemmas
 pub mod RoleLemmas
+pub mod TextLemmas

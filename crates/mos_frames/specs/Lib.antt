@@ -1,3 +1,5 @@
 pub mod Parts
 pub mod Opened
 pub mod Roles
+pub mod Texts
+pub mod States

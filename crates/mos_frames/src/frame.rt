@@ -75,6 +75,19 @@ impl Frame {
         })
     }
 
+    /// A record with no fields, which takes no memory.
+    #[tactic(auto, using(crate::proofs::FrameLemmas::blank_seen))]
+    pub fn blank(alloc: Global) -> Self {
+        Frame {
+            table: Table::NoFields,
+            name: ElementName::Mos,
+            place: Field::Dropped,
+            attribute: None,
+            counts: Vec::new(alloc),
+            before: Vec::new(alloc),
+        }
+    }
+
     /// Its table.
     pub fn table(&self) -> Table
         ensures { result ≡ (self.now).table }

@@ -11,12 +11,16 @@ mod empty;
 mod fault;
 mod field_name;
 mod frame;
+mod inside;
 mod keys;
 mod messages;
 mod mode;
 mod open_field;
 mod others;
+mod progress;
 mod role;
+mod texts;
 mod times;
 
 pub use fault::FrameFault;
+pub use progress::Progress;
