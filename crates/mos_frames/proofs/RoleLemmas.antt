@@ -27,6 +27,7 @@ use Rattle.mos_events.specs.declared.element_name.ElementName.TheVariants as nam
 use Rattle.mos_events.specs.declared.message_name.MessageName.{MessageName}
 use Rattle.mos_events.specs.declared.known_attribute.KnownAttribute.{KnownAttribute}
 use Rattle.mos_forms.specs.Known.{IsGivenAs}
+use Rattle.mos_frames.proofs.TextLemmas.{events_empty}
 use Rattle.mos_frames.specs.Opened.{times_by}
 use Rattle.mos_frames.specs.Roles.{IsRole, IsAdmission, role_of, wanted_of, HasName, admission_of, HasAdmittedName}
 use Rattle.mos_frames.specs.declared.role.Role.{Role as RoleCode}
@@ -189,3 +190,15 @@ unfolding empty_admission
 empty_is a r t before n g out inside i o k h = subst (IsAdmission a n)
     (ap (λ z. admitted (role_of r g) (earlier out (earlier (role_fault (role_of r g) g) z))) k ∙ (ap (λ z. admitted (role_of r g) (earlier z (earlier (role_fault (role_of r g) g) (inside_fault n (role_of r g) [])))) o
     ∙ ap (λ w. admitted w (earlier (outside_fault t before n) (earlier (role_fault w g) (inside_fault n w [])))) i.is)) h
+
+-- ---- keys beside
+
+inside_beside : (n : Text) (w : Role) (taken : List Text) → inside_fault n w taken ≡ inside_fault n w []
+inside_beside n out_of_place taken = refl
+inside_beside n (leaf_role o) taken = ap (text_fault o) (events_empty n o taken)
+inside_beside n (raw_role f) taken = refl
+inside_beside n (record_role f u g) taken = refl
+
+pub admission_beside : (t : Table) (taken : List Text) (before : List Child) (n : Text) (g : List Attribute) → empty_admission t taken before n g ≡ empty_admission t [] before n g
+unfolding empty_admission
+admission_beside t taken before n g = ap (λ k. admitted (role t before n g) (earlier (outside_fault t before n) (earlier (role_fault (role t before n g) g) k))) (inside_beside n (role t before n g) taken)

@@ -7,7 +7,7 @@ ghost use Rattle.mos_events.specs.EventView.{attributes_of, element_text};
 ghost use Rattle.mos_grammar.specs.Records.{end_fault, field_events, keys};
 ghost use Rattle.mos_grammar.specs.Tokens.{close_tag, empty_tag, open_tag, text};
 ghost use Rattle.mos_grammar.specs.Tokens.{tail as tail_token};
-ghost use Rattle.mos_grammar.specs.RecordMachine.{after_end_tag, after_field, after_record_tag, at, behind_text as behind_text_of, between as between_of, in_field as in_field_of, in_raw as in_raw_of, step, with_child};
+ghost use Rattle.mos_grammar.specs.RecordMachine.{empty_text_fault as empty_text_fault_of, after_end_tag, after_field, after_record_tag, at, behind_text as behind_text_of, between as between_of, in_field as in_field_of, in_raw as in_raw_of, step, with_child};
 ghost use Rattle.mos_grammar.specs.declared.fault.Fault.TheVariants.{Tag as misplaced};
 ghost use Rattle.mos_tokens.specs.TokenView.{IsSound, IsTag, token_of};
 ghost use Rattle.mos_frames.specs.Opened.{frame_in, frames_in};
@@ -178,7 +178,7 @@ impl Inside {
     }
 
     /// An empty tag between the elements of the innermost record.
-    #[tactic(auto, unfolding(mos_grammar::specs::RecordMachine::step))]
+    #[tactic(auto, unfolding(mos_grammar::specs::RecordMachine::step), using(crate::proofs::RoleLemmas::admission_beside, crate::proofs::TextLemmas::events_empty))]
     fn empty_tag(
         &mut self,
         alloc: Global,
@@ -253,7 +253,7 @@ impl Inside {
     }
 
     /// An end tag directly behind a field's start tag.
-    #[tactic(auto, unfolding(mos_grammar::specs::RecordMachine::step))]
+    #[tactic(auto, unfolding(mos_grammar::specs::RecordMachine::step), using(crate::proofs::TextLemmas::events_empty))]
     fn close_empty_field(
         &mut self,
         alloc: Global,
@@ -303,6 +303,90 @@ impl Inside {
             self.add_child(alloc, start.field, raw_part(start.field, text))
         } else {
             misplaced()
+        }
+    }
+
+    /// A tag that doesn't fit directly behind a field's start tag.
+    fn refuse_tag(leaf: OpenField) -> Result<Progress, FrameFault>
+        ensures { result ≡ Err (FrameFault.Rejected (empty_text_fault_of (open_field_of leaf) (field_events (name_of leaf.field) (open_field_of leaf) [] []))) }
+    {
+        Err(FrameFault::Rejected(empty_text_fault(leaf)))
+    }
+
+    #[tactic(auto, unfolding(mos_grammar::specs::RecordMachine::step))]
+    fn between(&mut self, alloc: Global, token: Token<'_>) -> Result<Progress, FrameFault>
+        requires { IsSound token }
+        ensures { Stepped result (state_of self.new) (step (state_with between_of self.old) (token_of token.entry)) }
+    {
+        match token {
+            Token::OpenTag(name, attributes, raw) => self.open_tag(alloc, name, attributes, raw),
+            Token::EmptyTag(name, attributes, raw) => self.empty_tag(alloc, name, attributes, raw),
+            Token::CloseTag(name) => self.close_tag(alloc, name),
+            Token::Text(raw, resolved) => self.text_between(raw, resolved),
+            Token::Tail(_) | Token::Mark | Token::Declaration => misplaced(),
+        }
+    }
+
+    #[tactic(auto, unfolding(mos_grammar::specs::RecordMachine::step), using(crate::proofs::TextLemmas::events_empty))]
+    fn in_field(
+        &mut self,
+        alloc: Global,
+        leaf: OpenField,
+        token: Token<'_>,
+    ) -> Result<Progress, FrameFault>
+        requires { IsSound token }
+        ensures { Stepped result (state_of self.new) (step (state_with (in_field_of (name_of leaf.field) (open_field_of leaf)) self.old) (token_of token.entry)) }
+    {
+        match token {
+            Token::OpenTag(_, _, _) | Token::EmptyTag(_, _, _) => Inside::refuse_tag(leaf),
+            Token::CloseTag(name) => self.close_empty_field(alloc, leaf, name),
+            Token::Text(raw, resolved) => self.text_of_field(alloc, leaf, raw, resolved),
+            Token::Tail(_) | Token::Mark | Token::Declaration => misplaced(),
+        }
+    }
+
+    #[tactic(auto, unfolding(mos_grammar::specs::RecordMachine::step))]
+    fn behind_text(
+        &mut self,
+        alloc: Global,
+        leaf: OpenField,
+        part: Part,
+        token: Token<'_>,
+    ) -> Result<Progress, FrameFault>
+        ensures { Stepped result (state_of self.new) (step (state_with (behind_text_of (name_of leaf.field) (open_field_of leaf) (part_events part)) self.old) (token_of token.entry)) }
+    {
+        match token {
+            Token::CloseTag(name) => self.close_field(alloc, leaf, part, name),
+            _ => misplaced(),
+        }
+    }
+
+    #[tactic(auto, unfolding(mos_grammar::specs::RecordMachine::step))]
+    fn in_raw(
+        &mut self,
+        alloc: Global,
+        start: RawStart,
+        token: Token<'_>,
+    ) -> Result<Progress, FrameFault>
+        requires { IsSound token }
+        ensures { Stepped result (state_of self.new) (step (state_with (in_raw_of start.name.items start.field start.tag) self.old) (token_of token.entry)) }
+    {
+        match token {
+            Token::Tail(rest) => self.close_raw(alloc, start, rest),
+            _ => misplaced(),
+        }
+    }
+
+    /// Takes one token. Behind a fault nothing is promised of the state.
+    pub fn take(&mut self, alloc: Global, token: Token<'_>) -> Result<Progress, FrameFault>
+        requires { IsSound token }
+        ensures { Stepped result (state_of self.new) (step (state_of self.old) (token_of token.entry)) }
+    {
+        match replace(&mut self.mode, Mode::Between) {
+            Mode::Between => self.between(alloc, token),
+            Mode::InField(leaf) => self.in_field(alloc, leaf, token),
+            Mode::BehindText(leaf, part) => self.behind_text(alloc, leaf, part, token),
+            Mode::InRaw(start) => self.in_raw(alloc, start, token),
         }
     }
 }
