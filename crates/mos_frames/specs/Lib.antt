@@ -3,3 +3,4 @@ pub mod Opened
 pub mod Roles
 pub mod Texts
 pub mod States
+pub mod Standing

@@ -7,7 +7,8 @@ ghost use Rattle.mos_events.specs.EventView.{attributes_of, element_text};
 ghost use Rattle.mos_grammar.specs.Records.{end_fault, field_events, keys};
 ghost use Rattle.mos_grammar.specs.Tokens.{close_tag, empty_tag, open_tag, text};
 ghost use Rattle.mos_grammar.specs.Tokens.{tail as tail_token};
-ghost use Rattle.mos_grammar.specs.RecordMachine.{empty_text_fault as empty_text_fault_of, after_end_tag, after_field, after_record_tag, at, behind_text as behind_text_of, between as between_of, in_field as in_field_of, in_raw as in_raw_of, step, with_child};
+ghost use Rattle.mos_grammar.specs.RecordMachine.{empty_text_fault as empty_text_fault_of, after_end_tag, after_field, after_record_tag, at, behind_text as behind_text_of, between as between_of, in_field as in_field_of, in_raw as in_raw_of, opening, step, with_child};
+ghost use Rattle.mos_grammar.specs.Streams.{mos_name};
 ghost use Rattle.mos_grammar.specs.declared.fault.Fault.TheVariants.{Tag as misplaced};
 ghost use Rattle.mos_tokens.specs.TokenView.{IsSound, IsTag, token_of};
 ghost use Rattle.mos_frames.specs.Opened.{frame_in, frames_in};
@@ -64,6 +65,26 @@ fn raw_start(alloc: Global, name: &[u16], field: Field, tag: &[u16]) -> Result<R
 }
 
 impl Inside {
+    /// In no message, which takes no memory.
+    pub fn blank(alloc: Global) -> Self {
+        Inside {
+            mode: Mode::Between,
+            inner: Frame::blank(alloc),
+            outer: Vec::new(alloc),
+        }
+    }
+
+    /// Behind the start tag of a message. The only error is that memory runs out.
+    pub fn open(alloc: Global) -> Result<Self, NoMemory>
+        ensures { IfOk result (λ s. state_of s ≡ opening Table.Envelope mos_name) }
+    {
+        Ok(Inside {
+            mode: Mode::Between,
+            inner: Frame::open(alloc, Table::Envelope, ElementName::Mos, Field::Message, None)?,
+            outer: Vec::new(alloc),
+        })
+    }
+
     /// A child of the innermost record is whole.
     fn add_child(
         &mut self,
