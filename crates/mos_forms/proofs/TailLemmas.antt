@@ -85,7 +85,6 @@ end_is_ascii n h = list_all-append is_ascii n (62 ∷ []) ∙ and_from (list_all
 pub ends_units : (n us : Text) → is_name n ≡ true → ends_with (end_text n) (chars_of us) ≡ ends_with (end_text n) us
 ends_units n us h = ends_chars 60 (47 ∷ (n ++ 62 ∷ [])) us (end_is_ascii n h)
 
-
 -- ---- rests
 
 -- a front in units ends as one in characters does, whatever stands behind them
@@ -124,7 +123,7 @@ lone_ends e front units u h s = record {
 pair_ends : (e front units : Text) (u v : ℕ) → is_high u ≡ true → is_low v ≡ true → SameEnds e front units → SameEnds e (front ++ pair_char u v ∷ []) ((units ++ u ∷ []) ++ v ∷ [])
 pair_ends e front units u v h l s = record {
   same = λ us. ap (ends_with e) (append_assoc front (pair_char u v ∷ []) (chars_of us) ∙ ap (λ z. front ++ z) (sym (chars_of-pair u v us h l))) ∙ (s.same (u ∷ v ∷ us)
-    ∙ ap (ends_with e) (sym (append_assoc units (u ∷ []) (v ∷ us)) ∙ sym (append_assoc (units ++ u ∷ []) (v ∷ []) us)));
+      ∙ ap (ends_with e) (sym (append_assoc units (u ∷ []) (v ∷ us)) ∙ sym (append_assoc (units ++ u ∷ []) (v ∷ []) us)));
 }
 
 ends_at : (e front units : Text) → SameEnds e front units → ends_with e front ≡ ends_with e units

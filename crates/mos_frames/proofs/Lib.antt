@@ -4,3 +4,4 @@ pub mod FrameLemmas
 pub mod ColumnLemmas
 pub mod RoleLemmas
 pub mod TextLemmas
+pub mod NameUnits

@@ -126,19 +126,12 @@ fn admit_role(role: Role, attribute: Option<KnownAttribute>) -> Admission
             attribute,
         }),
         Role::Raw(field) => Admission::AsRaw(field),
-        Role::Record(field, table, name) => {
-            Admission::AsRecord(field, table, name, attribute)
-        }
+        Role::Record(field, table, name) => { Admission::AsRecord(field, table, name, attribute) }
     }
 }
 
 /// How an element begins whose tag shows this outside it, this by its attributes, and this inside it.
-fn admitted(
-    role: Role,
-    outside: Option<Fault>,
-    given: Given,
-    inside: Option<Fault>,
-) -> Admission
+fn admitted(role: Role, outside: Option<Fault>, given: Given, inside: Option<Fault>) -> Admission
     ensures { (n : List ℕ) → (g : List AttributeOf) → HasName role n → IsGiven (wanted_of role) g given → IsAdmission result n (admitted_of (role_of role g) (earlier_of outside (earlier_of (role_fault (role_of role g) g) inside))) }
 {
     match given {

@@ -54,11 +54,7 @@ fn take_at(children: &mut [Child], place: usize, field: Field) -> Part
 }
 
 /// Moves what the children of this field add to the end of the events.
-fn take_found(
-    children: &mut [Child],
-    field: Field,
-    out: &mut Vec<Event>,
-) -> Result<(), NoMemory>
+fn take_found(children: &mut [Child], field: Field, out: &mut Vec<Event>) -> Result<(), NoMemory>
     ensures found { OnOk result (events_of out.new.items ≡ events_of out.old.items ++ found field (children_of children.old)) }
     ensures others { OnOk result ((g : FieldOf) → same_field_of field g ≡ false → found g (children_of children.new) ≡ found g (children_of children.old)) }
 {
@@ -82,11 +78,7 @@ fn take_kept(children: &mut [Child], field: Field, out: &mut Vec<Event>) -> Resu
 }
 
 /// Moves what the children of a column add to the end of the events.
-fn take_column(
-    children: &mut [Child],
-    field: Field,
-    out: &mut Vec<Event>,
-) -> Result<(), NoMemory>
+fn take_column(children: &mut [Child], field: Field, out: &mut Vec<Event>) -> Result<(), NoMemory>
     requires { same_field_of field Field.Kept ≡ false }
     ensures found { OnOk result (events_of out.new.items ≡ events_of out.old.items ++ column_events field (children_of children.old)) }
     ensures others { OnOk result ((g : FieldOf) → same_field_of field g ≡ false → same_field_of Field.Kept g ≡ false → found g (children_of children.new) ≡ found g (children_of children.old)) }
@@ -151,11 +143,7 @@ fn take_all(children: &mut [Child], out: &mut Vec<Event>) -> Result<(), NoMemory
 
 /// Moves what the children of a record add to the end of the events: by the table's columns, in roAck in order.
 #[tactic(auto, unfolding(mos_grammar::specs::Records::arranged), using(crate::proofs::ColumnLemmas::tables_apart))]
-pub fn arrange(
-    table: Table,
-    children: &mut [Child],
-    out: &mut Vec<Event>,
-) -> Result<(), NoMemory>
+pub fn arrange(table: Table, children: &mut [Child], out: &mut Vec<Event>) -> Result<(), NoMemory>
     ensures { OnOk result (events_of out.new.items ≡ events_of out.old.items ++ arranged table (children_of children.old)) }
 {
     if table.has_groups() {

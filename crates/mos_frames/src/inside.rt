@@ -80,18 +80,19 @@ impl Inside {
     {
         Ok(Inside {
             mode: Mode::Between,
-            inner: Frame::open(alloc, Table::Envelope, ElementName::Mos, Field::Message, None)?,
+            inner: Frame::open(
+                alloc,
+                Table::Envelope,
+                ElementName::Mos,
+                Field::Message,
+                None,
+            )?,
             outer: Vec::new(alloc),
         })
     }
 
     /// A child of the innermost record is whole.
-    fn add_child(
-        &mut self,
-        alloc: Global,
-        field: Field,
-        part: Part,
-    ) -> Result<Progress, FrameFault>
+    fn add_child(&mut self, alloc: Global, field: Field, part: Part) -> Result<Progress, FrameFault>
         ensures { Stepped result (state_of self.new) (Ok (with_child (frame_in self.old.inner (reverse self.old.outer.items)) (frames_in (reverse self.old.outer.items)) (field, part_events part))) }
     {
         self.inner.add(alloc, field, part)?;
@@ -185,11 +186,7 @@ impl Inside {
     }
 
     /// A field with an empty text.
-    fn add_empty_field(
-        &mut self,
-        alloc: Global,
-        leaf: OpenField,
-    ) -> Result<Progress, FrameFault>
+    fn add_empty_field(&mut self, alloc: Global, leaf: OpenField) -> Result<Progress, FrameFault>
         ensures { Stepped result (state_of self.new) (after_field (frame_in self.old.inner (reverse self.old.outer.items)) (frames_in (reverse self.old.outer.items)) (open_field_of leaf) (field_events (name_of leaf.field) (open_field_of leaf) [] [])) }
     {
         match read_empty(alloc, leaf) {

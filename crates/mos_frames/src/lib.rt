@@ -28,3 +28,6 @@ mod times;
 pub use fault::FrameFault;
 pub use frames::Frames;
 pub use progress::Progress;
+
+#[cfg(test)]
+mod tests;

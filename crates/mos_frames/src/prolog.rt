@@ -29,7 +29,11 @@ fn may_declare(stage: Stage) -> bool
 fn stays_if(fits: bool, stage: Stage) -> Result<Option<Stage>, Fault>
     ensures { result ≡ cond fits (Ok (Some stage)) (Err Fault.Tag) }
 {
-    if fits { Ok(Some(stage)) } else { Err(Fault::Tag) }
+    if fits {
+        Ok(Some(stage))
+    } else {
+        Err(Fault::Tag)
+    }
 }
 
 /// What one token does in front of a message: what may still stand there, or nothing where the message begins; or its

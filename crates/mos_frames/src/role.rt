@@ -39,7 +39,10 @@ fn is_optional(often: Often) -> bool
 fn is_trimmed(form: Form) -> bool
     ensures { result ≡ is_trimmed_of form }
 {
-    matches!(form, Form::Samples | Form::Rev | Form::Time | Form::Air | Form::ObjType)
+    matches!(
+        form,
+        Form::Samples | Form::Rev | Form::Time | Form::Air | Form::ObjType
+    )
 }
 
 fn may_lack(often: Often, form: Form) -> bool

@@ -10,5 +10,5 @@ from_units-requires c = subst IsUtf16 (sym (c.deref.ensures.value ∙ c.in_ok-bo
 pub returns : goal.returns
 returns c =
     let e = ap chars_of (c.deref.ensures.value ∙ c.in_ok-both.ensures) ∙ (joined_chars c.units.result.now c.args.more.now c.units.ensures.well_formed c.requires
-        ∙ ap (λ (z : List ℕ). z ++ chars_of c.args.more.now) (ap chars_of c.units.ensures.value ∙ chars_of-units_of c.args.text.now c.units.ensures.allowed)) in
+    ∙ ap (λ (z : List ℕ). z ++ chars_of c.args.more.now) (ap chars_of c.units.ensures.value ∙ chars_of-units_of c.args.text.now c.units.ensures.allowed)) in
     subst (λ (z : List ℕ). IfOk c.from_units.result (λ t. t ≡ z)) e c.from_units.ensures
