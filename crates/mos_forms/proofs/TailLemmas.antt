@@ -23,9 +23,6 @@ start_further c e = grind (arith, nat_tests)
 further_small : (c : ℕ) → is_further c ≡ true → c < 128
 further_small c e = grind (arith, nat_tests)
 
-further_allowed : (c : ℕ) → is_further c ≡ true → is_allowed c ≡ true
-further_allowed c e = grind (arith, nat_tests)
-
 pub grow_further : (n : Text) (c : ℕ) → may_grow n c ≡ true → is_further c ≡ true
 unfolding may_grow
 grow_further [] c e = start_further c e
