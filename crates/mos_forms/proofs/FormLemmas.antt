@@ -9,9 +9,10 @@ use Rattle.mos_fields.specs.declared.form.Form.{Form}
 use Rattle.mos_fields.specs.declared.form.Form.TheVariants as forms
 use Rattle.mos_fields.specs.Forms.{reads, only_if, trimmed, shortest_digits, number_up_to}
 use Rattle.mos_fields.specs.declared.time.MosTime.{MosTime}
+use Rattle.mos_forms.specs.Canonical.{reads_beside, taken_for, TextsReadBeside}
 use Rattle.mos_fields.specs.Faults.{AnswersOnlyFault, bad_char_from, text_fault, form_fault, first_of, fault_if, samples_fault, rev_fault, time_fault}
 
-allowed_from : (k : ℕ) (x : Text) → are_allowed x ≡ true → bad_char_from k x ≡ None
+pub allowed_from : (k : ℕ) (x : Text) → are_allowed x ≡ true → bad_char_from k x ≡ None
 allowed_from k [] h = refl
 allowed_from k (c ∷ cs) h = let p = and_parts (is_allowed c) (are_allowed cs) h in rw p.0 (allowed_from (k + 1) cs p.1)
 
@@ -49,3 +50,19 @@ rev_read x h = if_some _ (shortest_digits (trimmed x)) h
 pub time_read : (x : Text) → is_some (reads forms.Time [] x) ≡ true → Some (trimmed x) ≡ reads forms.Time [] x
 unfolding reads
 time_read x h = if_some _ (trimmed x) h
+
+-- a text is read beside keys as beside the answer whether it is one of them
+pub reads_is : (form : Form) (taken : List Text) (x : Text) → reads form taken x ≡ reads_beside form (taken_for form x taken) x
+unfolding reads reads_beside
+reads_is forms.Id taken x = refl
+reads_is forms.Key taken x = refl
+reads_is forms.OptId taken x = refl
+reads_is forms.Slug taken x = refl
+reads_is forms.Text taken x = refl
+reads_is forms.Samples taken x = refl
+reads_is forms.Rev taken x = refl
+reads_is forms.Time taken x = refl
+reads_is forms.Air taken x = refl
+reads_is forms.ObjType taken x = refl
+reads_is forms.AckWord taken x = refl
+reads_is forms.Profile taken x = refl

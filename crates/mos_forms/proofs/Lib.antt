@@ -4,3 +4,4 @@ pub mod NameLemmas
 pub mod KnownLemmas
 pub mod EndLemmas
 pub mod TailLemmas
+pub mod AllowedLemmas

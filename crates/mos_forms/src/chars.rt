@@ -1,5 +1,6 @@
 //! Characters of texts: white space, words, leading zeros.
-ghost use Rattle.std.specs.Prelude.{◌≡◌, ◌≤◌};
+ghost use Rattle.std.specs.Prelude.{◌≡◌, true};
+ghost use Rattle.mos_fields.specs.Characters.{are_allowed};
 ghost use Rattle.mos_fields.specs.Fields.{same};
 ghost use Rattle.mos_fields.specs.Forms.{behind_white as behind, before_white as before, is_space as space, trimmed as inner, shortest_digits as shortest};
 
@@ -39,8 +40,10 @@ fn before_white(chars: &[char]) -> &[char]
 }
 
 /// The characters without the white space round them.
+#[tactic(auto, using(crate::proofs::AllowedLemmas::trimmed_allowed))]
 pub(crate) fn trimmed(chars: &[char]) -> &[char]
-    ensures { result.now ≡ inner chars.now }
+    ensures value { result.now ≡ inner chars.now }
+    ensures allowed { are_allowed chars.now ≡ true → are_allowed result.now ≡ true }
 {
     before_white(behind_white(chars))
 }
@@ -58,8 +61,7 @@ pub(crate) fn is_word(chars: &[char], word: &[u8]) -> bool
     }
 }
 
-/// Digits without leading zeros.
-pub(crate) fn shortest_digits(chars: &[char]) -> &[char]
+fn without_zeros(chars: &[char]) -> &[char]
     ensures { result.now ≡ shortest chars.now }
 {
     let mut rest = chars;
@@ -70,4 +72,13 @@ pub(crate) fn shortest_digits(chars: &[char]) -> &[char]
         rest = tail;
     }
     rest
+}
+
+/// Digits without leading zeros.
+#[tactic(auto, using(crate::proofs::AllowedLemmas::shortest_allowed))]
+pub(crate) fn shortest_digits(chars: &[char]) -> &[char]
+    ensures value { result.now ≡ shortest chars.now }
+    ensures allowed { are_allowed chars.now ≡ true → are_allowed result.now ≡ true }
+{
+    without_zeros(chars)
 }

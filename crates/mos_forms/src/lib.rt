@@ -8,6 +8,7 @@ mod attributes;
 mod chars;
 mod given;
 mod known;
+pub mod laws;
 mod numbers;
 mod reading;
 mod tail;

@@ -1,5 +1,5 @@
 //! Texts by their forms.
-ghost use Rattle.std.specs.Prelude.{◌≡◌, [], true, false, IfOk, option_copied};
+ghost use Rattle.std.specs.Prelude.{◌≡◌, [], true, false, IfOk, IfSome, option_copied};
 ghost use Rattle.mos_fields.specs.Characters.{are_allowed};
 ghost use Rattle.mos_fields.specs.Forms.{only_if as only_if_of, reads, at_most as at_most_of};
 ghost use Rattle.mos_forms.specs.Canonical.{is_id as is_id_of, is_kept, reads_beside};
@@ -31,7 +31,8 @@ fn is_id(text: &Text) -> bool
 #[tactic(auto, using(crate::proofs::FormLemmas::samples_read))]
 fn samples(chars: &[char]) -> Option<&[char]>
     requires { are_allowed chars.now ≡ true }
-    ensures { option_copied result ≡ reads Form.Samples [] chars.now }
+    ensures value { option_copied result ≡ reads Form.Samples [] chars.now }
+    ensures allowed { IfSome result (λ s. are_allowed s.now ≡ true) }
 {
     if is_samples(chars) {
         Some(shortest_digits(trimmed(chars)))
@@ -43,7 +44,8 @@ fn samples(chars: &[char]) -> Option<&[char]>
 #[tactic(auto, using(crate::proofs::FormLemmas::rev_read))]
 fn rev(chars: &[char]) -> Option<&[char]>
     requires { are_allowed chars.now ≡ true }
-    ensures { option_copied result ≡ reads Form.Rev [] chars.now }
+    ensures value { option_copied result ≡ reads Form.Rev [] chars.now }
+    ensures allowed { IfSome result (λ s. are_allowed s.now ≡ true) }
 {
     if is_rev(chars) {
         Some(shortest_digits(trimmed(chars)))
@@ -55,7 +57,8 @@ fn rev(chars: &[char]) -> Option<&[char]>
 #[tactic(auto, using(crate::proofs::FormLemmas::time_read))]
 fn time(chars: &[char]) -> Option<&[char]>
     requires { are_allowed chars.now ≡ true }
-    ensures { option_copied result ≡ reads Form.Time [] chars.now }
+    ensures value { option_copied result ≡ reads Form.Time [] chars.now }
+    ensures allowed { IfSome result (λ s. are_allowed s.now ≡ true) }
 {
     if is_time(chars) {
         Some(trimmed(chars))
@@ -65,14 +68,18 @@ fn time(chars: &[char]) -> Option<&[char]>
 }
 
 fn if_word<'a>(holds: bool, word: &'a [char]) -> Option<&'a [char]>
-    ensures { option_copied result ≡ only_if_of holds word.now }
+    requires { are_allowed word.now ≡ true }
+    ensures value { option_copied result ≡ only_if_of holds word.now }
+    ensures allowed { IfSome result (λ s. are_allowed s.now ≡ true) }
 {
     if holds { Some(word) } else { None }
 }
 
 #[tactic(auto, unfolding(mos_fields::specs::Forms::reads))]
 fn air(chars: &[char]) -> Option<&[char]>
-    ensures { option_copied result ≡ reads Form.Air [] chars.now }
+    requires { are_allowed chars.now ≡ true }
+    ensures value { option_copied result ≡ reads Form.Air [] chars.now }
+    ensures allowed { IfSome result (λ s. are_allowed s.now ≡ true) }
 {
     let word = trimmed(chars);
     if_word(is_word(word, b"READY") || is_word(word, b"NOT READY"), word)
@@ -80,7 +87,9 @@ fn air(chars: &[char]) -> Option<&[char]>
 
 #[tactic(auto, unfolding(mos_fields::specs::Forms::reads))]
 fn obj_type(chars: &[char]) -> Option<&[char]>
-    ensures { option_copied result ≡ reads Form.ObjType [] chars.now }
+    requires { are_allowed chars.now ≡ true }
+    ensures value { option_copied result ≡ reads Form.ObjType [] chars.now }
+    ensures allowed { IfSome result (λ s. are_allowed s.now ≡ true) }
 {
     let word = trimmed(chars);
     if_word(
@@ -94,7 +103,9 @@ fn obj_type(chars: &[char]) -> Option<&[char]>
 
 #[tactic(auto, unfolding(mos_fields::specs::Forms::reads))]
 fn ack_word(chars: &[char]) -> Option<&[char]>
-    ensures { option_copied result ≡ reads Form.AckWord [] chars.now }
+    requires { are_allowed chars.now ≡ true }
+    ensures value { option_copied result ≡ reads Form.AckWord [] chars.now }
+    ensures allowed { IfSome result (λ s. are_allowed s.now ≡ true) }
 {
     let word = trimmed(chars);
     if_word(is_word(word, b"ACK") || is_word(word, b"NACK"), word)
@@ -102,7 +113,9 @@ fn ack_word(chars: &[char]) -> Option<&[char]>
 
 #[tactic(auto, unfolding(mos_fields::specs::Forms::reads))]
 fn profile(chars: &[char]) -> Option<&[char]>
-    ensures { option_copied result ≡ reads Form.Profile [] chars.now }
+    requires { are_allowed chars.now ≡ true }
+    ensures value { option_copied result ≡ reads Form.Profile [] chars.now }
+    ensures allowed { IfSome result (λ s. are_allowed s.now ≡ true) }
 {
     let word = trimmed(chars);
     if_word(is_word(word, b"YES") || is_word(word, b"NO"), word)
@@ -111,7 +124,8 @@ fn profile(chars: &[char]) -> Option<&[char]>
 /// What the text of a number, a time or a word is written as. For the other forms nothing is promised.
 fn canonical(form: Form, chars: &[char]) -> Option<&[char]>
     requires { are_allowed chars.now ≡ true }
-    ensures { is_kept form ≡ false → option_copied result ≡ reads form [] chars.now }
+    ensures value { is_kept form ≡ false → option_copied result ≡ reads form [] chars.now }
+    ensures allowed { IfSome result (λ s. are_allowed s.now ≡ true) }
 {
     match form {
         Form::Samples => samples(chars),
@@ -126,16 +140,22 @@ fn canonical(form: Form, chars: &[char]) -> Option<&[char]>
 }
 
 /// The text of characters that are allowed.
+#[tactic(auto, using(crate::proofs::AllowedLemmas::only_memory))]
 fn text_of(alloc: Global, chars: &[char]) -> Result<Text, NoMemory>
+    requires { are_allowed chars.now ≡ true }
     ensures { IfOk result (λ t. t ≡ chars.now) }
 {
     match Text::try_new(alloc, chars) {
         Ok(text) => Ok(text),
-        Err(_) => Err(AllocError),
+        Err(fault) => {
+            prove!(matches!(fault, FieldFault::NoMemory));
+            Err(AllocError)
+        }
     }
 }
 
 fn text_of_option(alloc: Global, chars: Option<&[char]>) -> Result<Option<Text>, NoMemory>
+    requires { IfSome chars (λ s. are_allowed s.now ≡ true) }
     ensures { IfOk result (λ o. o ≡ option_copied chars.entry) }
 {
     match chars {

@@ -6,24 +6,6 @@ use Rattle.mos_fields.specs.Forms.{among, reads, is_white}
 use Rattle.mos_fields.specs.declared.form.Form.{Form}
 use Rattle.mos_fields.specs.declared.form.Form.TheVariants as forms
 use Rattle.mos_grammar.specs.Records.{field_events, leaf_event, OpenField}
-use Rattle.mos_forms.specs.Canonical.{reads_beside}
-use Rattle.mos_frames.specs.Texts.{taken_for}
-
--- a text is read beside keys as beside the answer whether it is one of them
-pub reads_is : (form : Form) (taken : List Text) (x : Text) → reads form taken x ≡ reads_beside form (taken_for form x taken) x
-unfolding reads reads_beside
-reads_is forms.Id taken x = refl
-reads_is forms.Key taken x = refl
-reads_is forms.OptId taken x = refl
-reads_is forms.Slug taken x = refl
-reads_is forms.Text taken x = refl
-reads_is forms.Samples taken x = refl
-reads_is forms.Rev taken x = refl
-reads_is forms.Time taken x = refl
-reads_is forms.Air taken x = refl
-reads_is forms.ObjType taken x = refl
-reads_is forms.AckWord taken x = refl
-reads_is forms.Profile taken x = refl
 
 -- keys do not matter to the empty text
 pub reads_empty : (form : Form) (taken : List Text) → reads form taken [] ≡ reads form [] []

@@ -8,7 +8,8 @@ ghost use Rattle.mos_grammar.specs.RecordMachine.{empty_text_fault as empty_text
 ghost use Rattle.mos_frames.specs.Opened.{keys_beside};
 ghost use Rattle.mos_frames.specs.Parts.{part_events};
 ghost use Rattle.mos_frames.specs.Roles.{open_field_of};
-ghost use Rattle.mos_frames.specs.Texts.{events_if, taken_for};
+ghost use Rattle.mos_frames.specs.Texts.{events_if};
+ghost use Rattle.mos_forms.specs.Canonical.{taken_for};
 
 use crate::child::Part;
 use crate::empty::takes_empty;
@@ -53,7 +54,7 @@ fn leaf_part(leaf: OpenField, text: Option<Text>) -> Option<Part>
     }
 }
 
-#[tactic(auto, using(crate::proofs::TextLemmas::reads_is))]
+#[tactic(auto, using(mos_forms::proofs::FormLemmas::reads_is))]
 fn read_leaf(
     alloc: Global,
     leaf: OpenField,
