@@ -4,3 +4,4 @@ pub mod Roles
 pub mod Texts
 pub mod States
 pub mod Standing
+pub mod Keys

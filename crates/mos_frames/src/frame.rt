@@ -12,7 +12,7 @@ ghost use Rattle.mos_frames.specs.Opened.{added, closed, keys_of, seen_in, times
 use crate::aiming::aim_of;
 use crate::arranging::arrange;
 use crate::child::{Child, Part};
-use crate::keys::has_key;
+use crate::key_set::KeySet;
 use crate::times::times;
 use mos_columns::{find_end_fault, find_tag_fault, is_name, note, start_counts};
 use mos_events::{ElementName, Event, KnownAttribute};
@@ -35,12 +35,15 @@ pub struct Frame {
     counts: Vec<usize>,
     /// its children so far
     before: Vec<Child>,
+    /// the keys of those, where they have to be apart
+    key_set: KeySet,
 }
 
 impl Model for Frame {
     ghost use Rattle.std.specs.Prelude.{◌≡◌};
     ghost use Rattle.mos_tables.specs.Tables.{columns};
-    ghost use Rattle.mos_grammar.specs.Records.{seen_of};
+    ghost use Rattle.mos_grammar.specs.Records.{keys, seen_of};
+    ghost use Rattle.mos_frames.specs.Keys.{Holds};
     ghost use Rattle.mos_columns.specs.Counts.{counts_of};
     ghost use Rattle.mos_events.specs.EventView.{attributes_of, element_text};
     ghost use Rattle.mos_frames.specs.Opened.{Opened};
@@ -50,12 +53,12 @@ impl Model for Frame {
 
     ghost view = { λ f. record { table = f.table; name = element_text f.name; place = f.place; given = attributes_of f.attribute; before = children_of f.before.items } };
 
-    ghost invariant = { λ f. f.counts.items ≡ counts_of (columns f.table) (seen_of f.table (children_of f.before.items)) };
+    ghost invariant = { λ f. (f.counts.items ≡ counts_of (columns f.table) (seen_of f.table (children_of f.before.items))) × Holds f.key_set.keys (keys f.table (children_of f.before.items)) };
 }
 
 impl Frame {
     /// A record of the table with no child. The only error is that memory runs out.
-    #[tactic(auto, using(crate::proofs::FrameLemmas::none_seen))]
+    #[tactic(auto, using(crate::proofs::FrameLemmas::none_seen, crate::proofs::KeyLemmas::holds_start))]
     pub fn open(
         alloc: Global,
         table: Table,
@@ -72,11 +75,12 @@ impl Frame {
             attribute,
             counts: start_counts(alloc, table.columns())?,
             before: Vec::new(alloc),
+            key_set: KeySet::new(alloc),
         })
     }
 
     /// A record with no fields, which takes no memory.
-    #[tactic(auto, using(crate::proofs::FrameLemmas::blank_seen))]
+    #[tactic(auto, using(crate::proofs::FrameLemmas::blank_seen, crate::proofs::KeyLemmas::holds_start))]
     pub fn blank(alloc: Global) -> Self {
         Frame {
             table: Table::NoFields,
@@ -85,6 +89,7 @@ impl Frame {
             attribute: None,
             counts: Vec::new(alloc),
             before: Vec::new(alloc),
+            key_set: KeySet::new(alloc),
         }
     }
 
@@ -139,11 +144,10 @@ impl Frame {
     }
 
     /// Whether a record inside may not have this key, since one beside it has it.
-    #[tactic(auto, unfolding(mos_grammar::specs::Records::keys))]
     pub fn has_key(&self, key: &Text) -> bool
         ensures { result ≡ among key.now (keys_of self.now) }
     {
-        self.table.has_keys() && has_key(&self.before, key)
+        self.key_set.contains(key)
     }
 
     /// Adds a child. Without memory for it the record stays as it was.
@@ -152,7 +156,9 @@ impl Frame {
         ensures { OnOk result (self.new ≡ added self.old (field, part_events part)) }
     {
         let counts = note(alloc, self.table, &self.counts, field)?;
-        self.before.push(Child { field, part })?;
+        self.before.reserve(1)?;
+        self.key_set.note(self.table, &part)?;
+        self.before.push(Child { field, part }).unwrap();
         self.counts = counts;
         Ok(())
     }

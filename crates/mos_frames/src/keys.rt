@@ -1,12 +1,10 @@
 //! The keys of records beside each other.
 ghost use Rattle.std.specs.Prelude.{◌≡◌, ◌∷◌, [], MatchOption};
-ghost use Rattle.mos_fields.specs.Fields.{same};
-ghost use Rattle.mos_fields.specs.Forms.{among};
 ghost use Rattle.mos_grammar.specs.Records.{key_of as key_of_lem};
 ghost use Rattle.mos_events.specs.EventView.{events_of};
-ghost use Rattle.mos_frames.specs.Parts.{part_events, children_of, keys_in};
+ghost use Rattle.mos_frames.specs.Parts.{part_events};
 
-use crate::child::{Child, Part};
+use crate::child::Part;
 use mos_events::Event;
 use mos_fields::Text;
 
@@ -30,7 +28,7 @@ fn key_of_events(events: &[Event]) -> Option<&Text>
 }
 
 /// The key that a child has, if it is a record.
-fn key_of(part: &Part) -> Option<&Text>
+pub fn key_of(part: &Part) -> Option<&Text>
     ensures { MatchOption result (key_of_lem (part_events part.now) ≡ []) (λ k. key_of_lem (part_events part.now) ≡ k.now ∷ []) }
 {
     match part {
@@ -38,34 +36,4 @@ fn key_of(part: &Part) -> Option<&Text>
         Part::Single(_) => None,
         Part::Several(events) => key_of_events(events),
     }
-}
-
-#[tactic(auto, using(crate::proofs::KeyLemmas::is_same))]
-fn is_same(a: &Text, b: &Text) -> bool
-    ensures { result ≡ same a.now b.now }
-{
-    a.is(b)
-}
-
-fn is_key_of(child: &Child, key: &Text) -> bool
-    ensures { result ≡ among key.now (key_of_lem (part_events (child.now).part)) }
-{
-    match key_of(&child.part) {
-        None => false,
-        Some(other) => is_same(key, other),
-    }
-}
-
-/// Whether one of the children has this key.
-pub fn has_key(children: &[Child], key: &Text) -> bool
-    ensures { result ≡ among key.now (keys_in (children_of children.now)) }
-{
-    let mut rest = children;
-    while let [child, more @ ..] = rest {
-        if is_key_of(child, key) {
-            return true;
-        }
-        rest = more;
-    }
-    false
 }

@@ -13,6 +13,7 @@ mod field_name;
 mod frame;
 mod frames;
 mod inside;
+mod key_set;
 mod keys;
 mod messages;
 mod mode;
