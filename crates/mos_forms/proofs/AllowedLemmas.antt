@@ -1,7 +1,6 @@
 -- Parts of allowed characters are allowed.
-use Rattle.std.proofs.Common.{◌≡◌, ℕ, ◌+◌, Bool, true, false, cond, not, ◌&&◌, List, [], ◌∷◌, ◌++◌, reverse, Option, Some, None, Result, Ok, Err, refl, sym, ap, ◌∙◌}
+use Rattle.std.proofs.Common.{◌≡◌, Bool, true, false, cond, not, ◌&&◌, [], ◌∷◌, reverse, Result, refl, ap, ◌∙◌}
 use Rattle.std.specs.Prelude.{◌==◌, IsOkUnless}
-use Rattle.std.specs.List.{list_all}
 use Rattle.std.proofs.lemmas.Bool.{and_parts, and_from}
 use Rattle.std.proofs.lemmas.List.{reverse-append}
 use Rattle.std.proofs.lemmas.List.Folds.{list_all-append}
@@ -9,7 +8,7 @@ use Rattle.mos_fields.specs.Characters.{Text, is_allowed, are_allowed}
 use Rattle.mos_fields.specs.declared.fault.FieldFault.{FieldFault}
 use Rattle.mos_fields.specs.declared.fault.FieldFault.TheVariants.{NoMemory as out_of_memory}
 use Rattle.mos_fields.specs.Faults.{AnswersFault, text_fault}
-use Rattle.mos_fields.specs.Forms.{behind_white, before_white, trimmed, shortest_digits}
+use Rattle.mos_fields.specs.Forms.{behind_white, trimmed, shortest_digits}
 use Rattle.mos_fields.specs.Raw.{is_empty, is_space}
 use Rattle.mos_forms.proofs.FormLemmas.{allowed_from}
 

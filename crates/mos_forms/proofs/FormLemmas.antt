@@ -1,5 +1,5 @@
 -- What the answers of the types of fields tell of a text's form.
-use Rattle.std.proofs.Common.{◌≡◌, ℕ, ◌+◌, Bool, true, false, cond, not, ◌&&◌, List, [], ◌∷◌, Option, Some, None, Result, Ok, Err, refl, sym, ap, ◌∙◌}
+use Rattle.std.proofs.Common.{◌≡◌, ℕ, ◌+◌, Bool, true, false, List, [], ◌∷◌, Option, Some, None, Result, Ok, Err, refl}
 use Rattle.std.specs.Prelude.{is_ok, is_some, is_none}
 use Rattle.std.proofs.lemmas.Bool.{and_parts}
 use Rattle.mos_fields.specs.Characters.{Text, is_allowed, are_allowed}
@@ -7,10 +7,10 @@ use Rattle.mos_fields.specs.declared.fault.FieldFault.{FieldFault}
 use Rattle.mos_fields.specs.declared.fault.FieldFault.TheVariants.{BadNumber as bad_number, BadTime as bad_time}
 use Rattle.mos_fields.specs.declared.form.Form.{Form}
 use Rattle.mos_fields.specs.declared.form.Form.TheVariants as forms
-use Rattle.mos_fields.specs.Forms.{reads, only_if, trimmed, shortest_digits, number_up_to}
+use Rattle.mos_fields.specs.Forms.{reads, only_if, trimmed, shortest_digits}
 use Rattle.mos_fields.specs.declared.time.MosTime.{MosTime}
-use Rattle.mos_forms.specs.Canonical.{reads_beside, taken_for, TextsReadBeside}
-use Rattle.mos_fields.specs.Faults.{AnswersOnlyFault, bad_char_from, text_fault, form_fault, first_of, fault_if, samples_fault, rev_fault, time_fault}
+use Rattle.mos_forms.specs.Canonical.{reads_beside, taken_for}
+use Rattle.mos_fields.specs.Faults.{AnswersOnlyFault, bad_char_from, form_fault, fault_if, samples_fault, rev_fault, time_fault}
 
 pub allowed_from : (k : ℕ) (x : Text) → are_allowed x ≡ true → bad_char_from k x ≡ None
 allowed_from k [] h = refl

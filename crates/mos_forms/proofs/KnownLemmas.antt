@@ -1,20 +1,18 @@
 -- What the attributes of a start tag give by their values.
-use Rattle.std.proofs.Common.{◌≡◌, ℕ, Bool, true, false, cond, List, [], ◌∷◌, map, Option, Some, None, refl, sym, ap, ◌∙◌}
+use Rattle.std.proofs.Common.{◌≡◌, Bool, true, false, cond, List, [], ◌∷◌, map, Option, Some, None, refl, sym, ap, ◌∙◌}
 use Rattle.mos_fields.specs.Characters.{Text}
 use Rattle.mos_fields.specs.Fields.{name_of, same}
 use Rattle.mos_fields.specs.Forms.{among}
-use Rattle.mos_fields.specs.Values.{word_of}
 use Rattle.mos_fields.specs.declared.field.Field.{Field}
 use Rattle.mos_fields.specs.declared.field.Field.TheVariants as fields
 use Rattle.mos_fields.proofs.WordLemmas.{word_found, word_lost}
 use Rattle.mos_tables.specs.Events.{Attribute}
 use Rattle.mos_tables.specs.Tables.{words_of}
 use Rattle.mos_grammar.specs.declared.fault.Fault.TheVariants.{Value as wrong_value}
-use Rattle.mos_grammar.specs.declared.fault.Fault.{Fault}
-use Rattle.mos_grammar.specs.Records.{attribute_fault, given_of, value_fault, values_of, first_value}
+use Rattle.mos_grammar.specs.Records.{value_fault, values_of, first_value}
 use Rattle.mos_events.specs.declared.known_attribute.KnownAttribute.{KnownAttribute}
-use Rattle.mos_events.specs.EventView.{attribute_of, attributes_of}
-use Rattle.mos_forms.specs.Known.{value_text, values_for, known_in, given_as, IsGiven, IsGivenAs}
+use Rattle.mos_events.specs.EventView.{attribute_of}
+use Rattle.mos_forms.specs.Known.{value_text, values_for, known_in, given_as, IsGiven}
 
 -- the words of an attribute are the texts of its values
 words_are : (f : Field) → words_of f ≡ map value_text (values_for f)

@@ -1,12 +1,12 @@
 -- Where the rest of a raw element ends, in characters and in code units.
-use Rattle.std.proofs.Common.{◌≡◌, ℕ, ◌+◌, ◌<◌, ◌≤◌, Bool, true, false, cond, ◌&&◌, not, eqb, length, get_or, take, drop, List, [], ◌∷◌, ◌++◌, refl, sym, ap, ◌∙◌, subst, arith, append_assoc, eq-eqb, ne_eqb, length-drop}
+use Rattle.std.proofs.Common.{◌≡◌, ℕ, ◌+◌, ◌<◌, Bool, true, false, cond, ◌&&◌, eqb, length, take, drop, List, [], ◌∷◌, ◌++◌, refl, sym, ap, ◌∙◌, subst, arith, append_assoc, eq-eqb, ne_eqb, length-drop}
 use Rattle.std.specs.Prelude.{◌==◌}
 use Rattle.std.specs.List.{list_all}
 use Rattle.std.proofs.lemmas.Bool.{and_parts, and_from, lt-ltb}
 use Rattle.std.proofs.lemmas.Bool.Decides.{nat_tests}
-use Rattle.std.proofs.lemmas.List.{append-nil, append_cancel_right, take_more, drop_more}
+use Rattle.std.proofs.lemmas.List.{append-nil, take_more, drop_more}
 use Rattle.std.proofs.lemmas.List.Folds.{list_all-append}
-use Rattle.mos_fields.specs.Characters.{Text, IsUtf16, chars_of, is_allowed, are_allowed, is_high, is_low, pair_char}
+use Rattle.mos_fields.specs.Characters.{Text, IsUtf16, chars_of, are_allowed, is_high, is_low, pair_char}
 use Rattle.mos_fields.specs.Fields.{same}
 use Rattle.mos_fields.specs.Names.{is_empty, is_name, named, is_start, is_further, may_grow}
 use Rattle.mos_fields.specs.Raw.{end_text, ends_with, is_tail, tail_from}

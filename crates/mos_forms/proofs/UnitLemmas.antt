@@ -1,13 +1,11 @@
 -- White space and names in code units.
-use Rattle.std.proofs.Common.{◌≡◌, ℕ, ◌+◌, Bool, true, false, cond, ◌&&◌, List, [], ◌∷◌, ◌++◌, refl, sym, ap, ◌∙◌, subst, arith}
-use Rattle.std.specs.Prelude.{◌==◌}
-use Rattle.std.specs.List.{list_all}
+use Rattle.std.proofs.Common.{◌≡◌, ℕ, Bool, true, false, ◌&&◌, List, [], ◌∷◌, ◌++◌, refl, sym, ap, ◌∙◌, subst, arith}
 use Rattle.std.proofs.lemmas.Bool.{and_parts, and_from}
 use Rattle.std.proofs.lemmas.Bool.Decides.{nat_tests}
 use Rattle.std.proofs.lemmas.List.Concat.{flat_map-append}
 use Rattle.std.proofs.lemmas.List.Folds.{list_all-append}
 use Rattle.std.specs.Char.Escape.{encode_utf16}
-use Rattle.mos_fields.specs.Characters.{Text, IsUtf16, is_allowed, are_allowed, chars_of, units_of, is_high, is_low, pair_char}
+use Rattle.mos_fields.specs.Characters.{IsUtf16, is_allowed, are_allowed, chars_of, units_of, is_high, is_low, pair_char}
 use Rattle.mos_fields.specs.Forms.{is_white}
 use Rattle.mos_fields.specs.Raw.{is_space}
 use Rattle.mos_fields.proofs.CharacterLemmas.{chars_of-pair, chars_of-unpaired, chars_of-units_of, IsUtf16-units_of}

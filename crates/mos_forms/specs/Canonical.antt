@@ -1,5 +1,5 @@
 -- The canonical text of a text of a form, where it is known whether a record beside has this key.
-use Rattle.std.specs.Prelude.{◌≡◌, ℕ, Bool, true, false, List, [], length, Option, Some, nat_le, ◌&&◌, not}
+use Rattle.std.specs.Prelude.{◌≡◌, Bool, true, false, List, [], length, Option, Some, nat_le, ◌&&◌, not}
 use Rattle.mos_fields.specs.Characters.{Text}
 use Rattle.mos_fields.specs.declared.form.Form.{Form}
 use Rattle.mos_fields.specs.declared.form.Form.TheVariants as forms

@@ -1,14 +1,12 @@
 -- The attributes that the tables name, by their values, and what a start tag gives of them.
-use Rattle.std.specs.Prelude.{◌≡◌, ℕ, List, [], ◌∷◌, Option, Some, None}
+use Rattle.std.specs.Prelude.{◌≡◌, List, [], ◌∷◌, Option, Some, None}
 use Rattle.mos_fields.specs.Characters.{Text}
-use Rattle.mos_fields.specs.Forms.{trimmed}
 use Rattle.mos_fields.specs.Values.{word_of}
 use Rattle.mos_fields.specs.declared.field.Field.{Field}
 use Rattle.mos_fields.specs.declared.field.Field.TheVariants as fields
 use Rattle.mos_fields.specs.declared.level.Level.TheVariants.{Ro, Story, Item}
 use Rattle.mos_fields.specs.declared.operation.Operation.TheVariants.{Insert, Replace, Move, Delete, Swap}
 use Rattle.mos_tables.specs.Events.{Attribute}
-use Rattle.mos_grammar.specs.declared.fault.Fault.{Fault}
 use Rattle.mos_grammar.specs.declared.fault.Fault.TheVariants.{Value as wrong_value}
 use Rattle.mos_grammar.specs.Records.{attribute_fault, given_of}
 use Rattle.mos_events.specs.declared.known_attribute.KnownAttribute.{KnownAttribute}

@@ -1,5 +1,5 @@
 -- The rest of a raw element in code units.
-use Rattle.std.specs.Prelude.{Bool, false, cond, List, [], ◌∷◌, ◌++◌}
+use Rattle.std.specs.Prelude.{Bool, false, cond, [], ◌∷◌, ◌++◌}
 use Rattle.mos_fields.specs.Characters.{Text}
 use Rattle.mos_fields.specs.Names.{is_empty}
 use Rattle.mos_fields.specs.Raw.{end_text, ends_with}

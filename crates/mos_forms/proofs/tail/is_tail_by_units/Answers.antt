@@ -1,4 +1,4 @@
-use Rattle.std.proofs.Common.{ℕ, sym, ap, ◌∙◌}
+use Rattle.std.proofs.Common.{sym, ap, ◌∙◌}
 use Rattle.mos_fields.specs.Raw.{end_text, ends_with}
 use Rattle.mos_forms.proofs.TailLemmas.{ends_here, goes_on}
 use Rattle.mos_forms.proofs.tail.is_tail_by_units.Goals as goal
