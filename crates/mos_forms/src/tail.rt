@@ -1,0 +1,78 @@
+//! The rest of a raw element behind its start tag.
+ghost use Rattle.std.specs.Prelude.{◌≡◌, ◌≢◌, ◌++◌, ◌≤◌, ℕ, List, IfOk, true, MatchOption, take, length, []};
+ghost use Rattle.mos_fields.specs.Characters.{IsUtf16, chars_of};
+ghost use Rattle.mos_fields.specs.Names.{is_name};
+ghost use Rattle.mos_fields.specs.Raw.{end_text, ends_with, is_tail as is_tail_of};
+ghost use Rattle.mos_forms.specs.Tails.{tail_units};
+
+use mos_fields::{NoMemory, Text};
+use std::alloc::Global;
+
+/// What stands before this end of a text, where it ends so.
+fn without_end<'a>(text: &'a [u16], end: &[u16]) -> Option<&'a [u16]>
+    ensures { MatchOption result ((front : List ℕ) → text.now ≢ front ++ end.now) (λ x. text.now ≡ x.now ++ end.now) }
+{
+    text.strip_suffix(end)
+}
+
+/// Whether the text ends with the end tag of this name.
+fn ends_with_end_tag(name: &[u16], text: &[u16]) -> bool
+    ensures { result ≡ ends_with (end_text name.now) text.now }
+{
+    match without_end(text, &[62]) {
+        None => false,
+        Some(front) => match without_end(front, name) {
+            None => false,
+            Some(front) => match without_end(front, &[60, 47]) {
+                None => false,
+                Some(_) => true,
+            },
+        },
+    }
+}
+
+fn front(text: &[u16], end: usize) -> &[u16]
+    requires { end ≤ length text.now }
+    ensures { result.now ≡ take end text.now }
+{
+    &text[..end]
+}
+
+fn is_tail_by_units(name: &[u16], text: &[u16]) -> bool
+    ensures { result ≡ tail_units name.now [] text.now }
+{
+    for end in 0..text.len() {
+        if ends_with_end_tag(name, front(text, end + 1)) {
+            return end + 1 == text.len();
+        }
+    }
+    false
+}
+
+/// Whether this is what stands behind the start tag of a raw element with this name: everything up to its first end tag
+/// that is written without white space.
+#[tactic(auto, using(crate::proofs::TailLemmas::tail_by_units))]
+pub fn is_tail(name: &[u16], text: &[u16]) -> bool
+    requires named { is_name name.now ≡ true }
+    requires written { IsUtf16 text.now }
+    ensures { result ≡ is_tail_of name.now (chars_of text.now) }
+{
+    is_tail_by_units(name, text)
+}
+
+fn units_behind(alloc: Global, units: &[u16], more: &[u16]) -> Result<Vec<u16>, NoMemory>
+    ensures { IfOk result (λ v. v.items ≡ units.now ++ more.now) }
+{
+    let mut both = Vec::from_slice(alloc, units)?;
+    both.extend_from_slice(more)?;
+    Ok(both)
+}
+
+/// A text and what follows it, as one text. The only error is that memory runs out.
+pub fn join(alloc: Global, text: &Text, more: &[u16]) -> Result<Text, NoMemory>
+    requires { IsUtf16 more.now }
+    ensures { IfOk result (λ t. t ≡ text.now ++ chars_of more.now) }
+{
+    let both = units_behind(alloc, text.units(), more)?;
+    Text::from_units(alloc, &both)
+}

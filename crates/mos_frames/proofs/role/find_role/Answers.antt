@@ -1,0 +1,21 @@
+use Rattle.std.proofs.Common.{◌≡◌, List, IfOk, sym, ap, subst, ◌∙◌}
+use Rattle.mos_tables.specs.Tables.{columns, others}
+use Rattle.mos_grammar.specs.Records.{Role, other_role}
+use Rattle.mos_frames.specs.Roles.{IsRole}
+use Rattle.mos_frames.proofs.RoleLemmas.{column_named, role_none, role_full, role_room}
+use Rattle.mos_frames.proofs.role.find_role.Goals as goal
+
+pub role_at-requires : goal.role_at-requires
+role_at-requires c = column_named (columns c.args.frame.now.table) c.args.name.now c.in-Some.column (sym c.requires ∙ c.in-Some.is)
+
+pub returns-in-None : goal.returns-in-None
+returns-in-None c = role_none c.role_of_other.result c.args.frame.now.table c.args.frame.now.before c.args.name.now c.args.attributes.now (sym c.requires ∙ c.in-None.is)
+    (subst (λ o. IsRole c.role_of_other.result c.args.name.now c.args.attributes.now (other_role o)) (c.others.ensures ∙ ap (λ t. others t c.args.name.now) c.table.ensures) (c.role_of_other.ensures c.args.name.now c.args.attributes.now))
+
+pub returns-then-is_full : goal.returns-then-is_full
+returns-then-is_full c = role_full c.args.frame.now.table c.args.frame.now.before c.args.name.now c.args.attributes.now c.in-Some.column c.times.result c.is_full.result (sym c.requires ∙ c.in-Some.is) c.times.ensures c.is_full.ensures c.if-is_full.true
+
+pub returns-else-is_full : goal.returns-else-is_full
+returns-else-is_full c = subst (λ (w : Role). IfOk c.role_at.result (λ r. IsRole r c.args.name.now c.args.attributes.now w))
+    (role_room c.args.frame.now.table c.args.frame.now.before c.args.name.now c.args.attributes.now c.in-Some.column c.times.result c.is_full.result (sym c.requires ∙ c.in-Some.is) c.times.ensures c.is_full.ensures c.if-is_full.false)
+    c.role_at.ensures
