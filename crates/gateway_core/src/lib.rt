@@ -19,6 +19,3 @@ mod upper;
 pub use asking::{Asking, Confirm};
 pub use gate::Gate;
 pub use known::{DeckState, Known, Phase};
-
-#[cfg(test)]
-mod tests;
