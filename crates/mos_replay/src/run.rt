@@ -49,7 +49,7 @@ pub fn mos_run<S: Source, K: Sink>(
 ) -> Status
     requires { IsBounded (S.bound source.old) }
     ensures usage { result ≡ Status.Usage → (IsTake (map string_bytes words.now) → ⊥) × (source.new ≡ source.old) × (sink.new ≡ sink.old) }
-    ensures used { IsTake (map string_bytes words.now) → result ≢ Status.Usage }
+    ensures used { (IsTake (map string_bytes words.now) → ⊥) → result ≡ Status.Usage }
     ensures done { result ≡ Status.Done → IsTaken (S.left source.old) (S.left source.new) (K.written sink.old) (K.written sink.new) }
     ensures refused { result ≡ Status.Refused → IsRefused (S.left source.old) (S.left source.new) (K.written sink.old) (K.written sink.new) }
     ensures read_fault { result ≡ Status.ReadFault → Rose (S.faults source.old) (S.faults source.new) }
