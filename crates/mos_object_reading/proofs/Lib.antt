@@ -1,0 +1,4 @@
+mod Words
+mod Objects
+mod Profiles
+mod Machines
