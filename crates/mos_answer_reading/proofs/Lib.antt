@@ -1,2 +1,3 @@
 mod Order
 mod Actions
+mod Sources

@@ -6,12 +6,10 @@ use Rattle.mos_fields.specs.declared.form.Form.TheVariants as forms
 use Rattle.mos_tables.specs.declared.column.Column.{Column}
 use Rattle.mos_tables.specs.declared.table.Table.{Table}
 use Rattle.mos_tables.specs.Events.{Event}
-use Rattle.mos_tables.specs.Tables.{columns, required, header_columns}
-use Rattle.mos_cursor.specs.Accepted.{IsAccepted, AllFit}
-use Rattle.mos_cursor.specs.Parts.{places, parts_events}
-use Rattle.mos_cursor.specs.Slots.{parts_of}
+use Rattle.mos_tables.specs.Tables.{required, header_columns}
+use Rattle.mos_cursor.specs.Accepted.{IsAccepted}
+use Rattle.mos_cursor.specs.Parts.{places}
 use Rattle.mos_cursor.specs.declared.slot.Nested.{Nested}
-use Rattle.mos_cursor.specs.declared.slot.Slot.{Slot}
 
 -- the events between its start and its end
 abbrev pub inner_events : Nested → List Event
@@ -24,11 +22,3 @@ Holds t r = (taken : List Text) × IsAccepted t taken r.inner
 -- those of a body before its stories
 abbrev pub header_places : List Column
 header_places = places (required fields.RoID forms.Id ∷ required fields.RoSlug forms.Slug ∷ header_columns)
-
--- the parts fit the places of the table
-unfoldable pub FitTable : Table → List Slot → Type 0
-FitTable t ss = AllFit t (places (columns t)) (parts_of ss)
-
--- the events that they are there
-unfoldable pub table_events : Table → List Slot → List Event
-table_events t ss = parts_events (places (columns t)) (parts_of ss)

@@ -10,5 +10,5 @@ mod stories;
 pub use bodies::body_of;
 pub use headers::headers_of;
 pub use items::{item_of, items_of};
-pub use slots::slots_of;
+pub use slots::halves_of;
 pub use stories::{stories_of, story_of};
