@@ -106,7 +106,7 @@ abbrev source_name : Text
 source_name = name_of fields.ElementSource
 
 different : target_name ≡ source_name → ⊥
-different h = cc
+different h = let q : true ≡ false = ap (λ (z : Text). same target_name z) h in cc
 
 held : (o : Operation) (a b : Aim) (es : List Event) (p : RecordPart) (s : ASource o a es) → s.part.inner ≡ p.inner → a ≡ b → Held o b p
 held o a b es p s e q = record { keys = s.keys; accepted = subst (λ (z : Aim). IsAccepted (tables.Source o z) s.keys p.inner) q (subst (λ (z : List Event). IsAccepted (tables.Source o a) s.keys z) e s.accepted) }
@@ -149,7 +149,7 @@ both_parts o all t p st b m e = absurd m
 
 -- the events without the order that they begin with
 skipped : (g : List Attribute) (x : Text) (es : List Event) → leaves_left (name_of fields.RoID) (leaf (name_of fields.RoID) g x ∷ es) ≡ leaves_left (name_of fields.RoID) es
-skipped g x es = rw (same_self (name_of fields.RoID)) refl
+skipped g x es = refl
 
 three_joined : (x y z : List Event) → (x ++ []) ++ ((y ++ []) ++ ((z ++ []) ++ [])) ≡ x ++ (y ++ z)
 three_joined x y z =
