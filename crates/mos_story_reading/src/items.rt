@@ -116,8 +116,27 @@ fn item_back(alloc: Global, slots: [Slot; 8]) -> Result<Back, NoMemory>
     requires { AllFit tables.Item (drop 7 (places (columns tables.Item))) (parts_of slots) }
     ensures { IfOk result (λ v. joined (maybe_as samples_text fields.ItemEdStart v.ed_start ∷ maybe_as samples_text fields.ItemEdDur v.ed_dur ∷ maybe_as samples_text fields.ItemUserTimingDur v.user_timing_dur ∷ maybe fields.ItemTrigger v.trigger ∷ maybe fields.MacroIn v.macro_in ∷ maybe fields.MacroOut v.macro_out ∷ raws fields.Metadata v.metadata ∷ raws fields.Kept v.others ∷ []) ≡ parts_events (drop 7 (places (columns tables.Item))) (parts_of slots)) }
 {
-    let [ed_start, ed_dur, user_timing_dur, trigger, macro_in, macro_out, metadata, others] = slots;
-    item_back_with(alloc, ed_start, ed_dur, user_timing_dur, trigger, macro_in, macro_out, metadata, others)
+    let [
+        ed_start,
+        ed_dur,
+        user_timing_dur,
+        trigger,
+        macro_in,
+        macro_out,
+        metadata,
+        others,
+    ] = slots;
+    item_back_with(
+        alloc,
+        ed_start,
+        ed_dur,
+        user_timing_dur,
+        trigger,
+        macro_in,
+        macro_out,
+        metadata,
+        others,
+    )
 }
 
 /// The item with these fields.
