@@ -97,7 +97,7 @@ may_follow o before f (as_column n c named outside) =
     let F : Option Column → Type 0 = λ (x : Option Column). if_field x (field_fault (columns (tables.Action o)) (seen_of (tables.Action o) before) n) ≡ None in
     let p : field_fault (columns (tables.Action o)) (seen_of (tables.Action o) before) n ≡ None = subst F named outside in
     let q : repeated (columns (tables.Action o)) (seen_of (tables.Action o) before) n ≡ None
-        = (no_or_else (repeated (columns (tables.Action o)) (seen_of (tables.Action o) before) n) (lacking (before_column (columns (tables.Action o)) n) (seen_of (tables.Action o) before)) p).0 in
+    = (no_or_else (repeated (columns (tables.Action o)) (seen_of (tables.Action o) before) n) (lacking (before_column (columns (tables.Action o)) n) (seen_of (tables.Action o) before)) p).0 in
     subst (λ (x : List Field). Further x c.field) (seen_is (tables.Action o) before refl) (further o (seen_of (tables.Action o) before) c (later (columns (tables.Action o)) (seen_of (tables.Action o) before) n c named q))
 may_follow o before f as_kept = record { target = λ e. absurd cc; source = λ e. absurd cc }
 may_follow o before f as_dropped = record { target = λ e. absurd cc; source = λ e. absurd cc }

@@ -72,9 +72,10 @@ tail_of (e ∷ es) = es
 same_records : (n : Text) (p q : RecordPart) (r s : List Event) → IsBalanced p.inner → IsBalanced q.inner → record_events n p ++ r ≡ record_events n q ++ s → (p.inner ≡ q.inner) × (r ≡ s)
 same_records n p q r s b d h =
     let e : p.inner ++ closes n ∷ r ≡ q.inner ++ closes n ∷ s
-        = sym (append_assoc p.inner (closes n ∷ []) r) ∙ ap tail_of h ∙ append_assoc q.inner (closes n ∷ []) s in
-    (sym (append-nil p.inner) ∙ sym (b.inner 0 (closes n ∷ r)) ∙ ap (inner_of 0) e ∙ d.inner 0 (closes n ∷ s) ∙ append-nil q.inner,
-     sym (b.behind 0 (closes n ∷ r)) ∙ ap (behind_of 0) e ∙ d.behind 0 (closes n ∷ s))
+    = sym (append_assoc p.inner (closes n ∷ []) r) ∙ ap tail_of h ∙ append_assoc q.inner (closes n ∷ []) s in (
+      sym (append-nil p.inner) ∙ sym (b.inner 0 (closes n ∷ r)) ∙ ap (inner_of 0) e ∙ d.inner 0 (closes n ∷ s) ∙ append-nil q.inner,
+      sym (b.behind 0 (closes n ∷ r)) ∙ ap (behind_of 0) e ∙ d.behind 0 (closes n ∷ s),
+    )
 
 -- the first name of a list of events
 abbrev head_name : List Event → Text
@@ -201,10 +202,10 @@ held_of o taken es l t p a h e =
     let rest : List Event = found fields.ElementTarget a.all ++ found fields.ElementSource a.all in
     let m = target_balanced o t h.1.0 in
     let left : leaves_left (name_of fields.RoID) es ≡ rest
-        = ap (leaves_left (name_of fields.RoID)) (a.value ∙ arranged_action o a.all) ∙ order_skipped o [] taken a.all rest (each a.content a.written tt) ∙ both_behind o a.all st in
+    = ap (leaves_left (name_of fields.RoID)) (a.value ∙ arranged_action o a.all) ∙ order_skipped o [] taken a.all rest (each a.content a.written tt) ∙ both_behind o a.all st in
     let right : leaves_left (name_of fields.RoID) es ≡ part_events fields.ElementTarget t ++ record_events source_name p
-        = ap (leaves_left (name_of fields.RoID)) (e ∙ ap (λ (z : List Event). part_events fields.RoID (one_leaf l) ++ (part_events fields.ElementTarget t ++ z)) (append-nil (record_events source_name p)))
-        ∙ skipped l.given l.text (part_events fields.ElementTarget t ++ record_events source_name p) ∙ parts_behind t p m in
+    = ap (leaves_left (name_of fields.RoID)) (e ∙ ap (λ (z : List Event). part_events fields.RoID (one_leaf l) ++ (part_events fields.ElementTarget t ++ z)) (append-nil (record_events source_name p)))
+    ∙ skipped l.given l.text (part_events fields.ElementTarget t ++ record_events source_name p) ∙ parts_behind t p m in
     both_parts o a.all t p st (balanced_accepted _ _ p.inner h.1.1.0.accepted) m (sym left ∙ right)
 
 pub source_held : (o : Operation) (taken : List Text) (es : List Event) (ro t s : Part) → IsAccepted (tables.Action o) taken es → AllFit (tables.Action o) (places (columns (tables.Action o))) (ro ∷ t ∷ s ∷ [])

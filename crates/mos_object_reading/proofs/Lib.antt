@@ -1,4 +1,0 @@
-mod Words
-mod Objects
-mod Profiles
-mod Machines
