@@ -1,0 +1,5 @@
+pub mod Read
+pub mod Keys
+pub mod Lists
+pub mod Halves
+pub mod Joined
