@@ -1,0 +1,4 @@
+pub mod RawNames
+pub mod TokenLemmas
+pub mod UnitForms
+pub mod HeldRuns
