@@ -1,6 +1,6 @@
 -- What is held, read as far as a character or as what is none.
 use Rattle.std.proofs.Common.{◌≡◌, ℕ, suc, ◌+◌, ◌-◌, ◌<◌, ◌≤◌, true, false, List, [], ◌∷◌, ◌++◌, length, take, drop, get_or, refl, sym, ap, ◌∙◌, subst, inl, inr, ◌⊎◌, arith, add-one, length-drop, drop-cons}
-use Rattle.std.specs.Prelude.{Some, None, slice_index}
+use Rattle.std.specs.Prelude.{Option, Some, None, slice_index}
 use Rattle.std.proofs.lemmas.List.{append-nil, take-append-drop, drop-drop, take-append-le}
 use Rattle.std.specs.Char.Escape.{encode_utf16}
 use Rattle.mos_fields.specs.Characters.{is_high, is_low}
@@ -19,7 +19,7 @@ use Rattle.mos_scanner.proofs.UnitLemmas.{ended, character_read}
 use Rattle.mos_reader.specs.declared.outcome.Outcome.{Outcome}
 use Rattle.mos_reader.specs.declared.outcome.Outcome.TheVariants.{ReadsOn, Completes, Rejects}
 use Rattle.mos_reader.specs.declared.reading.Reading.{Reading}
-use Rattle.mos_reader.specs.Places.{reader_of, outcome_of, IsSoundBehind, IsOn, IsWhole, HasRead, HasCompleted, HasRejected, Came, Ended, IsPaused}
+use Rattle.mos_reader.specs.Places.{reader_of, outcome_of, IsSoundBehind, IsOn, IsWhole, HasRead, HasCompleted, HasRejected, Came, Ended, IsPaused, IsOnward, WentOn}
 use Rattle.mos_reader.proofs.UnitForms.{capped, over_read, both_over, some_units, high_waits, high_over, lone_low, high_alone, forbidden_read}
 
 take_split : (held : List ℕ) (here next : ℕ) → here ≤ next → take next held ≡ take here held ++ part held here next
@@ -143,6 +143,17 @@ character_short held here next c i =
     let s = (some_units c i.allowed).1 in
     omega (arith, l, s)
 
+pub onward_of : (o : Outcome) (old new : Reading) (held : List ℕ) (next c : ℕ) → IsCharacter held old.here next c → IsSoundBehind o new held next → IsOnward o old new
+onward_of ReadsOn old new held next c i b = subst (λ k. old.here < k) (sym b.is) (character_onward held old.here next c i)
+onward_of (Completes began v) old new held next c i b = tt
+onward_of (Rejects place k) old new held next c i b = tt
+
+-- a character behind which reading goes on
+abbrev pub then_of : Outcome → Option Outcome
+then_of ReadsOn = None
+then_of (Completes began v) = Some (Completes began v)
+then_of (Rejects place k) = Some (Rejects place k)
+
 -- ---- what is no character
 
 first_unit : (held : List ℕ) (here : ℕ) → here < length held → drop here held ≡ slice_index held here ∷ drop (here + 1) held
@@ -203,3 +214,17 @@ module _ (r : Reading) (held : List ℕ) (h : HasRead r held) where
         same = from_here ∙ (ap (unit_run (reader_of r held)) (first_unit held r.here w) ∙ forbidden_read (reader_of r held) (slice_index held r.here) (drop (r.here + 1) held) refl i.not_high i.not_low i.forbidden);
         within = omega (arith, w);
       }
+
+  pub unpaired_within : (is_low (slice_index held r.here) ≡ true) ⊎ IsHighAlone held r.here → r.here < length held → r.here < message_limit → HasRejected r.here kinds.BadUnit held
+  unpaired_within (inl i) w l = low_unpaired i w
+  unpaired_within (inr i) w l = high_unpaired i l
+
+  pub unpaired_low : (is_low (slice_index held r.here) ≡ true) ⊎ IsHighAlone held r.here → r.here < length held → is_high (slice_index held r.here) ≡ false → HasRejected r.here kinds.BadUnit held
+  unpaired_low (inl i) w l = low_unpaired i w
+  unpaired_low (inr i) w l = absurd (let e : true ≡ false = sym i.high ∙ l in cc)
+
+-- behind a character: reading went on, or it ends so
+pub went_on : (o : Outcome) (old new : Reading) (held : List ℕ) → Came o new held → IsOnward o old new → WentOn (then_of o) old new held
+went_on ReadsOn old new held a b = (a, b)
+went_on (Completes began v) old new held a b = a
+went_on (Rejects place k) old new held a b = a

@@ -6,7 +6,12 @@
 
 mod found;
 mod outcome;
+mod reader;
 mod reading;
 mod units;
 
 pub use found::{Found, ReadFault};
+pub use reader::Reader;
+
+#[cfg(test)]
+mod tests;

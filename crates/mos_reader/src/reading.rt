@@ -1,14 +1,15 @@
 //! Where the reading of a message is.
-ghost use Rattle.std.specs.Prelude.{◌≡◌, ◌≤◌, [], cond, length, true, IfOk};
-ghost use Rattle.mos_grammar.specs.Streams.{message_step};
+ghost use Rattle.std.specs.Prelude.{◌≡◌, ◌≤◌, ◌++◌, ℕ, List, [], cond, length, true, IfOk};
+ghost use Rattle.mos_grammar.specs.Streams.{before_message, before_prolog, message_step};
 ghost use Rattle.mos_grammar.specs.Tokens.{mark};
 ghost use Rattle.mos_lexer.specs.LexMachine.{begin, in_tail, lex_step, whole_token};
 ghost use Rattle.mos_lexer.specs.Units.{at_token, is_outside as is_outside_of, kind_of as kind_of_fault, lexed, rests};
 ghost use Rattle.mos_scanner.specs.Parts.{IsCharacter};
 ghost use Rattle.mos_scanner.specs.ScannerView.{IsSound, IsTextBefore, IsWhole, IsWholeText, kind_token, lex_of, tag_name};
 ghost use Rattle.mos_scanner.specs.declared.scanned.Kind.TheVariants.{OpenTag};
+ghost use Rattle.mos_frames.specs.Standing.{reads};
 ghost use Rattle.mos_frames.specs.Ahead.{stands_in_raw, stands_outside};
-ghost use Rattle.mos_reader.specs.Places.{IsAt, IsPlaced, IsSoundBehind, before_mark, before_tag, outcome_of, position_of, reader_of};
+ghost use Rattle.mos_reader.specs.Places.{HasRead, IsAt, IsPlaced, IsSoundBehind, before_mark, before_tag, outcome_of, position_of, reader_of};
 
 use crate::outcome::Outcome;
 use mos_fields::NoMemory;
@@ -61,7 +62,9 @@ fn begin_next(scanner: &mut Scanner, is_raw: bool, held: &[u16], next: usize)
 
 impl Reading {
     /// In front of a message, where nothing was read.
-    pub fn new(alloc: Global) -> Self {
+    pub fn new(alloc: Global) -> Self
+        ensures { (held : List ℕ) → HasRead result held }
+    {
         Reading {
             scanner: Scanner::new(alloc),
             frames: Frames::new(alloc),
@@ -69,6 +72,25 @@ impl Reading {
             opened: 0,
             here: 0,
         }
+    }
+
+    /// Behind a message that is complete: the next one begins with what is held then.
+    pub fn restart(&mut self)
+        requires { (self.old).frames ≡ reads (before_message before_prolog) }
+        ensures { (held : List ℕ) → HasRead self.new held }
+    {
+        self.scanner.begin(0);
+        self.start = 0;
+        self.opened = 0;
+        self.here = 0;
+    }
+
+    /// What was read stays the same where more is held. It does nothing.
+    pub fn stay(&self, held: &[u16], more: &[u16])
+        requires { HasRead self.now held.now }
+        ensures { HasRead self.now (held.now ++ more.now) }
+    {
+        self.scanner.stays_read(held, more, self.here);
     }
 
     /// Where the `<mos` of the message began, or the token that is being read in front of it.

@@ -46,7 +46,8 @@ impl Reading {
         ensures came { IfOk result (λ o. Came o self.new held.now) }
         ensures onward { IfOk result (λ o. IsOnward o self.old self.new) }
     {
-        self.take_character(alloc, held, next, c)
+        let outcome = self.take_character(alloc, held, next, c)?;
+        Ok(outcome)
     }
 
     /// Reads a character of which the last unit is one too many: any other fault that it shows comes first.
@@ -112,7 +113,22 @@ impl Reading {
         requires within { (self.now).here < length held.now }
         ensures { Ended result self.now held.now }
     {
-        if is_high(held[self.here]) && self.here >= MESSAGE_LIMIT {
+        if self.here < MESSAGE_LIMIT {
+            Outcome::Rejects(self.here, Kind::BadUnit)
+        } else {
+            self.at_unpaired_over(held)
+        }
+    }
+
+    /// A unit of a pair stands alone and is one too many, which is seen first where it is a high one.
+    fn at_unpaired_over(&self, held: &[u16]) -> Outcome
+        requires read { HasRead self.now held.now }
+        requires unpaired { IsAtPlace Unpaired held.now (self.now).here }
+        requires within { (self.now).here < length held.now }
+        requires over { message_limit ≤ (self.now).here }
+        ensures { Ended result self.now held.now }
+    {
+        if is_high(held[self.here]) {
             too_long()
         } else {
             Outcome::Rejects(self.here, Kind::BadUnit)
