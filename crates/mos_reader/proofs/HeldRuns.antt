@@ -20,7 +20,7 @@ use Rattle.mos_reader.specs.declared.outcome.Outcome.{Outcome}
 use Rattle.mos_reader.specs.declared.outcome.Outcome.TheVariants.{ReadsOn, Completes, Rejects}
 use Rattle.mos_reader.specs.declared.reading.Reading.{Reading}
 use Rattle.mos_reader.specs.Places.{reader_of, outcome_of, IsSoundBehind, IsOn, IsWhole, HasRead, HasCompleted, HasRejected, Came, Ended, IsPaused, IsOnward, WentOn}
-use Rattle.mos_reader.proofs.UnitForms.{capped, over_read, both_over, some_units, high_waits, high_over, lone_low, high_alone, forbidden_read}
+use Rattle.mos_reader.proofs.UnitForms.{capped, over_read, both_over, some_units, nothing_read, waiting, high_waits, high_over, lone_low, high_alone, forbidden_read}
 
 take_split : (held : List ℕ) (here next : ℕ) → here ≤ next → take next held ≡ take here held ++ part held here next
 take_split held here next h =
@@ -171,18 +171,14 @@ module _ (r : Reading) (held : List ℕ) (h : HasRead r held) where
   from_here = rest_run held r.here (reader_of r held) h.same
 
   pub ended_here : length held ≤ r.here → IsPaused r held
-  ended_here l = record { read = h; still = (reader_of r held, from_here ∙ ap (unit_run (reader_of r held)) (nothing_left held r.here l) ∙ none (reader_of r held)) }
-    where
-      none : (s : ReaderOf) → unit_run s [] ≡ still_reads s
-      unfolding unit_run
-      none s = refl
+  ended_here l = record { read = h; still = (reader_of r held, from_here ∙ ap (unit_run (reader_of r held)) (nothing_left held r.here l) ∙ nothing_read (reader_of r held)) }
 
   pub cut_waits : IsCut held r.here → r.here < message_limit → IsPaused r held
   cut_waits i l =
       let a = i.last in
       let d : drop r.here held ≡ slice_index held r.here ∷ [] =
       first_unit held r.here (omega (arith, a)) ∙ ap (λ z. slice_index held r.here ∷ z) (nothing_left held (r.here + 1) (omega (arith, a))) in
-      record { read = h; still = (_, from_here ∙ (ap (unit_run (reader_of r held)) d ∙ high_waits (reader_of r held) (slice_index held r.here) refl l i.high)) }
+      record { read = h; still = (waiting (reader_of r held) (slice_index held r.here), from_here ∙ (ap (unit_run (reader_of r held)) d ∙ high_waits (reader_of r held) (slice_index held r.here) refl l i.high)) }
 
   pub high_too_long : is_high (slice_index held r.here) ≡ true → r.here < length held → message_limit ≤ r.here → HasRejected message_limit kinds.TooLong held
   high_too_long i w l =

@@ -1,12 +1,14 @@
 -- A token was taken and the message goes on: the next token begins.
 use Rattle.std.proofs.Common.{◌≡◌, ℕ, true, cond, List, [], Ok, refl, sym, ap, ◌∙◌, subst}
 use Rattle.std.specs.Prelude.{None}
+use Rattle.mos_grammar.specs.Tokens.{Token}
 use Rattle.mos_grammar.specs.Streams.{Position, message_step}
 use Rattle.mos_lexer.specs.LexMachine.{LexState, begin, in_tail}
 use Rattle.mos_lexer.specs.Units.{reads_on, lex_at, at_token, rests}
 use Rattle.mos_lexer.specs.Units.{Reader as ReaderOf}
-use Rattle.mos_frames.specs.Standing.{Standing, reads, TakesStep}
+use Rattle.mos_frames.specs.Standing.{Standing, reads, TakesStep, Takes}
 use Rattle.mos_frames.specs.Ahead.{stands_in_raw}
+use Rattle.mos_frames.specs.declared.progress.Progress.{Progress}
 use Rattle.mos_frames.specs.declared.progress.Progress.TheVariants.{More}
 use Rattle.mos_scanner.specs.ScannerView.{kind_token, tag_name, lex_of, IsWhole}
 use Rattle.mos_scanner.specs.declared.scanner.Scanner.{Scanner}
@@ -14,7 +16,11 @@ use Rattle.mos_scanner.specs.declared.scanned.Kind.{Kind as TokenKind}
 use Rattle.mos_scanner.specs.declared.scanned.Kind.TheVariants.{OpenTag}
 use Rattle.mos_reader.specs.declared.reading.Reading.{Reading}
 use Rattle.mos_reader.specs.Places.{position_of, reader_of}
-use Rattle.mos_reader.proofs.TokenLemmas.{took, behind_more, next_lex, next_open}
+use Rattle.mos_reader.proofs.TokenLemmas.{takes_step, took, behind_more, next_lex, next_open}
+
+-- the step that the token takes
+pub step_more : (st new : Standing) (t u : Token) (g : Progress) → st ≡ reads (position_of st) → Takes st t (Ok g) new → g ≡ More → t ≡ u → TakesStep (message_step (position_of st) u) (Ok More) new
+step_more st new t u g e h i j = takes_step st new u (Ok More) e (subst (λ z. Takes st z (Ok More) new) j (subst (λ z. Takes st t (Ok z) new) i h))
 
 -- In a raw element, its start tag is whole.
 pub raw_more : (p : Position) (mid : Standing) (k : TokenKind) (s : Scanner) (held : List ℕ) (next : ℕ) → TakesStep (message_step p (kind_token k s held next)) (Ok More) mid → IsWhole k s held next

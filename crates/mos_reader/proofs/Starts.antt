@@ -9,7 +9,8 @@ use Rattle.mos_lexer.specs.Units.{Reader as ReaderOf}
 use Rattle.mos_frames.specs.Standing.{Standing, reads}
 use Rattle.mos_scanner.specs.ScannerView.{lex_of, IsSound}
 use Rattle.mos_reader.specs.declared.reading.Reading.{Reading}
-use Rattle.mos_reader.specs.Places.{position_of, reader_of, IsPlaced, IsAt, HasRead}
+use Rattle.mos_reader.specs.Places.{position_of, reader_of, HasRead}
+use Rattle.mos_reader.proofs.UnitForms.{nothing_read}
 
 abbrev made : Position → LexState → ℕ → ℕ → ℕ → ReaderOf
 made p l a b c = record { position = p; lex = l; start = a; opened = b; count = c; high = None }
@@ -47,10 +48,6 @@ fresh_read r held f =
           ∙ (ap (λ l. made (before_message before_prolog) l r.start r.opened 0) f.lex
           ∙ (ap (λ k. made (before_message before_prolog) begin k r.opened 0) a ∙ ap (λ k. made (before_message before_prolog) begin 0 k 0) b))))));
     }
-  where
-    nothing_read : (s : ReaderOf) → unit_run s [] ≡ still_reads s
-    unfolding unit_run
-    nothing_read s = refl
 
 -- What was read stays read where more is held.
 pub still_read : (r : Reading) (held more : List ℕ) → HasRead r held → lex_of r.scanner (held ++ more) r.here ≡ lex_of r.scanner held r.here → IsSound r.scanner (held ++ more) r.here → HasRead r (held ++ more)

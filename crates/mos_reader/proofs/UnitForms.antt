@@ -159,6 +159,10 @@ some_units c a = go (one_or_two c a)
 
 -- ---- what is no character
 
+pub nothing_read : (s : Reader) → unit_run s [] ≡ still_reads s
+unfolding unit_run
+nothing_read s = refl
+
 -- a high unit is all that is left
 pub high_waits : (s : Reader) (u : ℕ) → s.high ≡ None → s.count < message_limit → is_high u ≡ true → unit_run s (u ∷ []) ≡ still_reads (waiting s u)
 unfolding unit_run
