@@ -19,7 +19,7 @@ use Rattle.mos_scanner.proofs.UnitLemmas.{ended, character_read}
 use Rattle.mos_reader.specs.declared.outcome.Outcome.{Outcome}
 use Rattle.mos_reader.specs.declared.outcome.Outcome.TheVariants.{ReadsOn, Completes, Rejects}
 use Rattle.mos_reader.specs.declared.reading.Reading.{Reading}
-use Rattle.mos_reader.specs.Places.{reader_of, outcome_of, IsSoundBehind, IsOn, IsWhole, HasRead, HasCompleted, HasRejected, Came, Ended, IsPaused, IsOnward, WentOn}
+use Rattle.mos_reader.specs.Places.{reader_of, outcome_of, IsSoundBehind, IsOn, IsWhole, HasRead, HasCompleted, HasRejected, Came, Ended, IsPaused, capped_of, IsOnward, WentOn}
 use Rattle.mos_reader.proofs.UnitForms.{capped, over_read, both_over, some_units, nothing_read, waiting, high_waits, high_over, lone_low, high_alone, forbidden_read}
 
 take_split : (held : List ℕ) (here next : ℕ) → here ≤ next → take next held ≡ take here held ++ part held here next
@@ -100,12 +100,6 @@ over_run r held next c h i w =
     let e : r.here + length (part held r.here next) ≡ next = omega (arith, o, l) in
     over_read (reader_of r held) (part held r.here next) c i.is i.allowed refl h.short (e ∙ w)
     ∙ ap (λ k. ended (capped (lexed (reader_of r held) r.here k (lex_step (is_outside (reader_of r held).position) (reader_of r held).lex c)))) e
-
--- only a rejection that the character shows stays
-abbrev pub capped_of : Outcome → Outcome
-capped_of ReadsOn = Rejects message_limit kinds.TooLong
-capped_of (Completes began v) = Rejects message_limit kinds.TooLong
-capped_of (Rejects place k) = Rejects place k
 
 pub came_over : (old new : Reading) (held : List ℕ) (next c : ℕ) (o : Outcome) → HasRead old held → IsCharacter held old.here next c → next ≡ message_limit + 1
     → outcome_of o new held ≡ lexed (reader_of old held) old.here next (lex_step (is_outside (reader_of old held).position) (reader_of old held).lex c) → IsSoundBehind o new held next → Came (capped_of o) new held

@@ -33,11 +33,11 @@ abbrev made : Position → LexState → ℕ → ℕ → ℕ → ReaderOf
 made p l a b c = record { position = p; lex = l; start = a; opened = b; count = c; high = None }
 
 -- how the next token begins
-pub record Rests (mid : Standing) (s : Scanner) (held : List ℕ) (next opened : ℕ) (new : Reading) : Type 0 where
+pub record Rests (mid : Standing) (s : Scanner) (held : List ℕ) (next place : ℕ) (new : Reading) : Type 0 where
   pub frames : new.frames ≡ mid
   pub state : lex_of new.scanner held next ≡ cond (stands_in_raw mid) (in_tail (tag_name s held) []) begin
   pub start : new.start ≡ next
-  pub opened : new.opened ≡ opened
+  pub opened : new.opened ≡ place
   pub here : new.here ≡ next
 
 -- It is what the definition says.

@@ -54,15 +54,15 @@ behind_more (Ok (inside (at m k ks))) new f place opened start count h e = ap (�
 behind_more (Ok (inside (complete v))) new f place opened start count h e = absurd (cc)
 behind_more (Err k) new f place opened start count h e = absurd (cc)
 
+same_value : (u v : List Event) → ◌≡◌ {A = Result Progress FrameFault} (Ok (Message u)) (Ok (Message v)) → u ≡ v
+same_value u v h = cc
+
 -- behind a token that completes a message
 pub behind_whole : (w : Result Position Fault) (new : Standing) (f : Position → LexState) (place opened start count : ℕ) (v : List Event) → progress_of w ≡ Ok (Message v)
     → at_token place w (λ p. behind opened start count (f p) p) ≡ completes opened v
 behind_whole (Ok (before_message g)) new f place opened start count v h = absurd (cc)
 behind_whole (Ok (inside (at m k ks))) new f place opened start count v h = absurd (cc)
 behind_whole (Ok (inside (complete u))) new f place opened start count v h = ap (completes opened) (same_value u v h)
-  where
-    same_value : (u v : List Event) → Ok (Message u) ≡ Ok (Message v) → u ≡ v
-    same_value u v h = cc
 behind_whole (Err k) new f place opened start count v h = absurd (cc)
 
 pub whole_stands : (w : Result Position Fault) (new : Standing) (v : List Event) → progress_of w ≡ Ok (Message v) → new ≡ standing_of w → new ≡ reads (before_message before_prolog)
@@ -80,6 +80,10 @@ text_not_whole p x y v h = go (message_step p (text x y)) refl h
     go (Ok (inside (at m k ks))) e h = absurd (cc)
     go (Ok (inside (complete u))) e h = no_text_completes p x y u e
     go (Err k) e h = absurd (cc)
+
+pub text_stops : (st new : Standing) (t : Token) (x y : Text) (g : Progress) (v : List Event) → st ≡ reads (position_of st) → Takes st t (Ok g) new → t ≡ text x y → g ≡ Message v → ⊥
+text_stops st new t x y g v e h i j =
+    text_not_whole (position_of st) x y v (takes_step st new (text x y) (Ok (Message v)) e (subst (λ z. Takes st z (Ok (Message v)) new) i (subst (λ z. Takes st t (Ok z) new) j h))).0
 
 -- a token that doesn't fit
 pub behind_fault : (w : Result Position Fault) (k : Fault) (place : ℕ) (f : Position → UnitStep) → w ≡ Err k → at_token place w f ≡ rejects place (kind_of k)

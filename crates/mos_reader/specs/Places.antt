@@ -4,6 +4,7 @@ use Rattle.mos_grammar.specs.Streams.{Position, before_message, before_prolog}
 use Rattle.mos_frames.specs.Standing.{Standing, reads, failed}
 use Rattle.mos_tables.specs.Events.{Event}
 use Rattle.mos_lexer.specs.declared.kind.Kind.{Kind}
+use Rattle.mos_lexer.specs.declared.kind.Kind.TheVariants as kinds
 use Rattle.mos_lexer.specs.Units.{UnitStep, reads_on, completes, rejects, start_reader, still_reads, completed, rejected_at, unit_run, message_limit}
 use Rattle.mos_lexer.specs.Units.{Reader as ReaderOf}
 use Rattle.mos_lexer.specs.LexMachine.{LexStep, text_before, text_before_mark, in_tag}
@@ -116,3 +117,9 @@ abbrev pub IsOnward : Outcome → Reading → Reading → Type 0
 IsOnward ReadsOn old new = old.here < new.here
 IsOnward (Completes began v) old new = ⊤
 IsOnward (Rejects place k) old new = ⊤
+
+-- where the last unit of a character is one too many, only a rejection that the character shows stays
+abbrev pub capped_of : Outcome → Outcome
+capped_of ReadsOn = Rejects message_limit kinds.TooLong
+capped_of (Completes began v) = Rejects message_limit kinds.TooLong
+capped_of (Rejects place k) = Rejects place k

@@ -5,7 +5,7 @@ ghost use Rattle.mos_lexer.specs.Units.{message_limit};
 ghost use Rattle.mos_scanner.specs.Character.{IsAtPlace, IsCut};
 ghost use Rattle.mos_scanner.specs.Parts.{IsCharacter};
 ghost use Rattle.mos_scanner.specs.declared.character.Character.TheVariants.{Unpaired};
-ghost use Rattle.mos_reader.specs.Places.{Came, Ended, HasRead, IsOnward, WentOn};
+ghost use Rattle.mos_reader.specs.Places.{Came, Ended, HasRead, IsOnward, WentOn, capped_of};
 
 use crate::outcome::Outcome;
 use crate::reading::Reading;
@@ -29,6 +29,17 @@ fn too_long() -> Outcome
     ensures { result ≡ Outcome.Rejects message_limit Kind.TooLong }
 {
     Outcome::Rejects(MESSAGE_LIMIT, Kind::TooLong)
+}
+
+/// What a character comes to of which the last unit is one too many.
+fn cap(outcome: Outcome) -> Outcome
+    ensures { result ≡ capped_of outcome }
+{
+    match outcome {
+        Outcome::ReadsOn => too_long(),
+        Outcome::Completes(_, _) => too_long(),
+        Outcome::Rejects(place, kind) => Outcome::Rejects(place, kind),
+    }
 }
 
 impl Reading {
@@ -64,11 +75,8 @@ impl Reading {
         ensures came { IfOk result (λ o. Came o self.new held.now) }
         ensures onward { IfOk result (λ o. IsOnward o self.old self.new) }
     {
-        match self.take_character(alloc, held, next, c)? {
-            Outcome::ReadsOn => Ok(too_long()),
-            Outcome::Completes(_, _) => Ok(too_long()),
-            Outcome::Rejects(place, kind) => Ok(Outcome::Rejects(place, kind)),
-        }
+        let outcome = self.take_character(alloc, held, next, c)?;
+        Ok(cap(outcome))
     }
 
     /// Reads the character `c`, whose units are held from where reading is up to `next`.
