@@ -5,3 +5,4 @@ pub mod Texts
 pub mod States
 pub mod Standing
 pub mod Keys
+pub mod Ahead

@@ -3,11 +3,13 @@ ghost use Rattle.std.specs.Prelude.{◌≡◌, Err};
 ghost use Rattle.mos_grammar.specs.Streams.{before_message, before_prolog, message_step};
 ghost use Rattle.mos_grammar.specs.Streams.{inside as inside_position};
 ghost use Rattle.mos_tokens.specs.TokenView.{IsSound, token_of};
+ghost use Rattle.mos_frames.specs.Ahead.{is_in_raw as is_in_raw_of, stands_in_raw, stands_outside};
 ghost use Rattle.mos_frames.specs.States.{state_of};
 ghost use Rattle.mos_frames.specs.Standing.{Takes, TakesStep, reads, stage_of, standing_in};
 
 use crate::fault::FrameFault;
 use crate::inside::Inside;
+use crate::mode::Mode;
 use crate::place::{Place, Stage};
 use crate::progress::Progress;
 use crate::prolog::step_before;
@@ -88,6 +90,15 @@ fn take_inside(
     }
 }
 
+fn is_raw(inside: &Inside) -> bool
+    ensures { result ≡ is_in_raw_of (state_of inside.now) }
+{
+    match &inside.mode {
+        Mode::InRaw(_) => true,
+        _ => false,
+    }
+}
+
 impl Frames {
     /// In front of a message. It takes no memory yet.
     pub fn new(alloc: Global) -> Self
@@ -118,6 +129,26 @@ impl Frames {
                 take_inside(self.alloc, &mut self.place, &mut self.inside, token)
             }
             Place::Failed(fault) => Err(fault),
+        }
+    }
+
+    /// Whether reading stands in front of a message.
+    pub fn is_outside(&self) -> bool
+        ensures { result ≡ stands_outside self.now }
+    {
+        match self.place {
+            Place::Before(_) => true,
+            _ => false,
+        }
+    }
+
+    /// Whether reading stands in a raw element: the next token is its rest.
+    pub fn is_in_raw(&self) -> bool
+        ensures { result ≡ stands_in_raw self.now }
+    {
+        match self.place {
+            Place::InMessage => is_raw(&self.inside),
+            _ => false,
         }
     }
 }
