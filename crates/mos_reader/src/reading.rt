@@ -97,7 +97,11 @@ impl Reading {
     fn opened_by(&self) -> usize
         ensures { result ≡ cond (stands_outside (self.now).frames) (self.now).start (self.now).opened }
     {
-        if self.frames.is_outside() { self.start } else { self.opened }
+        if self.frames.is_outside() {
+            self.start
+        } else {
+            self.opened
+        }
     }
     /// A token was taken: the next one begins behind it.
     fn rest(&mut self, held: &[u16], next: usize, opened: usize)
