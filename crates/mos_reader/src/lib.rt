@@ -12,3 +12,6 @@ mod units;
 
 pub use found::{Found, ReadFault};
 pub use reader::Reader;
+
+#[cfg(test)]
+mod tests;

@@ -1,0 +1,126 @@
+//! Streams in pieces.
+use crate::{Found, ReadFault, Reader};
+use mos_fields::NoMemory;
+use mos_lexer::Kind;
+use std::alloc::Global;
+use std::test::Fail;
+
+/// 127 code units
+const HEARTBEAT: &str =
+    "<mos><mosID>deck</mosID><ncsID>news</ncsID><messageID></messageID><heartbeat><time>2024-02-29T10:00:00</time></heartbeat></mos>";
+
+fn units_of(alloc: Global, text: &str) -> Result<Vec<u16>, NoMemory> {
+    let mut units = Vec::new(alloc);
+    for byte in text.as_bytes() {
+        units.push(u16::from(*byte))?;
+    }
+    Ok(units)
+}
+
+fn kind_word(kind: Kind) -> &'static str {
+    match kind {
+        Kind::BadUnit => "BadUnit",
+        Kind::BadChar => "BadChar",
+        Kind::Entity => "Entity",
+        Kind::Tag => "Tag",
+        Kind::TooLong => "TooLong",
+        Kind::Missing(_) => "Missing",
+        _ => "another",
+    }
+}
+
+fn push_answer(
+    alloc: Global,
+    out: &mut String,
+    answer: Result<Option<Found>, ReadFault>,
+) -> Result<(), NoMemory> {
+    match answer {
+        Ok(None) => out.push_str("."),
+        Ok(Some(found)) => {
+            out.push_str(format!(in alloc; "<{}:{}>", found.began, found.value.len())?.as_str())
+        }
+        Err(ReadFault::Rejected(place, kind)) => {
+            out.push_str(format!(in alloc; "!{place}:{};", kind_word(kind))?.as_str())
+        }
+        Err(ReadFault::NoMemory) => out.push_str("!no memory;"),
+    }
+}
+
+/// Feeds a piece and asks so many times for the next message.
+fn feed(
+    alloc: Global,
+    reader: &mut Reader,
+    piece: &[u16],
+    times: usize,
+    out: &mut String,
+) -> Result<(), NoMemory> {
+    if reader.place() < 1_000_000 && piece.len() < 1_000_000 {
+        reader.feed(piece)?;
+    }
+    for _ in 0..times {
+        push_answer(alloc, out, reader.next())?;
+    }
+    Ok(())
+}
+
+fn trace(alloc: Global, units: &[u16], times: usize) -> Result<String, NoMemory> {
+    let mut reader = Reader::new(alloc);
+    let mut out = String::new(alloc);
+    feed(alloc, &mut reader, units, times, &mut out)?;
+    Ok(out)
+}
+
+#[test]
+fn a_heartbeat_unit_after_unit(rt: HostRuntime) -> Result<(), Fail> {
+    let alloc = rt.alloc();
+    let units = units_of(alloc, HEARTBEAT)?;
+    let mut reader = Reader::new(alloc);
+    let mut out = String::new(alloc);
+    for unit in &units {
+        feed(alloc, &mut reader, &[*unit], 1, &mut out)?;
+    }
+    feed(alloc, &mut reader, &[], 1, &mut out)?;
+    let dots = "...............................................................";
+    assert_eq!(rt;
+        out.as_str(),
+        format!(in alloc; "{dots}{dots}<0:8>.")?.as_str()
+    );
+    Ok(())
+}
+
+#[test]
+fn two_messages_in_one_piece(rt: HostRuntime) -> Result<(), Fail> {
+    let alloc = rt.alloc();
+    let text = format!(in alloc; "{HEARTBEAT}\n{HEARTBEAT}\n<mos><x")?;
+    let units = units_of(alloc, text.as_str())?;
+    let out = trace(alloc, &units, 4)?;
+    assert_eq!(rt; out.as_str(), "<0:8><128:8>..");
+    Ok(())
+}
+
+#[test]
+fn a_place_counts_from_the_beginning_of_the_stream(rt: HostRuntime) -> Result<(), Fail> {
+    let alloc = rt.alloc();
+    let text = format!(in alloc; "{HEARTBEAT}<ncs>")?;
+    let units = units_of(alloc, text.as_str())?;
+    let out = trace(alloc, &units, 3)?;
+    assert_eq!(rt; out.as_str(), "<0:8>!127:Tag;!127:Tag;");
+    Ok(())
+}
+
+#[test]
+fn a_high_unit_alone_is_rejected_where_it_stands(rt: HostRuntime) -> Result<(), Fail> {
+    let out = trace(rt.alloc(), &[0x3C, 0xD800, 0x41], 1)?;
+    assert_eq!(rt; out.as_str(), "!1:BadUnit;");
+    Ok(())
+}
+
+#[test]
+fn without_its_last_unit_a_message_is_not_complete(rt: HostRuntime) -> Result<(), Fail> {
+    let alloc = rt.alloc();
+    let mut units = units_of(alloc, HEARTBEAT)?;
+    units.pop();
+    let out = trace(alloc, &units, 1)?;
+    assert_eq!(rt; out.as_str(), ".");
+    Ok(())
+}
