@@ -59,14 +59,14 @@ impl Cursor {
     }
 
     /// Takes the next event out.
-    pub(crate) fn pop(&mut self) -> Option<Event>
+    pub fn pop(&mut self) -> Option<Event>
         ensures { MatchOption result ((self.old ≡ []) × (self.new ≡ [])) (λ e. self.old ≡ event_of e ∷ self.new) }
     {
         self.rest.pop()
     }
 
     /// Whether the next event is a text of this field.
-    pub(crate) fn is_leaf(&self, field: Field) -> bool
+    pub fn is_leaf(&self, field: Field) -> bool
         ensures { result ≡ begins_leaf (name_of field) self.now }
     {
         match self.rest.last() {
