@@ -3,7 +3,7 @@ ghost use Rattle.std.specs.Prelude.{◌≡◌, Err};
 ghost use Rattle.mos_grammar.specs.Streams.{before_message, before_prolog, message_step};
 ghost use Rattle.mos_grammar.specs.Streams.{inside as inside_position};
 ghost use Rattle.mos_tokens.specs.TokenView.{IsSound, token_of};
-ghost use Rattle.mos_frames.specs.Ahead.{is_in_raw as is_in_raw_of, stands_in_raw, stands_outside};
+ghost use Rattle.mos_frames.specs.Ahead.{is_in_raw as is_in_raw_of, may_stay, stands_in_raw, stands_outside};
 ghost use Rattle.mos_frames.specs.States.{state_of};
 ghost use Rattle.mos_frames.specs.Standing.{Takes, TakesStep, reads, stage_of, standing_in};
 
@@ -137,6 +137,17 @@ impl Frames {
         ensures { result ≡ stands_outside self.now }
     {
         match self.place {
+            Place::Before(_) => true,
+            _ => false,
+        }
+    }
+
+    /// Whether reading may stay where it is: in front of a message, behind no declaration.
+    pub fn may_rest(&self) -> bool
+        ensures { result ≡ may_stay self.now }
+    {
+        match self.place {
+            Place::Before(Stage::BehindDeclaration) => false,
             Place::Before(_) => true,
             _ => false,
         }

@@ -9,7 +9,7 @@ use Rattle.mos_lexer.specs.Units.{Reader as ReaderOf}
 use Rattle.mos_reader.specs.declared.found.Found.{Found}
 use Rattle.mos_reader.specs.declared.found.ReadFault.{ReadFault}
 use Rattle.mos_reader.specs.declared.found.ReadFault.TheVariants.{Rejected, NoMemory}
-use Rattle.mos_reader.specs.Answers.{Stream, answer_of, stream_behind, Reads}
+use Rattle.mos_reader.specs.Answers.{Stream, answer_of, stream_behind}
 
 pub reads_still : (s : Stream) (run : UnitRun) → ((t : ReaderOf) × (run ≡ still_reads t)) → (answer_of s.base run ≡ Ok None) × (s ≡ stream_behind s run)
 reads_still s run p = (ap (answer_of s.base) p.1, sym (ap (stream_behind s) p.1))

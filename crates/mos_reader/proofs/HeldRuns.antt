@@ -1,6 +1,7 @@
 -- What is held, read as far as a character or as what is none.
-use Rattle.std.proofs.Common.{◌≡◌, ℕ, suc, ◌+◌, ◌-◌, ◌<◌, ◌≤◌, true, false, List, [], ◌∷◌, ◌++◌, length, take, drop, get_or, refl, sym, ap, ◌∙◌, subst, inl, inr, ◌⊎◌, arith, add-one, length-drop, drop-cons}
-use Rattle.std.specs.Prelude.{Option, Some, None, slice_index}
+use Rattle.std.proofs.Common.{◌≡◌, ℕ, suc, ◌+◌, ◌-◌, ◌<◌, ◌≤◌, Bool, true, false, List, [], ◌∷◌, ◌++◌, length, take, drop, get_or, refl, sym, ap, ◌∙◌, subst, inl, inr, ◌⊎◌, arith, add-one, length-drop, drop-cons}
+use Rattle.std.specs.Prelude.{Option, Some, None, slice_index, nat_le, ◌&&◌}
+use Rattle.std.proofs.lemmas.Bool.{le-leb, leb-true}
 use Rattle.std.proofs.lemmas.List.{append-nil, take-append-drop, drop-drop, take-append-le}
 use Rattle.std.specs.Char.Escape.{encode_utf16}
 use Rattle.mos_fields.specs.Characters.{is_high, is_low}
@@ -8,7 +9,7 @@ use Rattle.mos_tables.specs.Events.{Event}
 use Rattle.mos_lexer.specs.declared.kind.Kind.{Kind}
 use Rattle.mos_lexer.specs.declared.kind.Kind.TheVariants as kinds
 use Rattle.mos_lexer.specs.LexMachine.{lex_step}
-use Rattle.mos_lexer.specs.Units.{UnitStep, reads_on, completes, rejects, UnitRun, start_reader, still_reads, completed, rejected_at, message_limit, is_outside, lexed, unit_run}
+use Rattle.mos_lexer.specs.Units.{UnitStep, reads_on, completes, rejects, UnitRun, start_reader, still_reads, completed, rejected_at, message_limit, is_outside, lexed, unit_run, may_rest, is_blank, is_resting}
 use Rattle.mos_lexer.specs.Units.{Reader as ReaderOf}
 use Rattle.mos_lexer.specs.Laws.{run_on}
 use Rattle.mos_lexer.proofs.UnitLaws.{pieces_one}
@@ -160,19 +161,51 @@ nothing_left held n h = empty (drop n held) (let l = length-drop n held in omega
     empty [] e = refl
     empty (x ∷ xs) e = absurd (omega (arith, e))
 
+still_same : (t s : ReaderOf) → still_reads t ≡ still_reads s → t ≡ s
+still_same t s e = cc
+
+high_unrested : (a b : Bool) → (a && b && false) ≡ false
+high_unrested false b = refl
+high_unrested true false = refl
+high_unrested true true = refl
+
+le_true : (a b : ℕ) → a ≤ b → nat_le a b ≡ true
+le_true a b h = le-leb a b h
+
+le_false : (a b : ℕ) → b < a → nat_le a b ≡ false
+le_false a b h = decided (nat_le a b) refl
+  where
+    decided : (x : Bool) → nat_le a b ≡ x → x ≡ false
+    decided true e = absurd (let l = leb-true a b e in omega (arith, h, l))
+    decided false e = refl
+
 module _ (r : Reading) (held : List ℕ) (h : HasRead r held) where
   from_here : unit_run start_reader held ≡ unit_run (reader_of r held) (drop r.here held)
   from_here = rest_run held r.here (reader_of r held) h.same
 
   pub ended_here : length held ≤ r.here → IsPaused r held
-  ended_here l = record { read = h; still = (reader_of r held, from_here ∙ ap (unit_run (reader_of r held)) (nothing_left held r.here l) ∙ nothing_read (reader_of r held)) }
+  ended_here l =
+      let e : unit_run start_reader held ≡ still_reads (reader_of r held) = from_here ∙ ap (unit_run (reader_of r held)) (nothing_left held r.here l) ∙ nothing_read (reader_of r held) in
+      record {
+        read = h;
+        still = (reader_of r held, e);
+        rests = λ t f. ap is_resting (still_same t (reader_of r held) (sym f ∙ e)) ∙ sym (ap (λ b. b && is_resting (reader_of r held)) (le_true (length held) r.here l));
+      }
 
   pub cut_waits : IsCut held r.here → r.here < message_limit → IsPaused r held
   cut_waits i l =
       let a = i.last in
       let d : drop r.here held ≡ slice_index held r.here ∷ [] =
       first_unit held r.here (omega (arith, a)) ∙ ap (λ z. slice_index held r.here ∷ z) (nothing_left held (r.here + 1) (omega (arith, a))) in
-      record { read = h; still = (waiting (reader_of r held) (slice_index held r.here), from_here ∙ (ap (unit_run (reader_of r held)) d ∙ high_waits (reader_of r held) (slice_index held r.here) refl l i.high)) }
+      let e : unit_run start_reader held ≡ still_reads (waiting (reader_of r held) (slice_index held r.here)) = from_here ∙ (ap (unit_run (reader_of r held)) d ∙ high_waits (reader_of r held) (slice_index held r.here) refl l i.high) in
+      record {
+        read = h;
+        still = (waiting (reader_of r held) (slice_index held r.here), e);
+        rests = λ t f.
+            ap is_resting (still_same t (waiting (reader_of r held) (slice_index held r.here)) (sym f ∙ e))
+            ∙ (high_unrested (may_rest (reader_of r held).position) (is_blank (reader_of r held).lex)
+            ∙ sym (ap (λ b. b && is_resting (reader_of r held)) (le_false (length held) r.here (omega (arith, a)))));
+      }
 
   pub high_too_long : is_high (slice_index held r.here) ≡ true → r.here < length held → message_limit ≤ r.here → HasRejected message_limit kinds.TooLong held
   high_too_long i w l =

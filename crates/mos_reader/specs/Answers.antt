@@ -1,6 +1,7 @@
 -- What the reader of a stream answers.
-use Rattle.std.specs.Prelude.{◌≡◌, ◌+◌, ◌-◌, ◌++◌, ℕ, List, [], length, Option, Some, None, Result, Ok, Err}
-use Rattle.mos_lexer.specs.Units.{start_reader, UnitRun, still_reads, completed, rejected_at, unit_run}
+use Rattle.std.specs.Prelude.{◌≡◌, ◌+◌, ◌-◌, ◌++◌, ℕ, Bool, cond, List, [], length, Option, Some, None, Result, Ok, Err}
+use Rattle.mos_lexer.specs.Units.{start_reader, UnitRun, still_reads, completed, rejected_at, unit_run, is_resting}
+use Rattle.mos_lexer.specs.declared.kind.Kind.TheVariants as kinds
 use Rattle.mos_reader.specs.declared.found.Found.{Found}
 use Rattle.mos_reader.specs.declared.found.ReadFault.{ReadFault}
 use Rattle.mos_reader.specs.declared.found.ReadFault.TheVariants.{Rejected, NoMemory}
@@ -34,16 +35,27 @@ stream_behind s (rejected_at place k) = record { base = s.base; held = s.held; f
 abbrev pub failed_with : ReadFault → Stream → Stream
 failed_with k s = record { base = s.base; held = s.held; fault = Some k }
 
--- The next answer of a stream that is read: there is no memory, or it is what the definition says of the units held.
-abbrev pub Reads : Stream → Result (Option Found) ReadFault → Stream → Type 0
-Reads s (Err NoMemory) t = t ≡ failed_with NoMemory s
-Reads s (Err (Rejected place k)) t = (answer_of s.base (unit_run start_reader s.held) ≡ Err (Rejected place k)) × (t ≡ stream_behind s (unit_run start_reader s.held))
-Reads s (Ok o) t = (answer_of s.base (unit_run start_reader s.held) ≡ Ok o) × (t ≡ stream_behind s (unit_run start_reader s.held))
+-- Where the input ends behind so many units of a message that is not complete, the stream is rejected there; white space
+-- and U+FEFF may stand behind the last message.
+abbrev pub ended_run : ℕ → UnitRun → UnitRun
+ended_run count (still_reads t) = cond (is_resting t) (still_reads t) (rejected_at count kinds.End)
+ended_run count (completed began v rest) = completed began v rest
+ended_run count (rejected_at place k) = rejected_at place k
+
+-- what the units held come to, where the input ends behind them or not
+abbrev pub run_of : Bool → Stream → UnitRun
+run_of at_end s = cond at_end (ended_run (length s.held) (unit_run start_reader s.held)) (unit_run start_reader s.held)
+
+-- The next answer of a stream whose units come to this: there is no memory, or it is what that says.
+abbrev pub ComesTo : UnitRun → Stream → Result (Option Found) ReadFault → Stream → Type 0
+ComesTo run s (Err NoMemory) t = t ≡ failed_with NoMemory s
+ComesTo run s (Err (Rejected place k)) t = (answer_of s.base run ≡ Err (Rejected place k)) × (t ≡ stream_behind s run)
+ComesTo run s (Ok o) t = (answer_of s.base run ≡ Ok o) × (t ≡ stream_behind s run)
 
 -- A stream that is read no further is answered with the fault that it has.
-abbrev pub Answers : Option ReadFault → Stream → Result (Option Found) ReadFault → Stream → Type 0
-Answers (Some k) s r t = (r ≡ Err k) × (t ≡ s)
-Answers None s r t = Reads s r t
+abbrev pub Answers : Bool → Option ReadFault → Stream → Result (Option Found) ReadFault → Stream → Type 0
+Answers at_end (Some k) s r t = (r ≡ Err k) × (t ≡ s)
+Answers at_end None s r t = ComesTo (run_of at_end s) s r t
 
 -- units that are fed stand behind those that are held, where the stream is still read
 abbrev pub fed_on : Option ReadFault → Stream → List ℕ → Stream

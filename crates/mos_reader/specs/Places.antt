@@ -1,11 +1,11 @@
 -- Where the reading of a message is, in memory and as the definition's.
-use Rattle.std.specs.Prelude.{◌≡◌, ◌≤◌, ◌<◌, ℕ, List, length, take, drop, Option, Some, None, ⊤}
+use Rattle.std.specs.Prelude.{◌≡◌, ◌≤◌, ◌<◌, ℕ, Bool, List, length, take, drop, Option, Some, None, ⊤, nat_le, ◌&&◌}
 use Rattle.mos_grammar.specs.Streams.{Position, before_message, before_prolog}
 use Rattle.mos_frames.specs.Standing.{Standing, reads, failed}
 use Rattle.mos_tables.specs.Events.{Event}
 use Rattle.mos_lexer.specs.declared.kind.Kind.{Kind}
 use Rattle.mos_lexer.specs.declared.kind.Kind.TheVariants as kinds
-use Rattle.mos_lexer.specs.Units.{UnitStep, reads_on, completes, rejects, start_reader, still_reads, completed, rejected_at, unit_run, message_limit}
+use Rattle.mos_lexer.specs.Units.{UnitStep, reads_on, completes, rejects, start_reader, still_reads, completed, rejected_at, unit_run, message_limit, is_resting}
 use Rattle.mos_lexer.specs.Units.{Reader as ReaderOf}
 use Rattle.mos_lexer.specs.LexMachine.{LexStep, text_before, text_before_mark, in_tag}
 use Rattle.mos_grammar.specs.Tokens.{Token, text}
@@ -96,10 +96,15 @@ Came ReadsOn r held = HasRead r held
 Came (Completes began v) r held = HasCompleted began v r held
 Came (Rejects place k) r held = HasRejected place k held
 
+-- all units were read, and nothing but white space and U+FEFF came since the last message
+abbrev pub rests_at : Reading → List ℕ → Bool
+rests_at r held = nat_le (length held) r.here && is_resting (reader_of r held)
+
 -- all units were read, or all but a high one that waits for its low one
 pub record IsPaused (r : Reading) (held : List ℕ) : Type 0 where
   pub read : HasRead r held
   pub still : (t : ReaderOf) × (unit_run start_reader held ≡ still_reads t)
+  pub rests : (t : ReaderOf) → unit_run start_reader held ≡ still_reads t → is_resting t ≡ rests_at r held
 
 -- what reading all that is held came to
 abbrev pub Ended : Outcome → Reading → List ℕ → Type 0

@@ -1,12 +1,13 @@
 //! Reading a stream.
-ghost use Rattle.std.specs.Prelude.{◌≡◌, ◌+◌, ◌<◌, ◌≤◌, ◌^◌, None, OnErr, OnOk, drop, length, IfOk};
-ghost use Rattle.mos_reader.specs.Answers.{Answers, Reads, fed, fed_on, start_stream};
-ghost use Rattle.mos_reader.specs.Places.{Ended, HasRead};
+ghost use Rattle.std.specs.Prelude.{◌≡◌, ◌+◌, ◌<◌, ◌≤◌, ◌^◌, None, false, true, OnErr, OnOk, drop, length, IfOk};
+ghost use Rattle.mos_reader.specs.Answers.{Answers, ComesTo, fed, fed_on, run_of, start_stream};
+ghost use Rattle.mos_reader.specs.Places.{Ended, HasRead, rests_at};
 
 use crate::found::{Found, ReadFault};
 use crate::outcome::Outcome;
 use crate::reading::Reading;
 use mos_fields::NoMemory;
+use mos_lexer::Kind;
 use std::alloc::Global;
 use std::marker::Model;
 
@@ -57,6 +58,15 @@ fn read_held(
     ensures { IfOk result (λ o. Ended o reading.new (drop from units.now)) }
 {
     reading.read_on(alloc, behind(units, from))
+}
+
+/// Whether all of it was read, and nothing but white space and U+FEFF stands there.
+fn is_at_rest(reading: &Reading, units: &[u16], from: usize) -> bool
+    requires within { from ≤ length units.now }
+    requires read { HasRead reading.now (drop from units.now) }
+    ensures { result ≡ rests_at reading.now (drop from units.now) }
+{
+    reading.is_resting(behind(units, from))
 }
 
 impl Reader {
@@ -126,24 +136,50 @@ impl Reader {
     /// `Rejected` with the place, counted from the beginning of the stream, and the kind of the first fault. `NoMemory`
     /// where memory runs out. Either is answered from then on.
     pub fn next(&mut self) -> Result<Option<Found>, ReadFault>
-        ensures { Answers (self.old).fault self.old result self.new }
+        ensures answer { Answers false (self.old).fault self.old result self.new }
+        ensures bounded { fed self.new < 2 ^ 64 }
     {
         match self.fault {
             Some(fault) => Err(fault),
-            None => self.read(),
+            None => self.read(false),
         }
     }
 
-    fn read(&mut self) -> Result<Option<Found>, ReadFault>
+    /// The same, where the input ends behind what was fed: `None` where nothing but white space and U+FEFF stands behind
+    /// the last message.
+    ///
+    /// # Errors
+    /// `Rejected` with the number of code units that were fed and the kind `End` where a message was begun and isn't
+    /// complete; else as `next`.
+    pub fn end(&mut self) -> Result<Option<Found>, ReadFault>
+        ensures answer { Answers true (self.old).fault self.old result self.new }
+        ensures bounded { fed self.new < 2 ^ 64 }
+    {
+        match self.fault {
+            Some(fault) => Err(fault),
+            None => self.read(true),
+        }
+    }
+
+    fn read(&mut self, at_end: bool) -> Result<Option<Found>, ReadFault>
         requires { (self.old).fault ≡ None }
-        ensures { Reads self.old result self.new }
+        ensures answer { ComesTo (run_of at_end self.old) self.old result self.new }
+        ensures bounded { fed self.new < 2 ^ 64 }
     {
         match read_held(&mut self.reading, self.alloc, &self.held, self.from) {
             Err(_) => {
                 self.fault = Some(ReadFault::NoMemory);
                 Err(ReadFault::NoMemory)
             }
-            Ok(Outcome::ReadsOn) => Ok(None),
+            Ok(Outcome::ReadsOn) => {
+                if at_end && !is_at_rest(&self.reading, &self.held, self.from) {
+                    let ended =
+                        ReadFault::Rejected(self.base + (self.held.len() - self.from), Kind::End);
+                    self.fault = Some(ended);
+                    return Err(ended);
+                }
+                Ok(None)
+            }
             Ok(Outcome::Completes(began, value)) => {
                 let read = self.reading.here;
                 let found = Found {

@@ -9,7 +9,7 @@ ghost use Rattle.mos_scanner.specs.ScannerView.{IsSound, IsTextBefore, IsWhole, 
 ghost use Rattle.mos_scanner.specs.declared.scanned.Kind.TheVariants.{OpenTag};
 ghost use Rattle.mos_frames.specs.Standing.{reads};
 ghost use Rattle.mos_frames.specs.Ahead.{stands_in_raw, stands_outside};
-ghost use Rattle.mos_reader.specs.Places.{HasRead, IsAt, IsPlaced, IsSoundBehind, before_mark, before_tag, outcome_of, position_of, reader_of};
+ghost use Rattle.mos_reader.specs.Places.{HasRead, IsAt, IsPlaced, IsSoundBehind, before_mark, before_tag, outcome_of, position_of, reader_of, rests_at};
 
 use crate::outcome::Outcome;
 use mos_fields::NoMemory;
@@ -91,6 +91,14 @@ impl Reading {
         ensures { HasRead self.now (held.now ++ more.now) }
     {
         self.scanner.stays_read(held, more, self.here);
+    }
+
+    /// Whether all that is held was read, and nothing but white space and U+FEFF of it stands behind the last message.
+    pub fn is_resting(&self, held: &[u16]) -> bool
+        requires { HasRead self.now held.now }
+        ensures { result ≡ rests_at self.now held.now }
+    {
+        held.len() <= self.here && self.frames.may_rest() && self.scanner.is_blank(held, self.here)
     }
 
     /// Where the `<mos` of the message began, or the token that is being read in front of it.

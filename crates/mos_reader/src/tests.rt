@@ -24,6 +24,7 @@ fn kind_word(kind: Kind) -> &'static str {
         Kind::Entity => "Entity",
         Kind::Tag => "Tag",
         Kind::TooLong => "TooLong",
+        Kind::End => "End",
         Kind::Missing(_) => "Missing",
         _ => "another",
     }
@@ -122,5 +123,27 @@ fn without_its_last_unit_a_message_is_not_complete(rt: HostRuntime) -> Result<()
     units.pop();
     let out = trace(alloc, &units, 1)?;
     assert_eq!(rt; out.as_str(), ".");
+    Ok(())
+}
+
+/// What the end of the input comes to behind a text.
+fn end_of(alloc: Global, text: &str) -> Result<String, NoMemory> {
+    let units = units_of(alloc, text)?;
+    let mut reader = Reader::new(alloc);
+    let mut out = String::new(alloc);
+    feed(alloc, &mut reader, &units, 0, &mut out)?;
+    push_answer(alloc, &mut out, reader.end())?;
+    push_answer(alloc, &mut out, reader.end())?;
+    Ok(out)
+}
+
+#[test]
+fn white_space_may_end_a_stream_and_nothing_else(rt: HostRuntime) -> Result<(), Fail> {
+    let alloc = rt.alloc();
+    assert_eq!(rt; end_of(alloc, "")?.as_str(), "..");
+    assert_eq!(rt; end_of(alloc, " \n")?.as_str(), "..");
+    assert_eq!(rt; end_of(alloc, " <")?.as_str(), "!2:End;!2:End;");
+    assert_eq!(rt; end_of(alloc, "<?xml version='1.0'?>")?.as_str(), "!21:End;!21:End;");
+    assert_eq!(rt; end_of(alloc, HEARTBEAT)?.as_str(), "<0:8>.");
     Ok(())
 }

@@ -75,6 +75,13 @@ fn is_white(raw: &[u16]) -> bool
         .all(|u| *u == 32 || *u == 9 || *u == 10 || *u == 13)
 }
 
+/// Characters that are white space, or none.
+pub fn is_white_text(raw: &[u16]) -> bool
+    ensures { result ≡ is_white_of (chars_of raw.now) }
+{
+    is_white(raw)
+}
+
 /// What an attribute begins with, which stands behind white space.
 #[inline(always)]
 pub fn begins_attribute(spaced: bool, c: char) -> bool

@@ -2,11 +2,13 @@
 ghost use Rattle.std.specs.Prelude.{◌≡◌, ◌≤◌, ◌++◌, ℕ, List, [], length, IfOk};
 ghost use Rattle.mos_grammar.specs.Tokens.{text};
 ghost use Rattle.mos_lexer.specs.LexMachine.{lex_step, begin, in_tail, in_tag};
+ghost use Rattle.mos_lexer.specs.Units.{is_blank as is_blank_of};
 ghost use Rattle.mos_tokens.specs.TokenView.{token_of, IsSound as IsSoundToken};
 ghost use Rattle.mos_scanner.specs.Parts.{IsCharacter};
 ghost use Rattle.mos_scanner.specs.ScannerView.{IsSound, IsSoundAfter, IsWhole, IsWholeText, lex_of, scanned_of, kind_token, tag_name, raw_of, resolved};
 ghost use Rattle.mos_scanner.specs.declared.scanned.Kind.TheVariants.{OpenTag};
 
+use crate::chars::is_white_text;
 use crate::mode::Mode;
 use crate::reference::Reference;
 use crate::scanned::{Kind, Scanned};
@@ -182,6 +184,18 @@ impl Scanner {
             &held[self.start..here],
             self.resolved_units(held, self.start, here),
         )
+    }
+
+    /// Whether no token was begun where `held` up to `here` was read, or white space alone of a text.
+    pub fn is_blank(&self, held: &[u16], here: usize) -> bool
+        requires { IsSound self.now held.now here }
+        ensures { result ≡ is_blank_of (lex_of self.now held.now here) }
+    {
+        match self.mode {
+            Mode::Begin => true,
+            Mode::InText => is_white_text(&held[self.start..here]),
+            _ => false,
+        }
     }
 
     /// What was read stays the same where more is held. It does nothing.

@@ -1,0 +1,3 @@
+pub mod StreamLemmas
+pub mod PairLemmas
+pub mod TellingLemmas

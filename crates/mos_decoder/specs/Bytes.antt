@@ -1,0 +1,66 @@
+-- What a decoder of bytes answers.
+use Rattle.std.specs.Prelude.{◌≡◌, ℕ, Bool, true, false, cond, List, [], ◌∷◌, ◌++◌, ◌+◌, length, Option, Some, None, Result, Ok, Err, ⊤}
+use Rattle.mos_fields.specs.Characters.{units_in}
+use Rattle.mos_lexer.specs.declared.kind.Kind.TheVariants as kinds
+use Rattle.mos_lexer.specs.Units.{Reader, StreamReader, StreamRun, reads_stream, rejects_stream, start_stream, start_reader, stream_units, UnitRun, still_reads, completed, rejected_at, unit_run}
+use Rattle.mos_lexer.specs.Units.{Found as FoundOf}
+use Rattle.mos_reader.specs.declared.found.Found.{Found}
+use Rattle.mos_reader.specs.declared.found.ReadFault.{ReadFault}
+use Rattle.mos_reader.specs.declared.found.ReadFault.TheVariants.{Rejected, NoMemory}
+use Rattle.mos_reader.specs.Answers.{Stream, fed_on, run_of, answer_of, stream_behind}
+use Rattle.mos_reader.specs.Answers.{start_stream as start_units}
+use Rattle.mos_decoder.specs.Inputs.{Input, whole, refused, is_odd, input_of}
+
+-- the stream of the code units of whole pairs of bytes, and an odd byte behind them
+pub record ByteStream : Type 0 where
+  pub stream : Stream
+  pub odd : Option ℕ
+
+abbrev pub start_bytes : ByteStream
+start_bytes = record { stream = start_units; odd = None }
+
+-- bytes behind an odd one
+abbrev pub behind_odd : Option ℕ → List ℕ → List ℕ
+behind_odd None bytes = bytes
+behind_odd (Some b) bytes = b ∷ bytes
+
+-- the odd byte behind pairs of bytes
+unfoldable pub odd_in : List ℕ → Option ℕ
+odd_in [] = None
+odd_in (a ∷ []) = Some a
+odd_in (a ∷ b ∷ bs) = odd_in bs
+
+-- bytes that are fed stand behind those that were fed before
+abbrev pub fed_bytes : ByteStream → List ℕ → ByteStream
+fed_bytes s bytes = record { stream = fed_on s.stream.fault s.stream (units_in (behind_odd s.odd bytes)); odd = odd_in (behind_odd s.odd bytes) }
+
+-- ---- what was handed out
+
+abbrev pub found_of : Found → FoundOf
+found_of f = record { began = f.began; value = f.value }
+
+-- in front of a message, behind those that were handed out
+abbrev pub front : List FoundOf → ℕ → StreamReader
+front found base = record { ready = found; base = base; reader = start_reader }
+
+-- Of these bytes these messages were handed out, and what is held stands behind them.
+pub record HasHanded (s : ByteStream) (bytes : List ℕ) (found : List FoundOf) : Type 0 where
+  pub same : stream_units start_stream (units_in bytes) ≡ stream_units (front found s.stream.base) s.stream.held
+  pub count : length (units_in bytes) ≡ s.stream.base + length s.stream.held
+  pub odd : s.odd ≡ odd_in bytes
+  pub reads : s.stream.fault ≡ None
+
+-- What the answer says of the bytes that were fed: one more message is handed out, more is to come, or the stream of
+-- their code units is rejected.
+abbrev pub Tells : List ℕ → List FoundOf → Result (Option Found) ReadFault → ByteStream → Type 0
+Tells bytes found (Ok (Some f)) t = HasHanded t bytes (found ++ found_of f ∷ [])
+Tells bytes found (Ok None) t = HasHanded t bytes found × ((base : ℕ) × (r : Reader) × (stream_units start_stream (units_in bytes) ≡ reads_stream (record { ready = found; base = base; reader = r })))
+Tells bytes found (Err (Rejected place k)) t = (s : StreamReader) × (s.ready ≡ found) × (stream_units start_stream (units_in bytes) ≡ rejects_stream s place k)
+Tells bytes found (Err NoMemory) t = ⊤
+
+-- the same where the input ends behind them
+abbrev pub TellsEnd : List ℕ → List FoundOf → Result (Option Found) ReadFault → ByteStream → Type 0
+TellsEnd bytes found (Ok (Some f)) t = HasHanded t bytes (found ++ found_of f ∷ [])
+TellsEnd bytes found (Ok None) t = input_of bytes ≡ whole found
+TellsEnd bytes found (Err (Rejected place k)) t = input_of bytes ≡ refused found place k
+TellsEnd bytes found (Err NoMemory) t = ⊤

@@ -1,0 +1,108 @@
+//! Reading a stream of bytes.
+ghost use Rattle.std.specs.Prelude.{◌≡◌, ◌+◌, ◌<◌, ◌^◌, ◌++◌, ℕ, List, false, true, OnErr, OnOk, length};
+ghost use Rattle.mos_lexer.specs.Units.{Found as FoundOf};
+ghost use Rattle.mos_reader.specs.Answers.{Answers, fed};
+ghost use Rattle.mos_decoder.specs.Bytes.{HasHanded, Tells, TellsEnd, fed_bytes, start_bytes};
+
+use crate::units::units_behind;
+use mos_fields::NoMemory;
+use mos_lexer::Kind;
+use mos_reader::{Found, ReadFault, Reader};
+use std::alloc::Global;
+use std::marker::Model;
+
+/// Hands out the messages of a stream of bytes as the events of their canonical encodings.
+///
+/// It holds the code units that were fed since the last message that it handed out, those of messages that were handed
+/// out since the last feeding, and an odd byte.
+#[derive(Drop)]
+pub struct EventDecoder {
+    alloc: Global,
+    reader: Reader,
+    odd: Option<u8>,
+}
+
+impl Model for EventDecoder {
+    ghost use Rattle.mos_decoder.specs.Bytes.{ByteStream};
+
+    ghost Value = { ByteStream };
+
+    ghost view = { λ d. record { stream = d.reader; odd = d.odd } };
+}
+
+impl EventDecoder {
+    /// A decoder to which nothing was fed. It takes no memory yet.
+    pub fn new(alloc: Global) -> Self
+        ensures start { result ≡ start_bytes }
+        ensures nothing { HasHanded result [] [] }
+    {
+        EventDecoder {
+            alloc,
+            reader: Reader::new(alloc),
+            odd: None,
+        }
+    }
+
+    /// How many whole code units were fed.
+    pub fn place(&self) -> usize
+        ensures { result ≡ fed (self.now).stream }
+    {
+        self.reader.place()
+    }
+
+    /// Feeds more bytes of the stream. Where it is read no further, they are dropped.
+    ///
+    /// # Errors
+    /// `NoMemory` where memory runs out; then nothing was fed, and it may be tried again.
+    pub fn feed(&mut self, bytes: &[u8]) -> Result<(), NoMemory>
+        requires room { fed (self.old).stream + length bytes.now + 1 < 2 ^ 64 }
+        ensures fed { OnOk result (self.new ≡ fed_bytes self.old bytes.now) }
+        ensures unchanged { OnErr result (self.new ≡ self.old) }
+        ensures handed { OnOk result ((before : List ℕ) (found : List FoundOf) → HasHanded self.old before found → HasHanded self.new (before ++ bytes.now) found) }
+    {
+        let (units, odd) = units_behind(self.alloc, self.odd, bytes)?;
+        self.reader.feed(units.as_slice())?;
+        self.odd = odd;
+        Ok(())
+    }
+
+    /// The next message, `None` where more is to be fed before one is complete, or why the stream is read no further.
+    ///
+    /// # Errors
+    /// `Rejected` with the place, in code units from the beginning of the stream, and the kind of the first fault.
+    /// `NoMemory` where memory runs out. Either is answered from then on.
+    pub fn next(&mut self) -> Result<Option<Found>, ReadFault>
+        ensures answer { Answers false (self.old).stream.fault (self.old).stream result (self.new).stream }
+        ensures odd { (self.new).odd ≡ (self.old).odd }
+        ensures tells { (bytes : List ℕ) (found : List FoundOf) → HasHanded self.old bytes found → Tells bytes found result self.new }
+    {
+        self.reader.next()
+    }
+
+    /// The same, where the input ends behind what was fed: `None` where nothing but white space and U+FEFF stands behind
+    /// the last message.
+    ///
+    /// # Errors
+    /// `Rejected` with the number of whole code units that were fed and the kind `End` where a message was begun and
+    /// isn't complete, or an odd byte is left; else as `next`.
+    pub fn end(&mut self) -> Result<Option<Found>, ReadFault>
+        ensures tells { (bytes : List ℕ) (found : List FoundOf) → HasHanded self.old bytes found → TellsEnd bytes found result self.new }
+    {
+        match self.odd {
+            None => self.reader.end(),
+            Some(_) => self.end_in_a_unit(),
+        }
+    }
+
+    /// The input ends behind an odd byte.
+    fn end_in_a_unit(&mut self) -> Result<Option<Found>, ReadFault>
+        requires { IsSome (self.old).odd }
+        ensures tells { (bytes : List ℕ) (found : List FoundOf) → HasHanded self.old bytes found → TellsEnd bytes found result self.new }
+    {
+        match self.next() {
+            Ok(Some(found)) => Ok(Some(found)),
+            Ok(None) => Err(ReadFault::Rejected(self.place(), Kind::End)),
+            Err(fault) => Err(fault),
+        }
+    }
+}
