@@ -1,5 +1,5 @@
 -- A stream is read message after message.
-use Rattle.std.proofs.Common.{◌≡◌, ℕ, suc, ◌+◌, ◌-◌, ◌≤◌, Bool, true, false, cond, List, [], ◌∷◌, ◌++◌, length, Result, Ok, Err, refl, sym, ap, ◌∙◌, subst, arith}
+use Rattle.std.proofs.Common.{◌≡◌, ℕ, suc, ◌+◌, ◌-◌, ◌<◌, ◌≤◌, Bool, true, false, cond, List, [], ◌∷◌, ◌++◌, length, Result, Ok, Err, refl, sym, ap, ◌∙◌, subst, arith}
 use Rattle.std.specs.Prelude.{Option, Some, None, nat_le, ⊤}
 use Rattle.mos_fields.specs.Characters.{is_allowed, is_high, is_low, pair_char}
 use Rattle.mos_tables.specs.Events.{Event}
@@ -70,7 +70,7 @@ at_reader ready base r = record { ready = ready; base = base; reader = r }
 
 pub record HandsOut (ready : List Found) (base began count : ℕ) (v : List Event) (run : StreamRun) (us rest : List ℕ) : Type 0 where
   pub same : run ≡ stream_units (front (ready ++ record { began = base + began; value = v } ∷ []) (base + (count + (length us - length rest)))) rest
-  pub left : length rest ≤ length us
+  pub left : length rest < length us
 
 completed_same : (a b : ℕ) (v w : List Event) (x y : List ℕ) → completed a v x ≡ completed b w y → (a ≡ b) × (v ≡ w) × (x ≡ y)
 completed_same a b v w x y e = (cc, cc, cc)
@@ -107,7 +107,7 @@ hands_out (u ∷ us) s ready base began v rest e = go (λ t. hands_out us t read
 
 -- A message that is handed out is the next one of the stream, which is read on behind it.
 pub message_first : (ready : List Found) (base began : ℕ) (v : List Event) (us rest : List ℕ) → unit_run start_reader us ≡ completed began v rest
-    → (stream_units (front ready base) us ≡ stream_units (front (ready ++ record { began = base + began; value = v } ∷ []) (base + (length us - length rest))) rest) × (length rest ≤ length us)
+    → (stream_units (front ready base) us ≡ stream_units (front (ready ++ record { began = base + began; value = v } ∷ []) (base + (length us - length rest))) rest) × (length rest < length us)
 message_first ready base began v us rest e =
     let h = hands_out us start_reader ready base began v rest e in
     (h.same ∙ ap (λ z. stream_units (front (ready ++ record { began = base + began; value = v } ∷ []) (base + z)) rest) (let k : 0 + (length us - length rest) ≡ length us - length rest = omega arith in k), h.left)

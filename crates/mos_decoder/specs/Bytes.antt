@@ -11,13 +11,14 @@ use Rattle.mos_reader.specs.Answers.{Stream, fed_on, run_of, answer_of, stream_b
 use Rattle.mos_reader.specs.Answers.{start_stream as start_units}
 use Rattle.mos_decoder.specs.Inputs.{Input, whole, refused, is_odd, input_of}
 
--- the stream of the code units of whole pairs of bytes, and an odd byte behind them
+-- the stream of the code units of whole pairs of bytes, an odd byte behind them, and how many messages were handed out
 pub record ByteStream : Type 0 where
   pub stream : Stream
   pub odd : Option ℕ
+  pub count : ℕ
 
 abbrev pub start_bytes : ByteStream
-start_bytes = record { stream = start_units; odd = None }
+start_bytes = record { stream = start_units; odd = None; count = 0 }
 
 -- bytes behind an odd one
 abbrev pub behind_odd : Option ℕ → List ℕ → List ℕ
@@ -32,7 +33,7 @@ odd_in (a ∷ b ∷ bs) = odd_in bs
 
 -- bytes that are fed stand behind those that were fed before
 abbrev pub fed_bytes : ByteStream → List ℕ → ByteStream
-fed_bytes s bytes = record { stream = fed_on s.stream.fault s.stream (units_in (behind_odd s.odd bytes)); odd = odd_in (behind_odd s.odd bytes) }
+fed_bytes s bytes = record { stream = fed_on s.stream.fault s.stream (units_in (behind_odd s.odd bytes)); odd = odd_in (behind_odd s.odd bytes); count = s.count }
 
 -- ---- what was handed out
 
@@ -46,9 +47,22 @@ front found base = record { ready = found; base = base; reader = start_reader }
 -- Of these bytes these messages were handed out, and what is held stands behind them.
 pub record HasHanded (s : ByteStream) (bytes : List ℕ) (found : List FoundOf) : Type 0 where
   pub same : stream_units start_stream (units_in bytes) ≡ stream_units (front found s.stream.base) s.stream.held
-  pub count : length (units_in bytes) ≡ s.stream.base + length s.stream.held
+  pub units : length (units_in bytes) ≡ s.stream.base + length s.stream.held
+  pub count : s.count ≡ length found
   pub odd : s.odd ≡ odd_in bytes
   pub reads : s.stream.fault ≡ None
+
+-- how many messages were handed out behind an answer
+abbrev pub counted : Result (Option Found) ReadFault → ℕ → ℕ
+counted (Ok (Some f)) n = n + 1
+counted (Ok None) n = n
+counted (Err k) n = n
+
+-- this holds where a message is handed out
+abbrev pub OnFound : Result (Option Found) ReadFault → Type 0 → Type 0
+OnFound (Ok (Some f)) P = P
+OnFound (Ok None) P = ⊤
+OnFound (Err k) P = ⊤
 
 -- What the answer says of the bytes that were fed: one more message is handed out, more is to come, or the stream of
 -- their code units is rejected.

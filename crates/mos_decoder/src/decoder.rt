@@ -1,8 +1,8 @@
 //! Reading a stream of bytes.
-ghost use Rattle.std.specs.Prelude.{◌≡◌, ◌+◌, ◌<◌, ◌^◌, ◌++◌, ℕ, List, false, true, OnErr, OnOk, length};
+ghost use Rattle.std.specs.Prelude.{◌≡◌, ◌+◌, ◌<◌, ◌^◌, ◌++◌, ℕ, List, [], None, IsSome, false, OnErr, OnOk, length};
 ghost use Rattle.mos_lexer.specs.Units.{Found as FoundOf};
 ghost use Rattle.mos_reader.specs.Answers.{Answers, fed};
-ghost use Rattle.mos_decoder.specs.Bytes.{HasHanded, Tells, TellsEnd, fed_bytes, start_bytes};
+ghost use Rattle.mos_decoder.specs.Bytes.{HasHanded, OnFound, Tells, TellsEnd, counted, fed_bytes, start_bytes};
 
 use crate::units::units_behind;
 use mos_fields::NoMemory;
@@ -20,14 +20,19 @@ pub struct EventDecoder {
     alloc: Global,
     reader: Reader,
     odd: Option<u8>,
+    /// so many messages were handed out
+    count: usize,
 }
 
 impl Model for EventDecoder {
+    ghost use Rattle.std.specs.Prelude.{◌≤◌};
     ghost use Rattle.mos_decoder.specs.Bytes.{ByteStream};
 
     ghost Value = { ByteStream };
 
-    ghost view = { λ d. record { stream = d.reader; odd = d.odd } };
+    ghost view = { λ d. record { stream = d.reader; odd = d.odd; count = d.count } };
+
+    ghost invariant = { λ d. d.count ≤ (d.reader).base };
 }
 
 impl EventDecoder {
@@ -40,6 +45,7 @@ impl EventDecoder {
             alloc,
             reader: Reader::new(alloc),
             odd: None,
+            count: 0,
         }
     }
 
@@ -50,12 +56,19 @@ impl EventDecoder {
         self.reader.place()
     }
 
+    /// How many messages were handed out.
+    pub fn count(&self) -> usize
+        ensures { result ≡ (self.now).count }
+    {
+        self.count
+    }
+
     /// Feeds more bytes of the stream. Where it is read no further, they are dropped.
     ///
     /// # Errors
     /// `NoMemory` where memory runs out; then nothing was fed, and it may be tried again.
     pub fn feed(&mut self, bytes: &[u8]) -> Result<(), NoMemory>
-        requires room { fed (self.old).stream + length bytes.now + 1 < 2 ^ 64 }
+        requires room { fed (self.old).stream + length bytes.now < 2 ^ 64 }
         ensures fed { OnOk result (self.new ≡ fed_bytes self.old bytes.now) }
         ensures unchanged { OnErr result (self.new ≡ self.old) }
         ensures handed { OnOk result ((before : List ℕ) (found : List FoundOf) → HasHanded self.old before found → HasHanded self.new (before ++ bytes.now) found) }
@@ -74,9 +87,18 @@ impl EventDecoder {
     pub fn next(&mut self) -> Result<Option<Found>, ReadFault>
         ensures answer { Answers false (self.old).stream.fault (self.old).stream result (self.new).stream }
         ensures odd { (self.new).odd ≡ (self.old).odd }
+        ensures count { (self.new).count ≡ counted result (self.old).count }
         ensures tells { (bytes : List ℕ) (found : List FoundOf) → HasHanded self.old bytes found → Tells bytes found result self.new }
+        ensures shorter { OnFound result (length (self.new).stream.held < length (self.old).stream.held) }
     {
-        self.reader.next()
+        match self.reader.next() {
+            Ok(Some(found)) => {
+                self.count += 1;
+                Ok(Some(found))
+            }
+            Ok(None) => Ok(None),
+            Err(fault) => Err(fault),
+        }
     }
 
     /// The same, where the input ends behind what was fed: `None` where nothing but white space and U+FEFF stands behind
@@ -86,17 +108,35 @@ impl EventDecoder {
     /// `Rejected` with the number of whole code units that were fed and the kind `End` where a message was begun and
     /// isn't complete, or an odd byte is left; else as `next`.
     pub fn end(&mut self) -> Result<Option<Found>, ReadFault>
+        ensures count { (self.new).count ≡ counted result (self.old).count }
         ensures tells { (bytes : List ℕ) (found : List FoundOf) → HasHanded self.old bytes found → TellsEnd bytes found result self.new }
     {
         match self.odd {
-            None => self.reader.end(),
+            None => self.end_with_a_unit(),
             Some(_) => self.end_in_a_unit(),
+        }
+    }
+
+    /// The input ends behind whole code units.
+    fn end_with_a_unit(&mut self) -> Result<Option<Found>, ReadFault>
+        requires { (self.old).odd ≡ None }
+        ensures count { (self.new).count ≡ counted result (self.old).count }
+        ensures tells { (bytes : List ℕ) (found : List FoundOf) → HasHanded self.old bytes found → TellsEnd bytes found result self.new }
+    {
+        match self.reader.end() {
+            Ok(Some(found)) => {
+                self.count += 1;
+                Ok(Some(found))
+            }
+            Ok(None) => Ok(None),
+            Err(fault) => Err(fault),
         }
     }
 
     /// The input ends behind an odd byte.
     fn end_in_a_unit(&mut self) -> Result<Option<Found>, ReadFault>
         requires { IsSome (self.old).odd }
+        ensures count { (self.new).count ≡ counted result (self.old).count }
         ensures tells { (bytes : List ℕ) (found : List FoundOf) → HasHanded self.old bytes found → TellsEnd bytes found result self.new }
     {
         match self.next() {
