@@ -136,7 +136,7 @@ module _ (s t : ByteStream) (bytes : List ℕ) (found : List FoundOf) (h : HasHa
 
   rested : (x : Reader) (b : Bool) → s.odd ≡ None → unit_run start_reader s.stream.held ≡ still_reads x → is_resting x ≡ b → (result : Result (Option Found) ReadFault)
       → ComesTo (cond b (still_reads x) (rejected_at (length s.stream.held) kinds.End)) s.stream result t.stream → t.count ≡ counted result s.count → TellsEnd bytes found result t
-  rested x true o e f (Ok None) (a, b) n = ends_whole x o e f
+  rested x true o e f (Ok None) (a, b) n = (same_handed b n, ends_whole x o e f)
   rested x true o e f (Ok (Some g)) (a, b) n = absurd (cc)
   rested x true o e f (Err (Rejected p j)) (a, b) n = absurd (cc)
   rested x true o e f (Err NoMemory) a n = tt

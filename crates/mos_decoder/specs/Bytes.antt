@@ -75,6 +75,6 @@ Tells bytes found (Err NoMemory) t = ⊤
 -- the same where the input ends behind them
 abbrev pub TellsEnd : List ℕ → List FoundOf → Result (Option Found) ReadFault → ByteStream → Type 0
 TellsEnd bytes found (Ok (Some f)) t = HasHanded t bytes (found ++ found_of f ∷ [])
-TellsEnd bytes found (Ok None) t = input_of bytes ≡ whole found
+TellsEnd bytes found (Ok None) t = HasHanded t bytes found × (input_of bytes ≡ whole found)
 TellsEnd bytes found (Err (Rejected place k)) t = input_of bytes ≡ refused found place k
 TellsEnd bytes found (Err NoMemory) t = ⊤

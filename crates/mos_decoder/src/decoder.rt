@@ -110,6 +110,7 @@ impl EventDecoder {
     pub fn end(&mut self) -> Result<Option<Found>, ReadFault>
         ensures count { (self.new).count ≡ counted result (self.old).count }
         ensures tells { (bytes : List ℕ) (found : List FoundOf) → HasHanded self.old bytes found → TellsEnd bytes found result self.new }
+        ensures shorter { OnFound result (length (self.new).stream.held < length (self.old).stream.held) }
     {
         match self.odd {
             None => self.end_with_a_unit(),
@@ -122,6 +123,7 @@ impl EventDecoder {
         requires { (self.old).odd ≡ None }
         ensures count { (self.new).count ≡ counted result (self.old).count }
         ensures tells { (bytes : List ℕ) (found : List FoundOf) → HasHanded self.old bytes found → TellsEnd bytes found result self.new }
+        ensures shorter { OnFound result (length (self.new).stream.held < length (self.old).stream.held) }
     {
         match self.reader.end() {
             Ok(Some(found)) => {
@@ -138,6 +140,7 @@ impl EventDecoder {
         requires { IsSome (self.old).odd }
         ensures count { (self.new).count ≡ counted result (self.old).count }
         ensures tells { (bytes : List ℕ) (found : List FoundOf) → HasHanded self.old bytes found → TellsEnd bytes found result self.new }
+        ensures shorter { OnFound result (length (self.new).stream.held < length (self.old).stream.held) }
     {
         match self.next() {
             Ok(Some(found)) => Ok(Some(found)),

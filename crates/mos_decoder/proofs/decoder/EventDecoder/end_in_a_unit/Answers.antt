@@ -1,5 +1,5 @@
-use Rattle.std.proofs.Common.{Ok, subst}
-use Rattle.mos_decoder.specs.Bytes.{Tells}
+use Rattle.std.proofs.Common.{◌<◌, length, Ok, subst}
+use Rattle.mos_decoder.specs.Bytes.{OnFound, Tells}
 use Rattle.mos_decoder.proofs.TellingLemmas.{told_ended, ended_odd}
 use Rattle.mos_decoder.proofs.decoder.EventDecoder.end_in_a_unit.Goals as goal
 
@@ -11,3 +11,6 @@ returns-in-Ok-None-clause-tells c = λ bytes found h. ended_odd c.args.self.now 
 
 pub returns-in-Err-clause-tells : goal.returns-in-Err-clause-tells
 returns-in-Err-clause-tells c = λ bytes found h. told_ended bytes found c.in-Err.fault _ (c.in-Err.ensures.tells bytes found h)
+
+pub returns-in-Ok-Some-clause-shorter : goal.returns-in-Ok-Some-clause-shorter
+returns-in-Ok-Some-clause-shorter c = subst (λ z. OnFound (Ok z) (length c.next.new.self.stream.held < length c.args.self.now.stream.held)) c.in-Ok-Some.field-0-is c.in-Ok-Some.ensures.shorter

@@ -1,4 +1,4 @@
-use Rattle.std.proofs.Common.{◌≡◌, ◌+◌, ◌∙◌, Ok, Err, refl, sym, ap, subst, arith}
+use Rattle.std.proofs.Common.{◌≡◌, ◌+◌, ◌<◌, ◌∙◌, length, Ok, Err, refl, sym, ap, subst, arith}
 use Rattle.std.specs.Prelude.{Some, None, false, true}
 use Rattle.mos_reader.specs.Answers.{Answers}
 use Rattle.mos_decoder.specs.Bytes.{HasHanded}
@@ -26,3 +26,8 @@ returns-in-Ok-None-clause-tells c = λ bytes found h. tells_end record { stream 
 
 pub returns-in-Err-clause-tells : goal.returns-in-Err-clause-tells
 returns-in-Err-clause-tells c = λ bytes found h. tells_end record { stream = c.self.inside.reader; odd = c.self.inside.odd; count = c.self.inside.count } _ bytes found (subst (λ z. HasHanded z bytes found) (sym c.self.view_is) h) refl (Err c.in-Err.fault) (ap (λ z. z.odd) c.self.view_is ∙ c.requires) c.in-Err.ensures.answer refl
+
+pub returns-in-Ok-Some-clause-shorter : goal.returns-in-Ok-Some-clause-shorter
+returns-in-Ok-Some-clause-shorter c =
+    subst (λ z. length c.end.new.self.held < length z.stream.held) c.self.view_is
+    (found_grows true _ c.self.inside.reader c.end.new.self c.in-Ok-Some.found (subst (λ z. Answers true c.self.inside.reader.fault c.self.inside.reader (Ok z) c.end.new.self) c.in-Ok-Some.field-0-is c.in-Ok-Some.ensures.answer)).shorter
