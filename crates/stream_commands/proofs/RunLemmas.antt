@@ -1,0 +1,234 @@
+-- What a run has written.
+use Rattle.std.proofs.Common.{◌≡◌, ℕ, ◌<◌, ◌≤◌, ◌+◌, ◌^◌, Bool, true, false, List, [], ◌∷◌, ◌++◌, length, take, unwrap_or, Result, Ok, Err, refl, sym, ap, ◌∙◌, subst, arith, inl, inr, ◌⊎◌}
+use Rattle.std.specs.Prelude.{Option, Some, None, ⊤}
+use Rattle.std.specs.List.{flat_map}
+use Rattle.std.proofs.lemmas.List.{append_assoc, append-nil, length-append}
+use Rattle.mos_fields.specs.Characters.{units_in}
+use Rattle.mos_io.specs.Bytes.{Appends, Falls, IsAtEnd, Takes}
+use Rattle.mos_io.specs.Counts.{Rose, last_count}
+use Rattle.mos_lexer.specs.declared.kind.Kind.{Kind}
+use Rattle.mos_lexer.specs.Units.{Found, StreamReader, start_stream, stream_units, rejects_stream}
+use Rattle.mos_reader.specs.declared.found.Found.{Found as Read}
+use Rattle.mos_reader.specs.declared.found.ReadFault.{ReadFault}
+use Rattle.mos_reader.specs.declared.found.ReadFault.TheVariants.{Rejected, NoMemory}
+use Rattle.mos_decoder.specs.Inputs.{Input, whole, refused, input_of}
+use Rattle.mos_decoder.specs.Bytes.{ByteStream, HasHanded, Tells, TellsEnd, found_of}
+use Rattle.mos_reader.specs.Answers.{fed}
+use Rattle.mos_decoder.proofs.TellingLemmas.{told_rejected}
+use Rattle.mos_decoder.proofs.PairLemmas.{few_units}
+use Rattle.stream_commands.specs.Lines.{refused_line}
+use Rattle.stream_commands.specs.declared.command.Command.{Command}
+use Rattle.stream_commands.specs.declared.command.Command.TheVariants.{Show, Check}
+use Rattle.stream_commands.specs.declared.status.Status.{Status}
+use Rattle.stream_commands.specs.declared.status.Status.TheVariants as statuses
+use Rattle.stream_commands.specs.Running.{line_of, lines_of, last_line, output_of, IsBounded, Reads, ReadsAll, IsDone, IsRefused, IsShown, ShowsAt, HasHeard, HasHeardAll, HasRefused, TellsAt, HeardAt, Hears, WritesLine, Refuses, Stops, EndsSo}
+
+-- ---- what was written
+
+pub appends_nothing : (a b : Option (List ℕ)) → b ≡ a → Appends a b []
+appends_nothing None b e = e
+appends_nothing (Some w) b e = e ∙ ap Some (sym (append-nil w))
+
+pub appends_both : (a b c : Option (List ℕ)) (x y : List ℕ) → Appends a b x → Appends b c y → Appends a c (x ++ y)
+appends_both None b c x y e f = subst (λ z. Appends z c y) e f
+appends_both (Some w) b c x y e f = (subst (λ z. Appends z c y) e f) ∙ ap Some (append_assoc w x y)
+
+pub rose_after : (a b c : ℕ) → a ≤ b → Rose b c → Rose a c
+rose_after a b c h (inl r) = inl (omega (arith, h, r))
+rose_after a b c h (inr r) = inr r
+
+lines_both : (w : Command) (fs gs : List Found) → lines_of w (fs ++ gs) ≡ lines_of w fs ++ lines_of w gs
+lines_both w [] gs = refl
+lines_both w (f ∷ fs) gs = ap (λ z. line_of w f ++ z) (lines_both w fs gs) ∙ sym (append_assoc (line_of w f) (lines_of w fs) (lines_of w gs))
+
+pub one_more_line : (w : Command) (fs : List Found) (f : Found) → lines_of w (fs ++ f ∷ []) ≡ lines_of w fs ++ line_of w f
+one_more_line w fs f = lines_both w fs (f ∷ []) ∙ ap (λ z. lines_of w fs ++ z) (append-nil (line_of w f))
+
+-- ---- rejections
+
+pub refuses_fault : (line : List ℕ) (a b : Option (List ℕ)) (f g : ℕ) (k : Status) → WritesLine line a b f g (Err k) → Refuses line a b f g k
+refuses_fault line a b f g statuses.Done h = absurd h
+refuses_fault line a b f g statuses.Refused h = absurd h
+refuses_fault line a b f g statuses.Usage h = absurd h
+refuses_fault line a b f g statuses.ReadFault h = absurd h
+refuses_fault line a b f g statuses.WriteFault h = h
+refuses_fault line a b f g statuses.NoMemory h = h
+
+-- a line that wasn't written
+pub hears_fault : (at_end : Bool) (w : Command) (bytes line : List ℕ) (k : Status) (s : ByteStream) (start a b : Option (List ℕ)) (e f g : ℕ) → e ≤ f → WritesLine line a b f g (Err k) → Hears at_end w bytes (Err k) s start b e g
+hears_fault at_end w bytes line statuses.Done s start a b e f g l h = absurd h
+hears_fault at_end w bytes line statuses.Refused s start a b e f g l h = absurd h
+hears_fault at_end w bytes line statuses.Usage s start a b e f g l h = absurd h
+hears_fault at_end w bytes line statuses.ReadFault s start a b e f g l h = absurd h
+hears_fault at_end w bytes line statuses.WriteFault s start a b e f g l h = rose_after e f g l h
+hears_fault at_end w bytes line statuses.NoMemory s start a b e f g l h = tt
+
+-- ---- a message
+
+pub handed_told : (at_end : Bool) (bytes : List ℕ) (found : List Found) (f : Read) (t : ByteStream) → TellsAt at_end bytes found (Ok (Some f)) t → HasHanded t bytes (found ++ found_of f ∷ [])
+handed_told true bytes found f t h = h
+handed_told false bytes found f t h = h
+
+pub heard_more : (at_end : Bool) (w : Command) (bytes : List ℕ) (s t : ByteStream) (start a b : Option (List ℕ)) (f : Read)
+    → ((found : List Found) → HasHanded s bytes found → TellsAt at_end bytes found (Ok (Some f)) t) → HasHeard w bytes s start a → Appends a b (line_of w (found_of f)) → HasHeard w bytes t start b
+heard_more at_end w bytes s t start a b f tells h e = record {
+  found = h.found ++ found_of f ∷ [];
+  handed = handed_told at_end bytes h.found f t (tells h.found h.handed);
+  writes = subst (Appends start b) (sym (one_more_line w h.found (found_of f))) (appends_both start a b (lines_of w h.found) (line_of w (found_of f)) h.writes e);
+}
+
+-- ---- no more of them
+
+pub heard_all : (at_end : Bool) (w : Command) (bytes : List ℕ) (s t : ByteStream) (start a : Option (List ℕ))
+    → ((found : List Found) → HasHanded s bytes found → TellsAt at_end bytes found (Ok None) t) → HasHeard w bytes s start a → HeardAt at_end w bytes t start a
+heard_all false w bytes s t start a tells h = record { found = h.found; handed = (tells h.found h.handed).0; writes = h.writes }
+heard_all true w bytes s t start a tells h = let r = tells h.found h.handed in record { found = h.found; handed = r.0; writes = h.writes; input = r.1 }
+
+-- ---- a rejection
+
+has_refused : (at_end : Bool) (bytes : List ℕ) (found : List Found) (place : ℕ) (k : Kind) (t : ByteStream) → TellsAt at_end bytes found (Err (Rejected place k)) t
+    → (input_of bytes ≡ refused found place k) × ShowsAt at_end bytes place k
+has_refused true bytes found place k t h = (h, tt)
+has_refused false bytes found place k t h = (told_rejected bytes found place k h, (h.0, h.2))
+
+-- what refusing comes to
+pub refused_heard : (at_end : Bool) (w : Command) (bytes : List ℕ) (place : ℕ) (kind : Kind) (s t : ByteStream) (start a b : Option (List ℕ)) (e f g : ℕ) (k : Status)
+    → ((found : List Found) → HasHanded s bytes found → TellsAt at_end bytes found (Err (Rejected place kind)) t) → HasHeard w bytes s start a → e ≤ f → Refuses (refused_line place kind) a b f g k → Hears at_end w bytes (Err k) t start b e g
+refused_heard at_end w bytes place kind s t start a b e f g statuses.Done tells h l r = absurd r
+refused_heard at_end w bytes place kind s t start a b e f g statuses.Usage tells h l r = absurd r
+refused_heard at_end w bytes place kind s t start a b e f g statuses.ReadFault tells h l r = absurd r
+refused_heard at_end w bytes place kind s t start a b e f g statuses.WriteFault tells h l r = rose_after e f g l r
+refused_heard at_end w bytes place kind s t start a b e f g statuses.NoMemory tells h l r = tt
+refused_heard at_end w bytes place kind s t start a b e f g statuses.Refused tells h l r =
+    let q = has_refused at_end bytes h.found place kind t (tells h.found h.handed) in
+    record {
+      found = h.found;
+      place = place;
+      kind = kind;
+      input = q.0;
+      shows = q.1;
+      writes = appends_both start a b (lines_of w h.found) (refused_line place kind) h.writes r;
+    }
+
+-- what stopping at a fault comes to
+pub stopped_heard : (at_end : Bool) (w : Command) (bytes : List ℕ) (fault : ReadFault) (s t : ByteStream) (start a b : Option (List ℕ)) (e f g : ℕ) (k : Status)
+    → ((found : List Found) → HasHanded s bytes found → TellsAt at_end bytes found (Err fault) t) → HasHeard w bytes s start a → e ≤ f → Stops fault a b f g k → Hears at_end w bytes (Err k) t start b e g
+stopped_heard at_end w bytes (Rejected place kind) s t start a b e f g k tells h l r = refused_heard at_end w bytes place kind s t start a b e f g k tells h l r
+stopped_heard at_end w bytes NoMemory s t start a b e f g k tells h l r = subst (λ z. Hears at_end w bytes (Err z) t start b e g) (sym r) tt
+
+-- ---- more bytes
+
+pub heard_fed : (w : Command) (before more : List ℕ) (s t : ByteStream) (start a : Option (List ℕ)) → ((found : List Found) → HasHanded s before found → HasHanded t (before ++ more) found) → HasHeard w before s start a → HasHeard w (before ++ more) t start a
+heard_fed w before more s t start a f h = record { found = h.found; handed = f h.found h.handed; writes = h.writes }
+
+-- ---- the end of a run
+
+pub ends_fault : (w : Command) (bytes : List ℕ) (s : ByteStream) (start b : Option (List ℕ)) (f g : ℕ) (k : Status) → Hears true w bytes (Err k) s start b f g → EndsSo w bytes k start b f g
+ends_fault w bytes s start b f g statuses.Done h = absurd h
+ends_fault w bytes s start b f g statuses.Refused h = h
+ends_fault w bytes s start b f g statuses.Usage h = absurd h
+ends_fault w bytes s start b f g statuses.ReadFault h = absurd h
+ends_fault w bytes s start b f g statuses.WriteFault h = h
+ends_fault w bytes s start b f g statuses.NoMemory h = h
+
+pub ends_unwritten : (w : Command) (bytes line : List ℕ) (start a b : Option (List ℕ)) (e f g : ℕ) (k : Status) → e ≤ f → WritesLine line a b f g (Err k) → EndsSo w bytes k start b e g
+ends_unwritten w bytes line start a b e f g statuses.Done l h = absurd h
+ends_unwritten w bytes line start a b e f g statuses.Refused l h = absurd h
+ends_unwritten w bytes line start a b e f g statuses.Usage l h = absurd h
+ends_unwritten w bytes line start a b e f g statuses.ReadFault l h = absurd h
+ends_unwritten w bytes line start a b e f g statuses.WriteFault l h = rose_after e f g l h
+ends_unwritten w bytes line start a b e f g statuses.NoMemory l h = tt
+
+pub ends_done : (w : Command) (bytes : List ℕ) (s : ByteStream) (start a b : Option (List ℕ)) → (h : HasHeardAll w bytes s start a) → Appends a b (last_line w h.found (length (units_in bytes)))
+    → (found : List Found) × (input_of bytes ≡ whole found) × Appends start b (output_of w (length (units_in bytes)) (whole found))
+ends_done w bytes s start a b h e = (h.found, h.input, appends_both start a b (lines_of w h.found) (last_line w h.found (length (units_in bytes))) h.writes e)
+
+-- what the end says of each status
+module _ (w : Command) (bytes : List ℕ) (start b : Option (List ℕ)) (f g : ℕ) (k : Status) (h : EndsSo w bytes k start b f g) where
+  ended_as : (j : Status) → k ≡ j → EndsSo w bytes j start b f g
+  ended_as j e = subst (λ z. EndsSo w bytes z start b f g) e h
+
+  pub ended_done : (x y : Option (List ℕ)) → ReadsAll x y bytes → k ≡ statuses.Done → IsDone w x y start b
+  ended_done x y r e = let p = ended_as statuses.Done e in record { bytes = bytes; found = p.0; reads = r; input = p.1; writes = p.2 }
+
+  pub ended_refused : (x y : Option (List ℕ)) → ReadsAll x y bytes → k ≡ statuses.Refused → IsRefused w x y start b
+  ended_refused x y r e =
+      let p = ended_as statuses.Refused e in
+      record { bytes = bytes; found = p.found; place = p.place; kind = p.kind; reads = inr r; input = p.input; writes = p.writes }
+
+  pub ended_usage : k ≡ statuses.Usage → ⊥
+  ended_usage e = ended_as statuses.Usage e
+
+  pub ended_read_fault : k ≡ statuses.ReadFault → ⊥
+  ended_read_fault e = ended_as statuses.ReadFault e
+
+  pub ended_write_fault : (i : ℕ) → i ≤ f → k ≡ statuses.WriteFault → Rose i g
+  ended_write_fault i l e = rose_after i f g l (ended_as statuses.WriteFault e)
+
+-- what a piece says of each status
+module _ (w : Command) (bytes : List ℕ) (s : ByteStream) (start b : Option (List ℕ)) (f g : ℕ) (k : Status) (h : Hears false w bytes (Err k) s start b f g) where
+  heard_as : (j : Status) → k ≡ j → Hears false w bytes (Err j) s start b f g
+  heard_as j e = subst (λ z. Hears false w bytes (Err z) s start b f g) e h
+
+  pub heard_done : k ≡ statuses.Done → ⊥
+  heard_done e = heard_as statuses.Done e
+
+  pub heard_refused : (x y : Option (List ℕ)) → Reads x y bytes → k ≡ statuses.Refused → IsRefused w x y start b
+  heard_refused x y r e =
+      let p = heard_as statuses.Refused e in
+      record { bytes = bytes; found = p.found; place = p.place; kind = p.kind; reads = inl (r, p.shows); input = p.input; writes = p.writes }
+
+  pub heard_usage : k ≡ statuses.Usage → ⊥
+  heard_usage e = heard_as statuses.Usage e
+
+  pub heard_read_fault : k ≡ statuses.ReadFault → ⊥
+  heard_read_fault e = heard_as statuses.ReadFault e
+
+  pub heard_write_fault : (i : ℕ) → i ≤ f → k ≡ statuses.WriteFault → Rose i g
+  heard_write_fault i l e = rose_after i f g l (heard_as statuses.WriteFault e)
+
+-- ---- the source
+
+pub reads_all : (a b c : Option (List ℕ)) (bytes buf : List ℕ) (n : ℕ) → n ≡ 0 → Reads a b bytes → IsAtEnd b → Takes b c (take n buf) → ReadsAll a c bytes
+reads_all a b c bytes buf n z r i t = λ left e.
+    let p = r left e in
+    let rest = p.0 in
+    let nil : rest ≡ [] = subst IsAtEnd p.2 i in
+    let q = subst (λ o. Takes o c (take n buf)) p.2 t in
+    let none : take n buf ++ q.0 ≡ [] = sym q.1 ∙ nil in
+    (sym (p.1 ∙ (ap (λ y. bytes ++ y) nil ∙ append-nil bytes)), q.2 ∙ ap Some (behind_nil (take n buf) q.0 none))
+  where
+    behind_nil : (x y : List ℕ) → x ++ y ≡ [] → y ≡ []
+    behind_nil [] y e = e
+    behind_nil (u ∷ x) y e = absurd (cc)
+
+pub reads_more : (a b c : Option (List ℕ)) (bytes more : List ℕ) → Reads a b bytes → Takes b c more → Reads a c (bytes ++ more)
+reads_more a b c bytes more r t = λ left e.
+    let p = r left e in
+    let q = subst (λ o. Takes o c more) p.2 t in
+    (q.0, p.1 ∙ (ap (λ y. bytes ++ y) q.1 ∙ sym (append_assoc bytes more q.0)), q.2)
+
+pub reads_none : (a : Option (List ℕ)) → Reads a a []
+reads_none a = λ left e. (left, refl, e)
+
+pub falls_bounded : (b c : Option ℕ) (n : ℕ) → IsBounded b → Falls b c n → IsBounded c × (unwrap_or b 0 ≡ unwrap_or c 0 + n)
+falls_bounded None c n i f = absurd i
+falls_bounded (Some b) c n i (rest, e, g) = (subst IsBounded (sym g) (let l : rest < 2 ^ 64 = omega (arith, i, e) in l), e ∙ ap (λ z. unwrap_or z 0 + n) (sym g))
+
+bounded_value : (b : Option ℕ) → IsBounded b → unwrap_or b 0 < 2 ^ 64
+bounded_value None i = absurd i
+bounded_value (Some b) i = i
+
+pub room_left : (d : ByteStream) (bytes : List ℕ) (found : List Found) (a b c : Option ℕ) (n : ℕ) → HasHanded d bytes found → IsBounded a → IsBounded b → unwrap_or a 0 ≡ unwrap_or b 0 + length bytes → Falls b c n → fed d.stream + n < 2 ^ 64
+room_left d bytes found a b c n h i j s f =
+    let u = h.units in
+    let l = few_units None bytes in
+    let v = bounded_value a i in
+    let w = (falls_bounded b c n j f).1 in
+    omega (arith, u, l, v, w, s)
+
+pub spent_more : (a b c : Option ℕ) (n : ℕ) (bytes more : List ℕ) → IsBounded b → unwrap_or a 0 ≡ unwrap_or b 0 + length bytes → Falls b c n → length more ≡ n → unwrap_or a 0 ≡ unwrap_or c 0 + length (bytes ++ more)
+spent_more a b c n bytes more i s f l =
+    let w = (falls_bounded b c n i f).1 in
+    let m = length-append bytes more in
+    omega (arith, w, m, s, l)

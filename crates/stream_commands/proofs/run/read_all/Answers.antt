@@ -1,0 +1,78 @@
+use Rattle.std.proofs.Common.{◌≡◌, ◌+◌, ◌++◌, ◌≤◌, length, take, arith, subst, sym}
+use Rattle.std.proofs.lemmas.List.{length-take-le}
+use Rattle.mos_io.specs.Bytes.{Falls, IsAtEnd, Takes}
+use Rattle.stream_commands.proofs.RunLemmas.{ended_done, ended_refused, ended_usage, ended_read_fault, ended_write_fault, heard_done, heard_refused, heard_usage, heard_read_fault, heard_write_fault, reads_all, reads_more, falls_bounded, room_left, spent_more, reads_none}
+use Rattle.stream_commands.proofs.run.read_all.Goals as goal
+
+pub returns-in-Ok-eq0-clause-done : goal.returns-in-Ok-eq0-clause-done
+returns-in-Ok-eq0-clause-done g c = λ e.
+    let i = c.piece.invariant in
+    let z = c.in-Ok-eq0.field-0-test in
+    let x = c.in-Ok-eq0.ensures in
+    ended_done c.args.command i.bytes _ _ _ _ c.end.result (c.end.ensures.ended i.bytes _ i.heard) _ _ (reads_all _ _ _ i.bytes c.read.new.buf c.in-Ok-eq0.field-0 z i.reads (x.ended z) x.taken) e
+
+pub returns-in-Ok-eq0-clause-refused : goal.returns-in-Ok-eq0-clause-refused
+returns-in-Ok-eq0-clause-refused g c = λ e.
+    let i = c.piece.invariant in
+    let z = c.in-Ok-eq0.field-0-test in
+    let x = c.in-Ok-eq0.ensures in
+    ended_refused c.args.command i.bytes _ _ _ _ c.end.result (c.end.ensures.ended i.bytes _ i.heard) _ _ (reads_all _ _ _ i.bytes c.read.new.buf c.in-Ok-eq0.field-0 z i.reads (x.ended z) x.taken) e
+
+pub returns-in-Ok-eq0-clause-usage : goal.returns-in-Ok-eq0-clause-usage
+returns-in-Ok-eq0-clause-usage g c = λ e. let i = c.piece.invariant in ended_usage c.args.command i.bytes _ _ _ _ c.end.result (c.end.ensures.ended i.bytes _ i.heard) e
+
+pub returns-in-Ok-eq0-clause-read_fault : goal.returns-in-Ok-eq0-clause-read_fault
+returns-in-Ok-eq0-clause-read_fault g c = λ e. let i = c.piece.invariant in absurd (ended_read_fault c.args.command i.bytes _ _ _ _ c.end.result (c.end.ensures.ended i.bytes _ i.heard) e)
+
+pub returns-in-Ok-eq0-clause-write_fault : goal.returns-in-Ok-eq0-clause-write_fault
+returns-in-Ok-eq0-clause-write_fault g c = λ e. let i = c.piece.invariant in ended_write_fault c.args.command i.bytes _ _ _ _ c.end.result (c.end.ensures.ended i.bytes _ i.heard) _ i.sink_rises e
+
+pub hear_piece-requires : goal.hear_piece-requires
+hear_piece-requires g c =
+    let i = c.piece.invariant in
+    let x = c.in-Ok.ensures in
+    let w = x.within in
+    let n = c.read.auto.buf in
+    let l = length-take-le c.in-Ok.count c.read.new.buf (omega (arith, w, n)) in
+    let r = room_left c.piece.decoder i.bytes i.heard.found _ _ _ c.in-Ok.count i.heard.handed c.requires.bounded i.bounded i.spent x.bounded in
+    record { room = omega (arith, l, r) }
+
+pub piece-preserved : goal.piece-preserved
+piece-preserved g c =
+    let i = c.piece.invariant in
+    let x = c.in-Ok.ensures in
+    let s = i.source_rises in
+    let t = x.rises in
+    let u = i.sink_rises in
+    let v = c.hear_piece.ensures.rises in
+    let f = i.full in
+    let n = c.read.auto.buf in
+    let w = x.within in
+    record {
+      full = omega (arith, f, n);
+      bounded = (falls_bounded _ _ c.in-Ok.count i.bounded x.bounded).0;
+      source_rises = omega (arith, s, t);
+      sink_rises = omega (arith, u, v);
+      bytes = i.bytes ++ take c.in-Ok.count c.read.new.buf;
+      reads = reads_more _ _ _ i.bytes (take c.in-Ok.count c.read.new.buf) i.reads x.taken;
+      heard = c.in-Ok-hear_piece.ensures.heard i.bytes _ i.heard;
+      spent = spent_more (g.S.Source.bound c.args.source.now) (g.S.Source.bound c.piece.source) (g.S.Source.bound c.read.new.self) c.in-Ok.count i.bytes (take c.in-Ok.count c.read.new.buf) i.bounded i.spent x.bounded (length-take-le c.in-Ok.count c.read.new.buf (omega (arith, w, n)));
+    }
+
+pub returns-in-Err-hear_piece-clause-done : goal.returns-in-Err-hear_piece-clause-done
+returns-in-Err-hear_piece-clause-done g c = λ e. let i = c.piece.invariant in absurd (heard_done c.args.command (i.bytes ++ take c.in-Ok.count c.read.new.buf) _ _ _ _ _ c.in-Err-hear_piece.status (c.in-Err-hear_piece.ensures.heard i.bytes _ i.heard) e)
+
+pub returns-in-Err-hear_piece-clause-refused : goal.returns-in-Err-hear_piece-clause-refused
+returns-in-Err-hear_piece-clause-refused g c = λ e.
+    let i = c.piece.invariant in
+    heard_refused c.args.command (i.bytes ++ take c.in-Ok.count c.read.new.buf) _ _ _ _ _ c.in-Err-hear_piece.status (c.in-Err-hear_piece.ensures.heard i.bytes _ i.heard) _ _
+    (reads_more _ _ _ i.bytes (take c.in-Ok.count c.read.new.buf) i.reads c.in-Ok.ensures.taken) e
+
+pub returns-in-Err-hear_piece-clause-usage : goal.returns-in-Err-hear_piece-clause-usage
+returns-in-Err-hear_piece-clause-usage g c = λ e. let i = c.piece.invariant in heard_usage c.args.command (i.bytes ++ take c.in-Ok.count c.read.new.buf) _ _ _ _ _ c.in-Err-hear_piece.status (c.in-Err-hear_piece.ensures.heard i.bytes _ i.heard) e
+
+pub returns-in-Err-hear_piece-clause-read_fault : goal.returns-in-Err-hear_piece-clause-read_fault
+returns-in-Err-hear_piece-clause-read_fault g c = λ e. let i = c.piece.invariant in absurd (heard_read_fault c.args.command (i.bytes ++ take c.in-Ok.count c.read.new.buf) _ _ _ _ _ c.in-Err-hear_piece.status (c.in-Err-hear_piece.ensures.heard i.bytes _ i.heard) e)
+
+pub returns-in-Err-hear_piece-clause-write_fault : goal.returns-in-Err-hear_piece-clause-write_fault
+returns-in-Err-hear_piece-clause-write_fault g c = λ e. let i = c.piece.invariant in heard_write_fault c.args.command (i.bytes ++ take c.in-Ok.count c.read.new.buf) _ _ _ _ _ c.in-Err-hear_piece.status (c.in-Err-hear_piece.ensures.heard i.bytes _ i.heard) _ i.sink_rises e
