@@ -1,0 +1,6 @@
+mod OrderLemmas
+mod ActionLemmas
+mod AimLemmas
+mod IdentifierLemmas
+mod PartLemmas
+mod TargetLemmas
