@@ -3,4 +3,3 @@ mod ActionLemmas
 mod AimLemmas
 mod IdentifierLemmas
 mod PartLemmas
-mod TargetLemmas

@@ -7,7 +7,11 @@ use Rattle.mos_fields.specs.declared.operation.Operation.{Operation}
 use Rattle.mos_fields.specs.declared.operation.Operation.TheVariants.{Insert, Replace, Move, Delete, Swap}
 use Rattle.mos_tables.specs.declared.aim.Aim.{Aim}
 use Rattle.mos_tables.specs.declared.aim.Aim.TheVariants.{Nowhere}
+use Rattle.mos_tables.specs.declared.column.Column.{Column}
+use Rattle.mos_tables.specs.declared.column.Often.TheVariants.{Many}
+use Rattle.mos_tables.specs.declared.column.Shape.TheVariants.{Record}
 use Rattle.mos_tables.specs.declared.table.Table.TheVariants as tables
+use Rattle.mos_tables.specs.Tables.{column}
 use Rattle.mos_tables.specs.Events.{Event}
 use Rattle.mos_values.specs.Parts.{element}
 use Rattle.mos_cursor.specs.Accepted.{IsAccepted}
@@ -31,6 +35,13 @@ abbrev pub IsOptionalRecord : Part → Type 0
 IsOptionalRecord absent = Unit {0}
 IsOptionalRecord (one_record p) = p.given ≡ []
 IsOptionalRecord p = ⊥
+
+-- whole stories or items, as a source holds them
+abbrev pub whole_stories : Column
+whole_stories = column fields.StoryTag (Record tables.Story) Many
+
+abbrev pub whole_items : Column
+whole_items = column fields.ItemTag (Record tables.Item) Many
 
 -- what the events inside an element_target aim at, if there is one
 abbrev pub aim_at : Option (List Event) → Aim

@@ -1,5 +1,5 @@
 //! What an element_source holds, from its events.
-ghost use Rattle.std.specs.Prelude.{◌≡◌, ◌++◌, List, IfOk, map};
+ghost use Rattle.std.specs.Prelude.{◌≡◌, ◌++◌, List, [], ◌∷◌, IfOk, map};
 ghost use Rattle.std.specs.List.{AllByRecursion};
 ghost use Rattle.mos_fields.specs.Characters.{Text};
 ghost use Rattle.mos_fields.specs.Fields.{name_of};
@@ -13,9 +13,10 @@ ghost use Rattle.mos_tables.specs.declared.table.Table.TheVariants as tables;
 ghost use Rattle.mos_values.specs.MessageViews.{ids_events};
 ghost use Rattle.mos_values.specs.Parts.{must};
 ghost use Rattle.mos_values.specs.Views.{items_events, stories_events};
-ghost use Rattle.mos_cursor.specs.Accepted.{CountLeaves, IsAccepted, LeafFits, ManyLeaves, ManyRecords};
-ghost use Rattle.mos_cursor.specs.Parts.{leaf_event, part_events};
-ghost use Rattle.mos_cursor.specs.Slots.{leaf_of, part_of};
+ghost use Rattle.mos_cursor.specs.Accepted.{AllFit, CountLeaves, IsAccepted, LeafFits, ManyLeaves};
+ghost use Rattle.mos_cursor.specs.Parts.{leaf_event, part_events, parts_events};
+ghost use Rattle.mos_cursor.specs.Slots.{leaf_of, part_of, parts_of};
+ghost use Rattle.mos_action_reading.specs.Parts.{whole_items, whole_stories};
 
 use crate::identifiers::{id_of, ids_of};
 use mos_cursor::{Cursor, LeafText, Slot, record_slots};
@@ -25,23 +26,25 @@ use mos_tables::{Aim, Table};
 use mos_values::{Items, Stories};
 use std::alloc::Global;
 
-/// The stories of a part.
-fn stories_in(alloc: Global, slot: Slot) -> Result<Stories, NoMemory>
-    requires { (t : Table_) × ManyRecords t tables.Story (part_of slot) }
-    ensures { IfOk result (λ stories. stories_events stories ≡ part_events fields.StoryTag (part_of slot)) }
+/// The stories of the one part.
+fn stories_in(alloc: Global, slots: [Slot; 1]) -> Result<Stories, NoMemory>
+    requires { (t : Table_) × AllFit t (whole_stories ∷ []) (parts_of slots) }
+    ensures { IfOk result (λ stories. stories_events stories ≡ parts_events (whole_stories ∷ []) (parts_of slots)) }
 {
-    match slot {
+    let [stories] = slots;
+    match stories {
         Slot::Records(inner) => stories_of(alloc, inner),
         _ => unreachable!(),
     }
 }
 
-/// The items of a part.
-fn items_in(alloc: Global, slot: Slot) -> Result<Items, NoMemory>
-    requires { (t : Table_) × ManyRecords t tables.Item (part_of slot) }
-    ensures { IfOk result (λ items. items_events items ≡ part_events fields.ItemTag (part_of slot)) }
+/// The items of the one part.
+fn items_in(alloc: Global, slots: [Slot; 1]) -> Result<Items, NoMemory>
+    requires { (t : Table_) × AllFit t (whole_items ∷ []) (parts_of slots) }
+    ensures { IfOk result (λ items. items_events items ≡ parts_events (whole_items ∷ []) (parts_of slots)) }
 {
-    match slot {
+    let [items] = slots;
+    match items {
         Slot::Records(inner) => items_of(alloc, inner),
         _ => unreachable!(),
     }
@@ -68,8 +71,7 @@ pub(crate) fn insert_stories(alloc: Global, inner: Cursor) -> Result<Stories, No
         Table::Source(Operation::Insert, Aim::AtStory),
         inner,
     )?;
-    let [stories] = slots;
-    stories_in(alloc, stories)
+    stories_in(alloc, slots)
 }
 
 /// The items that an action inserts. The only error is that memory runs out.
@@ -82,8 +84,7 @@ pub(crate) fn insert_items(alloc: Global, inner: Cursor) -> Result<Items, NoMemo
         Table::Source(Operation::Insert, Aim::AtItem),
         inner,
     )?;
-    let [items] = slots;
-    items_in(alloc, items)
+    items_in(alloc, slots)
 }
 
 /// The stories that an action replaces. The only error is that memory runs out.
@@ -96,8 +97,7 @@ pub(crate) fn replace_stories(alloc: Global, inner: Cursor) -> Result<Stories, N
         Table::Source(Operation::Replace, Aim::AtStory),
         inner,
     )?;
-    let [stories] = slots;
-    stories_in(alloc, stories)
+    stories_in(alloc, slots)
 }
 
 /// The items that an action replaces. The only error is that memory runs out.
@@ -110,8 +110,7 @@ pub(crate) fn replace_items(alloc: Global, inner: Cursor) -> Result<Items, NoMem
         Table::Source(Operation::Replace, Aim::AtItem),
         inner,
     )?;
-    let [items] = slots;
-    items_in(alloc, items)
+    items_in(alloc, slots)
 }
 
 /// The identifiers of the stories that an action moves. The only error is that memory runs out.
