@@ -1,7 +1,5 @@
 -- The parts of an accepted action: its source holds what its target asks for.
-use Rattle.std.proofs.Common.{eq-eqb, ◌≡◌, ℕ, Bool, true, false, cond, List, [], ◌∷◌, ◌++◌, refl, sym, ap, subst, ◌∙◌, append_assoc, arith}
-use Rattle.std.specs.Prelude.{codes}
-use Rattle.std.specs.List.{AllByRecursion, flat_map}
+use Rattle.std.proofs.Common.{◌≡◌, Bool, true, false, cond, List, [], ◌∷◌, ◌++◌, refl, sym, ap, subst, ◌∙◌, append_assoc}
 use Rattle.std.proofs.lemmas.List.{append-nil}
 use Rattle.mos_fields.specs.Characters.{Text}
 use Rattle.mos_fields.specs.Fields.{name_of, same, same_field}
@@ -25,11 +23,11 @@ use Rattle.mos_cursor.specs.Parts.{LeafPart, RecordPart, Part, absent, one_leaf,
 use Rattle.mos_cursor.specs.Accepted.{IsAccepted, OneLeaf, OneRecord, FitsAs, AllFit}
 use Rattle.mos_cursor.specs.Taking.{inner_of, behind_of, leaves_left}
 use Rattle.mos_cursor.proofs.Balanced.{IsBalanced, balanced_arranged, balanced_children}
-use Rattle.mos_cursor.proofs.Columns.{column_with, column_with-same}
+use Rattle.mos_cursor.proofs.Columns.{column_with-same}
 use Rattle.mos_cursor.proofs.Children.{LeafItem, leaf_lacks, leaf_some, ItemOf, ChildFits, of_column, of_kept, of_dropped, AllChildren, each}
 use Rattle.mos_action_reading.specs.Aims.{aim_inside, aim_of_part, Held, HeldBy, IsAimed}
 use Rattle.mos_action_reading.proofs.OrderLemmas.{ordered}
-use Rattle.mos_action_reading.proofs.ActionLemmas.{ATarget, ASource, TargetStage, no_target, one_target, SourceStage, no_source, one_source, Stage, stages, none_found, no_aim}
+use Rattle.mos_action_reading.proofs.ActionLemmas.{ASource, TargetStage, no_target, one_target, SourceStage, no_source, one_source, Stage, stages, none_found, no_aim}
 
 balanced_accepted : (t : Table) (taken : List Text) (es : List Event) → IsAccepted t taken es → IsBalanced es
 balanced_accepted t taken es a = subst IsBalanced (sym a.value) (balanced_arranged t a.all (balanced_children a.content tt))

@@ -1,5 +1,5 @@
 -- Lists of identifiers, and the texts that they are read from.
-use Rattle.std.proofs.Common.{◌≡◌, List, [], ◌∷◌, ◌++◌, map, refl, sym, ap, subst, ◌∙◌}
+use Rattle.std.proofs.Common.{◌≡◌, List, [], ◌∷◌, map, refl, sym, ap, ◌∙◌}
 use Rattle.std.specs.List.{AllByRecursion}
 use Rattle.mos_fields.specs.Characters.{Text}
 use Rattle.mos_fields.specs.Fields.{name_of}
@@ -8,7 +8,7 @@ use Rattle.mos_fields.specs.declared.form.Form.TheVariants as forms
 use Rattle.mos_tables.specs.Events.{Attribute, Event, leaf}
 use Rattle.mos_values.specs.MessageViews.{ids_events}
 use Rattle.mos_cursor.specs.Accepted.{LeafFits}
-use Rattle.mos_cursor.specs.Parts.{LeafPart, leaf_event}
+use Rattle.mos_cursor.specs.Parts.{leaf_event}
 use Rattle.mos_cursor.specs.Slots.{leaf_of}
 use Rattle.mos_cursor.specs.declared.slot.LeafText.{LeafText}
 use Rattle.mos_action_reading.specs.Identifiers.{HoldsId, text_of}

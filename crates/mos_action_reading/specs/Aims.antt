@@ -10,7 +10,7 @@ use Rattle.mos_tables.specs.declared.aim.Aim.TheVariants.{Nowhere, AtStory, AtIt
 use Rattle.mos_tables.specs.Events.{Event}
 use Rattle.mos_grammar.specs.Records.{has_leaf}
 use Rattle.mos_cursor.specs.Accepted.{IsAccepted}
-use Rattle.mos_cursor.specs.Parts.{RecordPart, Part, absent, one_record}
+use Rattle.mos_cursor.specs.Parts.{RecordPart, Part, one_record}
 
 -- a target with an itemID aims at an item, another one at a story
 abbrev pub aim_inside : List Event → Aim

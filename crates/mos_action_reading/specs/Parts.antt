@@ -1,10 +1,10 @@
 -- The parts of an action in memory: its order, its target and its source.
-use Rattle.std.specs.Prelude.{List, [], ◌∷◌, ◌++◌, Option, Some, None, ◌≡◌}
+use Rattle.std.specs.Prelude.{List, [], Option, Some, None, ◌≡◌}
 use Rattle.mos_fields.specs.Characters.{Text}
 use Rattle.mos_fields.specs.Fields.{name_of}
 use Rattle.mos_fields.specs.declared.field.Field.TheVariants as fields
 use Rattle.mos_fields.specs.declared.operation.Operation.{Operation}
-use Rattle.mos_fields.specs.declared.operation.Operation.TheVariants.{Insert, Replace, Move, Delete, Swap}
+use Rattle.mos_fields.specs.declared.operation.Operation.TheVariants.{Delete, Swap}
 use Rattle.mos_tables.specs.declared.aim.Aim.{Aim}
 use Rattle.mos_tables.specs.declared.aim.Aim.TheVariants.{Nowhere}
 use Rattle.mos_tables.specs.declared.column.Column.{Column}
