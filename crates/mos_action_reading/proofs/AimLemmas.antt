@@ -1,7 +1,5 @@
 -- The parts of an accepted action: its source holds what its target asks for.
-use Rattle.std.proofs.Common.{eq-eqb, ◌≡◌, ℕ, Bool, true, false, cond, List, [], ◌∷◌, ◌++◌, refl, sym, ap, subst, ◌∙◌, append_assoc, arith}
-use Rattle.std.specs.Prelude.{codes}
-use Rattle.std.specs.List.{AllByRecursion, flat_map}
+use Rattle.std.proofs.Common.{◌≡◌, Bool, true, false, cond, List, [], ◌∷◌, ◌++◌, refl, sym, ap, subst, ◌∙◌, append_assoc}
 use Rattle.std.proofs.lemmas.List.{append-nil}
 use Rattle.mos_fields.specs.Characters.{Text}
 use Rattle.mos_fields.specs.Fields.{name_of, same, same_field}
@@ -25,11 +23,11 @@ use Rattle.mos_cursor.specs.Parts.{LeafPart, RecordPart, Part, absent, one_leaf,
 use Rattle.mos_cursor.specs.Accepted.{IsAccepted, OneLeaf, OneRecord, FitsAs, AllFit}
 use Rattle.mos_cursor.specs.Taking.{inner_of, behind_of, leaves_left}
 use Rattle.mos_cursor.proofs.Balanced.{IsBalanced, balanced_arranged, balanced_children}
-use Rattle.mos_cursor.proofs.Columns.{column_with, column_with-same}
+use Rattle.mos_cursor.proofs.Columns.{column_with-same}
 use Rattle.mos_cursor.proofs.Children.{LeafItem, leaf_lacks, leaf_some, ItemOf, ChildFits, of_column, of_kept, of_dropped, AllChildren, each}
-use Rattle.mos_answer_reading.specs.Aims.{aim_inside, aim_of_part}
-use Rattle.mos_answer_reading.proofs.Order.{ordered}
-use Rattle.mos_answer_reading.proofs.Actions.{ATarget, ASource, TargetStage, no_target, one_target, SourceStage, no_source, one_source, Stage, stages, none_found, no_aim}
+use Rattle.mos_action_reading.specs.Aims.{aim_inside, aim_of_part, Held, HeldBy, IsAimed}
+use Rattle.mos_action_reading.proofs.OrderLemmas.{ordered}
+use Rattle.mos_action_reading.proofs.ActionLemmas.{ASource, TargetStage, no_target, one_target, SourceStage, no_source, one_source, Stage, stages, none_found, no_aim}
 
 balanced_accepted : (t : Table) (taken : List Text) (es : List Event) → IsAccepted t taken es → IsBalanced es
 balanced_accepted t taken es a = subst IsBalanced (sym a.value) (balanced_arranged t a.all (balanced_children a.content tt))
@@ -94,11 +92,6 @@ has_leaf_closed n m (closes k ∷ x) = has_leaf_closed n m x
 
 aim_of_record : (n : Text) (p : RecordPart) → aim_inside (record_events n p) ≡ aim_inside p.inner
 aim_of_record n p = rw (has_leaf_closed (name_of fields.ItemID) n p.inner) refl
-
--- what an accepted source holds
-pub record Held (o : Operation) (a : Aim) (p : RecordPart) : Type 0 where
-  pub keys : List Text
-  pub accepted : IsAccepted (tables.Source o a) keys p.inner
 
 abbrev target_name : Text
 target_name = name_of fields.ElementTarget
@@ -190,11 +183,6 @@ target_balanced Swap absent h = tt
 target_balanced Swap (one_record p) h = balanced_accepted _ _ p.inner h.accepted
 target_balanced o t h = absurd h
 
--- The source of an accepted action is that of what the target aims at.
-abbrev pub HeldBy : Operation → Aim → Part → Type 0
-HeldBy o a (one_record p) = Held o a p
-HeldBy o a p = ⊥
-
 held_of : (o : Operation) (taken : List Text) (es : List Event) (l : LeafPart) (t : Part) (p : RecordPart) → IsAccepted (tables.Action o) taken es → AllFit (tables.Action o) (places (columns (tables.Action o))) (one_leaf l ∷ t ∷ one_record p ∷ [])
     → es ≡ parts_events (places (columns (tables.Action o))) (one_leaf l ∷ t ∷ one_record p ∷ []) → Held o (aim_of_part t) p
 held_of o taken es l t p a h e =
@@ -208,7 +196,7 @@ held_of o taken es l t p a h e =
     ∙ skipped l.given l.text (part_events fields.ElementTarget t ++ record_events source_name p) ∙ parts_behind t p m in
     both_parts o a.all t p st (balanced_accepted _ _ p.inner h.1.1.0.accepted) m (sym left ∙ right)
 
-pub source_held : (o : Operation) (taken : List Text) (es : List Event) (ro t s : Part) → IsAccepted (tables.Action o) taken es → AllFit (tables.Action o) (places (columns (tables.Action o))) (ro ∷ t ∷ s ∷ [])
+source_held : (o : Operation) (taken : List Text) (es : List Event) (ro t s : Part) → IsAccepted (tables.Action o) taken es → AllFit (tables.Action o) (places (columns (tables.Action o))) (ro ∷ t ∷ s ∷ [])
     → es ≡ parts_events (places (columns (tables.Action o))) (ro ∷ t ∷ s ∷ []) → HeldBy o (aim_of_part t) s
 source_held o taken es ro t s a h e = by_source ro s h.0 h.1.1.0 h e
   where
@@ -217,3 +205,12 @@ source_held o taken es ro t s a h e = by_source ro s h.0 h.1.1.0 h e
     by_source (one_leaf l) (one_record p) x y h e = held_of o taken es l t p a h e
     by_source (one_leaf l) s x y h e = absurd y
     by_source ro s x y h e = absurd x
+
+-- The source of an accepted action holds what its target asks for.
+pub action_aimed : (o : Operation) (taken : List Text) (es : List Event) (ps : List Part) → IsAccepted (tables.Action o) taken es → AllFit (tables.Action o) (places (columns (tables.Action o))) ps
+    → es ≡ parts_events (places (columns (tables.Action o))) ps → IsAimed o ps
+action_aimed o taken es [] a h e = absurd h
+action_aimed o taken es (ro ∷ []) a h e = absurd h.1
+action_aimed o taken es (ro ∷ t ∷ []) a h e = absurd h.1.1
+action_aimed o taken es (ro ∷ t ∷ s ∷ []) a h e = source_held o taken es ro t s a h e
+action_aimed o taken es (ro ∷ t ∷ s ∷ p ∷ ps) a h e = absurd h.1.1.1

@@ -1,12 +1,12 @@
 -- Behind which children each child of an accepted record stands.
-use Rattle.std.proofs.Common.{◌≡◌, List, [], ◌∷◌, ◌++◌, Some, None, refl, sym, ap, subst, ◌∙◌, append_assoc}
+use Rattle.std.proofs.Common.{◌≡◌, List, [], ◌∷◌, ◌++◌, Some, None, sym, ap, subst, append_assoc}
 use Rattle.std.proofs.lemmas.List.{append-nil}
 use Rattle.mos_fields.specs.Characters.{Text}
 use Rattle.mos_fields.specs.declared.field.Field.{Field}
 use Rattle.mos_fields.specs.declared.field.Field.TheVariants as fields
 use Rattle.mos_tables.specs.declared.column.Column.{Column}
 use Rattle.mos_tables.specs.declared.table.Table.{Table}
-use Rattle.mos_tables.specs.Events.{Attribute, Event}
+use Rattle.mos_tables.specs.Events.{Attribute}
 use Rattle.mos_tables.specs.Tables.{columns}
 use Rattle.mos_grammar.specs.Tokens.{Token}
 use Rattle.mos_grammar.specs.Records.{Child, column_of, outside_fault, OpenField, leaf_role, raw_role, record_role, raw_events, nested, Content, ends, white_space, field, empty_leaf, empty_leaf_tag, raw_element, raw_tag, record_element, record_tag}

@@ -1,7 +1,6 @@
 -- The element_source of an accepted action holds what its element_target asks for.
-use Rattle.std.proofs.Common.{eq-eqb, ◌≡◌, ℕ, suc, ◌+◌, ◌≤◌, Bool, true, false, cond, List, [], ◌∷◌, ◌++◌, Option, Some, None, refl, sym, ap, subst, ◌∙◌, append_assoc, arith, ◌⊎◌, inl, inr}
-use Rattle.std.specs.Prelude.{◌&&◌, nat_lt, codes}
-use Rattle.std.specs.List.{AllByRecursion, flat_map}
+use Rattle.std.proofs.Common.{◌≡◌, ℕ, ◌+◌, Bool, true, false, cond, List, [], ◌∷◌, ◌++◌, Option, Some, None, refl, sym, ap, subst, ◌∙◌, append_assoc, arith, ◌⊎◌, inl, inr}
+use Rattle.std.specs.Prelude.{◌&&◌, nat_lt}
 use Rattle.std.proofs.lemmas.List.{append-nil}
 use Rattle.std.proofs.lemmas.Grind.{flat_map-append}
 use Rattle.std.proofs.lemmas.Bool.Decides.{leb_tells}
@@ -16,23 +15,22 @@ use Rattle.mos_tables.specs.declared.aim.Aim.TheVariants.{Nowhere, AtStory, AtIt
 use Rattle.mos_tables.specs.declared.column.Column.{Column}
 use Rattle.mos_tables.specs.declared.column.Often.TheVariants.{One}
 use Rattle.mos_tables.specs.declared.column.Shape.TheVariants.{Record}
-use Rattle.mos_tables.specs.declared.table.Table.{Table}
 use Rattle.mos_tables.specs.declared.table.Table.TheVariants as tables
-use Rattle.mos_tables.specs.Events.{Attribute, Event, leaf, raw, opens, closes}
+use Rattle.mos_tables.specs.Events.{Event}
 use Rattle.mos_tables.specs.Tables.{columns, column, target_of}
 use Rattle.mos_grammar.specs.declared.fault.Fault.{Fault}
 use Rattle.mos_grammar.specs.declared.fault.Fault.TheVariants.{Twice as twice, Order as out_of_order}
 use Rattle.mos_grammar.specs.Records.{keys as keys_of}
-use Rattle.mos_grammar.specs.Records.{Child, times, seen_of, is_single, is_named, column_of, before_column, any_seen, repeated, lacking, field_fault, if_field, outside_fault, has_leaf, aim_of, found}
+use Rattle.mos_grammar.specs.Records.{Child, times, seen_of, is_single, is_named, column_of, before_column, any_seen, repeated, lacking, field_fault, if_field, has_leaf, aim_of, found}
 use Rattle.mos_grammar.proofs.Seen.{times_push}
 use Rattle.mos_cursor.specs.Parts.{RecordPart, record_events}
 use Rattle.mos_cursor.specs.Accepted.{IsAccepted}
 use Rattle.mos_cursor.proofs.Roles.{no_or_else}
-use Rattle.mos_cursor.proofs.Columns.{same_field-sym, same_field-first, column_with, column_with-same}
+use Rattle.mos_cursor.proofs.Columns.{same_field-sym, same_field-first, column_with-same}
 use Rattle.mos_cursor.proofs.Counts.{fields_of, seen_is}
 use Rattle.mos_cursor.proofs.Children.{RecordItem, record_item, ItemOf, ChildFits, of_column, of_kept, of_dropped, AllChildren}
-use Rattle.mos_answer_reading.specs.Aims.{aim_inside}
-use Rattle.mos_answer_reading.proofs.Order.{MayFollow, as_column, as_kept, as_dropped, InOrder}
+use Rattle.mos_action_reading.specs.Aims.{aim_inside}
+use Rattle.mos_action_reading.proofs.OrderLemmas.{MayFollow, as_column, as_kept, as_dropped, InOrder}
 
 -- ---- what the order of the columns says
 

@@ -1,0 +1,5 @@
+mod OrderLemmas
+mod ActionLemmas
+mod AimLemmas
+mod IdentifierLemmas
+mod PartLemmas

@@ -1,0 +1,3 @@
+pub mod Aims
+pub mod Identifiers
+pub mod Parts
