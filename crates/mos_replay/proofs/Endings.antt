@@ -6,8 +6,8 @@ use Rattle.mos_io.specs.declared.sink.SinkFault.{SinkFault}
 use Rattle.mos_io.specs.declared.sink.SinkFault.TheVariants.{Failed, NoMemory}
 use Rattle.canonical_reader.specs.Inputs.{ReadsAll}
 use Rattle.canonical_answers.specs.Encodings.{IsStream}
-use Rattle.mos_replay.specs.declared.status.Status.{Status}
-use Rattle.mos_replay.specs.declared.status.Status.TheVariants as statuses
+use Rattle.stream_commands.specs.declared.status.Status.{Status}
+use Rattle.stream_commands.specs.declared.status.Status.TheVariants as statuses
 use Rattle.mos_replay.specs.declared.messages.Texts.{Texts}
 use Rattle.mos_replay.specs.TextLists.{AreAllRead}
 use Rattle.mos_replay.specs.Writings.{AreWritten}

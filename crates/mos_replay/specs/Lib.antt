@@ -1,4 +1,3 @@
-pub mod Statuses
 pub mod Words
 pub mod Running
 pub mod Making

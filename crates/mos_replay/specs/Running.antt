@@ -7,8 +7,8 @@ use Rattle.mos_io.specs.declared.sink.SinkFault.TheVariants as sink_faults
 use Rattle.mos_values.specs.declared.message.Envelope.{Envelope}
 use Rattle.canonical_reader.specs.Inputs.{ReadsAll}
 use Rattle.canonical_answers.specs.Encodings.{AreReadable, IsStream, encodings}
-use Rattle.mos_replay.specs.declared.status.Status.{Status}
-use Rattle.mos_replay.specs.declared.status.Status.TheVariants as statuses
+use Rattle.stream_commands.specs.declared.status.Status.{Status}
+use Rattle.stream_commands.specs.declared.status.Status.TheVariants as statuses
 use Rattle.canonical_answers.specs.Taking.{take_output, refused_line}
 
 -- Done: the input was read to its end, is a stream of readable messages, and their answers were written, nothing else

@@ -1,19 +1,18 @@
-//! Shows and replays the traffic of MOS messages. So far `mos_replay take`: standard input is a stream of messages, each
-//! a heartbeat, a roCreate or a roDelete in its canonical encoding; standard output is what a device answers.
+//! Shows, checks and replays the traffic of MOS messages. So far `mos_replay show` and `mos_replay check` list and count
+//! the messages on standard input, and `mos_replay take` answers some of them as a device does.
 #![tactic(auto)]
 
 mod messages;
 mod run;
-mod status;
 mod writing;
 
 use mos_io::{Capped, StdSink, StdSource};
 use run::mos_run;
-use status::Status;
 use std::alloc::AllocError;
 use std::env;
 use std::io::Lock;
 use std::process::ExitCode;
+use stream_commands::Status;
 
 /// The most bytes that a run reads. It ends with a fault of reading where there are as many.
 const MOST: u64 = 1_073_741_824;
@@ -46,17 +45,22 @@ const HELP: &str = "Shows, checks and replays the traffic of MOS messages.
 usage: mos_replay take | show | check | replay | make N
 
   take      answers the messages on standard input as a device does
-  show      lists the messages on standard input (not yet)
-  check     counts the messages on standard input (not yet)
+  show      lists the messages on standard input
+  check     counts the messages on standard input
   replay    runs the script on standard input (not yet)
   make N    makes a script of N events and runs it (not yet)
 
-Messages are UCS-2, high byte first. `take` reads heartbeat, roCreate and
-roDelete in their canonical encoding.
+Messages are UCS-2, high byte first. `show` and `check` read every message of
+Profiles 0, 1, 2 and 4; `take`, so far, heartbeat, roCreate and roDelete in
+their canonical encoding.
+
+`show` writes one line for each message: where it begins in 16-bit code units
+(the byte is twice that), its name, mosID, ncsID, and its roID or objID.
 
 The program ends with
   0  all was read and answered
-  1  the input isn't what the word reads; the line REFUSED is written
+  1  the input isn't what the word reads; the last line says REFUSED,
+     and `show` and `check` tell the place, in code units, and the kind
   2  the words aren't a command
   3  standard input failed, or has a gibibyte or more
   4  standard output failed

@@ -1,7 +1,7 @@
 use crate::run::mos_run;
-use crate::status::Status;
 use mos_io::{MemSink, MemSource};
 use std::test::Fail;
+use stream_commands::Status;
 
 /// The bytes of an ASCII text in UCS-2, high byte first.
 fn ucs2(rt: &HostRuntime, text: &str) -> Result<Vec<u8>, Fail> {
