@@ -1,0 +1,4 @@
+mod WordLemmas
+mod ObjectLemmas
+mod ProfileLemmas
+mod MachineLemmas
