@@ -16,6 +16,6 @@ pub machine_joined : (m : MachInfo) → mach_info_events m ≡ joined (maybe fie
     ∷ maybe fields.SerialNumber m.serial_number ∷ maybe fields.MachineID m.id ∷ maybe_as time_text fields.TimeTag m.time ∷ maybe fields.OpTime m.op_time ∷ maybe fields.MosRev m.mos_rev
     ∷ supported_events m.supported_profiles ∷ raws fields.DefaultActiveX m.default_active_x ∷ raws fields.Metadata m.metadata ∷ raws fields.Kept m.others ∷ [])
 unfolding mach_info_events mach_head_events mach_rest_events
-machine_joined m = joined_more (maybe fields.Manufacturer m.manufacturer ∷ maybe fields.ModelTag m.model ∷ maybe fields.HwRev m.hw_rev ∷ maybe fields.SwRev m.sw_rev ∷ maybe fields.Dom m.dom
+machine_joined m = append_assoc (mach_head_events m) (supported_events m.supported_profiles) (mach_rest_events m) ∙ joined_more (maybe fields.Manufacturer m.manufacturer ∷ maybe fields.ModelTag m.model ∷ maybe fields.HwRev m.hw_rev ∷ maybe fields.SwRev m.sw_rev ∷ maybe fields.Dom m.dom
     ∷ maybe fields.SerialNumber m.serial_number ∷ maybe fields.MachineID m.id ∷ maybe_as time_text fields.TimeTag m.time ∷ maybe fields.OpTime m.op_time ∷ maybe fields.MosRev m.mos_rev ∷ [])
     (supported_events m.supported_profiles) (raws fields.DefaultActiveX m.default_active_x ∷ raws fields.Metadata m.metadata ∷ raws fields.Kept m.others ∷ [])

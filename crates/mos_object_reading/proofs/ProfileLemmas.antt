@@ -92,6 +92,9 @@ is_number (Some (known.Number n)) g =
 is_number (Some (known.Element l)) g = let e = named_number (attribute_of (known.Element l)) g in absurd (omega (arith, heads _ _ _ _ e))
 is_number (Some (known.Operation o)) g = let e = named_number (attribute_of (known.Operation o)) g in absurd (omega (arith, heads _ _ _ _ e))
 
+pub number_value : (a : Option KnownAttribute) (n : ℕ) → a ≡ Some (known.Number n) → IsGiven (Some fields.Number) (attributes_of a) → attributes_of a ≡ attribute_with fields.Number (decimal n) ∷ []
+number_value a n e g = subst (λ (z : Option KnownAttribute). attributes_of z ≡ attribute_with fields.Number (decimal n) ∷ []) (sym e) (subst IsNumber e (is_number a g)).1
+
 -- the attribute of profiles is a kind of machine
 abbrev pub IsDevice : Option KnownAttribute → Type 0
 IsDevice None = ⊥

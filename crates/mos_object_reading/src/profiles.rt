@@ -23,6 +23,7 @@ use mos_values::{DeviceType, Profile, Profiles, Sequence, SupportedProfiles};
 use std::alloc::Global;
 
 /// The number of a profile, by its attribute.
+#[tactic(auto, using(crate::proofs::ProfileLemmas::number_value))]
 fn number_of(given: Option<KnownAttribute>) -> u8
     requires { IsGiven (Some fields.Number) (attributes_of given) }
     ensures digit { result ≤ 9 }
