@@ -2,3 +2,4 @@ mod WordLemmas
 mod ObjectLemmas
 mod ProfileLemmas
 mod MachineLemmas
+mod ArrayLemmas

@@ -33,6 +33,19 @@ struct Front {
     status: Option<Text>,
 }
 
+/// The parts of what an object is.
+struct FrontSlots {
+    id: Slot,
+    slug: Slot,
+    mos_abstract: Slot,
+    group: Slot,
+    obj_type: Slot,
+    time_base: Slot,
+    rev: Slot,
+    dur: Slot,
+    status: Slot,
+}
+
 /// How an object may be used, where it comes from, and its raw elements.
 struct Back {
     air: Option<Air>,
@@ -79,10 +92,10 @@ fn object_front_with(
     })
 }
 
-/// The object of these parts.
-fn object_front(alloc: Global, slots: [Slot; 9]) -> Result<Front, NoMemory>
-    requires { AllFit tables.MosObj (take 9 (places (columns tables.MosObj))) (parts_of slots) }
-    ensures { IfOk result (λ v. joined (must fields.ObjID v.id ∷ maybe fields.ObjSlug v.slug ∷ maybe_raw fields.MosAbstract v.mos_abstract ∷ maybe fields.ObjGroup v.group ∷ maybe_as obj_type_text fields.ObjType v.obj_type ∷ maybe_as samples_text fields.ObjTB v.time_base ∷ maybe_as rev_text fields.ObjRev v.rev ∷ maybe_as samples_text fields.ObjDur v.dur ∷ maybe fields.Status v.status ∷ []) ≡ parts_events (take 9 (places (columns tables.MosObj))) (parts_of slots)) }
+/// These parts by their names.
+#[tactic(auto, using(crate::proofs::ArrayLemmas::nine_slots))]
+fn front_slots(slots: [Slot; 9]) -> FrontSlots
+    ensures { slots ≡ result.id ∷ result.slug ∷ result.mos_abstract ∷ result.group ∷ result.obj_type ∷ result.time_base ∷ result.rev ∷ result.dur ∷ result.status ∷ [] }
 {
     let [
         id,
@@ -95,6 +108,36 @@ fn object_front(alloc: Global, slots: [Slot; 9]) -> Result<Front, NoMemory>
         dur,
         status,
     ] = slots;
+    FrontSlots {
+        id,
+        slug,
+        mos_abstract,
+        group,
+        obj_type,
+        time_base,
+        rev,
+        dur,
+        status,
+    }
+}
+
+/// The object of these parts.
+fn object_front(alloc: Global, slots: [Slot; 9]) -> Result<Front, NoMemory>
+    requires { AllFit tables.MosObj (take 9 (places (columns tables.MosObj))) (parts_of slots) }
+    ensures { IfOk result (λ v. joined (must fields.ObjID v.id ∷ maybe fields.ObjSlug v.slug ∷ maybe_raw fields.MosAbstract v.mos_abstract ∷ maybe fields.ObjGroup v.group ∷ maybe_as obj_type_text fields.ObjType v.obj_type ∷ maybe_as samples_text fields.ObjTB v.time_base ∷ maybe_as rev_text fields.ObjRev v.rev ∷ maybe_as samples_text fields.ObjDur v.dur ∷ maybe fields.Status v.status ∷ []) ≡ parts_events (take 9 (places (columns tables.MosObj))) (parts_of slots)) }
+{
+    let named = front_slots(slots);
+    let FrontSlots {
+        id,
+        slug,
+        mos_abstract,
+        group,
+        obj_type,
+        time_base,
+        rev,
+        dur,
+        status,
+    } = named;
     object_front_with(
         alloc,
         id,
