@@ -1,4 +1,4 @@
-use Rattle.std.proofs.Common.{[], sym}
+use Rattle.std.proofs.Common.{sym}
 use Rattle.mos_object_reading.proofs.ObjectLemmas.{objects_hold, objects_read}
 use Rattle.mos_object_reading.proofs.object_lists.objects_in.Goals as goal
 
