@@ -1,0 +1,5 @@
+mod Stages
+mod Children
+mod Walk
+mod Taken
+mod Loops

@@ -1,0 +1,5 @@
+mod WordLemmas
+mod ObjectLemmas
+mod ProfileLemmas
+mod MachineLemmas
+mod ArrayLemmas
