@@ -4,3 +4,4 @@ pub mod Slices
 pub mod Answering
 pub mod Endings
 pub mod Wording
+pub mod WordLemmas
