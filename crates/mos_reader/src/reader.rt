@@ -173,8 +173,10 @@ impl Reader {
             }
             Ok(Outcome::ReadsOn) => {
                 if at_end && !is_at_rest(&self.reading, &self.held, self.from) {
-                    let ended =
-                        ReadFault::Rejected(self.base + (self.held.len() - self.from), Kind::End);
+                    let ended = ReadFault::Rejected(
+                        self.base + (self.held.len() - self.from),
+                        Kind::End,
+                    );
                     self.fault = Some(ended);
                     return Err(ended);
                 }

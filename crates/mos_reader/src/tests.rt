@@ -143,7 +143,10 @@ fn white_space_may_end_a_stream_and_nothing_else(rt: HostRuntime) -> Result<(), 
     assert_eq!(rt; end_of(alloc, "")?.as_str(), "..");
     assert_eq!(rt; end_of(alloc, " \n")?.as_str(), "..");
     assert_eq!(rt; end_of(alloc, " <")?.as_str(), "!2:End;!2:End;");
-    assert_eq!(rt; end_of(alloc, "<?xml version='1.0'?>")?.as_str(), "!21:End;!21:End;");
+    assert_eq!(rt;
+        end_of(alloc, "<?xml version='1.0'?>")?.as_str(),
+        "!21:End;!21:End;"
+    );
     assert_eq!(rt; end_of(alloc, HEARTBEAT)?.as_str(), "<0:8>.");
     Ok(())
 }

@@ -4,4 +4,3 @@ pub mod Slices
 pub mod Answering
 pub mod Endings
 pub mod Wording
-pub mod WordLemmas
