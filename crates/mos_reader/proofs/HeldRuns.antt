@@ -38,7 +38,7 @@ part_rest held here next h =
 -- ---- what was read up to here, and the units from here on
 
 module _ (held : List ℕ) (here : ℕ) (s : ReaderOf) (e : unit_run start_reader (take here held) ≡ still_reads s) where
-  take_next : (next : ℕ) → here ≤ next → unit_run start_reader (take next held) ≡ unit_run s (part held here next)
+  pub take_next : (next : ℕ) → here ≤ next → unit_run start_reader (take next held) ≡ unit_run s (part held here next)
   take_next next h =
       ap (unit_run start_reader) (take_split held here next h) ∙ (pieces_one start_reader (take here held) (part held here next) ∙ ap (λ z. run_on z (part held here next)) e)
 
@@ -46,7 +46,7 @@ module _ (held : List ℕ) (here : ℕ) (s : ReaderOf) (e : unit_run start_reade
   rest_run =
       ap (unit_run start_reader) (sym (take-append-drop here held)) ∙ (pieces_one start_reader (take here held) (drop here held) ∙ ap (λ z. run_on z (drop here held)) e)
 
-  parts_run : (next : ℕ) → here ≤ next → unit_run start_reader held ≡ run_on (unit_run s (part held here next)) (drop next held)
+  pub parts_run : (next : ℕ) → here ≤ next → unit_run start_reader held ≡ run_on (unit_run s (part held here next)) (drop next held)
   parts_run next h = rest_run ∙ (ap (unit_run s) (part_rest held here next h) ∙ pieces_one s (part held here next) (drop next held))
 
 -- behind the units of a character

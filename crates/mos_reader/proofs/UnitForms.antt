@@ -57,12 +57,12 @@ capped (reads_on t) = rejects message_limit kinds.TooLong
 capped (completes began v) = rejects message_limit kinds.TooLong
 capped (rejects place k) = rejects place k
 
-over_limit : (s : Reader) (r : UnitStep) → message_limit ≤ s.count → too_long s r ≡ capped r
+pub over_limit : (s : Reader) (r : UnitStep) → message_limit ≤ s.count → too_long s r ≡ capped r
 over_limit s (reads_on t) h = cond-true (nat_le message_limit s.count) _ _ (le-leb message_limit s.count h)
 over_limit s (completes began v) h = cond-true (nat_le message_limit s.count) _ _ (le-leb message_limit s.count h)
 over_limit s (rejects place k) h = refl
 
-below_limit : (s : Reader) (r : UnitStep) → s.count < message_limit → too_long s r ≡ r
+pub below_limit : (s : Reader) (r : UnitStep) → s.count < message_limit → too_long s r ≡ r
 below_limit s (reads_on t) h = cond-false (nat_le message_limit s.count) _ _ (lt-leb message_limit s.count h)
 below_limit s (completes began v) h = cond-false (nat_le message_limit s.count) _ _ (lt-leb message_limit s.count h)
 below_limit s (rejects place k) h = refl
@@ -74,7 +74,7 @@ waiting s u = record { position = s.position; lex = s.lex; start = s.start; open
 high_read : (s : Reader) (u : ℕ) → s.high ≡ None → is_high u ≡ true → unit_read s u s.high ≡ reads_on (waiting s u)
 high_read s u n i = ap (unit_read s u) n ∙ cond-true (is_high u) _ _ i
 
-one_read : (s : Reader) (c : ℕ) → s.high ≡ None → is_high c ≡ false → is_low c ≡ false → is_allowed c ≡ true → unit_read s c s.high ≡ lexed s s.count (s.count + 1) (lex_step (is_outside s.position) s.lex c)
+pub one_read : (s : Reader) (c : ℕ) → s.high ≡ None → is_high c ≡ false → is_low c ≡ false → is_allowed c ≡ true → unit_read s c s.high ≡ lexed s s.count (s.count + 1) (lex_step (is_outside s.position) s.lex c)
 one_read s c n i l a = ap (unit_read s c) n ∙ (cond-false (is_high c) _ _ i ∙ (cond-false (is_low c) _ _ l ∙ cond-true (is_allowed c) _ _ a))
 
 -- How many units were read, and which high one waits, is not asked for behind a character.

@@ -117,6 +117,11 @@ abbrev pub WentOn : Option Outcome → Reading → Reading → List ℕ → Type
 WentOn None old new held = HasRead new held × (old.here < new.here)
 WentOn (Some o) old new held = Ended o new held
 
+-- what a run of characters came to: reading went on, or it ends so
+abbrev pub RanOn : Option Outcome → Reading → Reading → List ℕ → Type 0
+RanOn None old new held = HasRead new held × (old.here ≤ new.here)
+RanOn (Some o) old new held = Ended o new held
+
 -- behind a character that goes on, more was read
 abbrev pub IsOnward : Outcome → Reading → Reading → Type 0
 IsOnward ReadsOn old new = old.here < new.here

@@ -5,7 +5,7 @@ ghost use Rattle.mos_lexer.specs.Units.{message_limit};
 ghost use Rattle.mos_scanner.specs.Character.{IsAtPlace, IsCut};
 ghost use Rattle.mos_scanner.specs.Parts.{IsCharacter};
 ghost use Rattle.mos_scanner.specs.declared.character.Character.TheVariants.{Unpaired};
-ghost use Rattle.mos_reader.specs.Places.{Came, Ended, HasRead, IsOnward, WentOn, capped_of};
+ghost use Rattle.mos_reader.specs.Places.{Came, Ended, HasRead, IsOnward, RanOn, WentOn, capped_of};
 
 use crate::outcome::Outcome;
 use crate::reading::Reading;
@@ -161,13 +161,45 @@ impl Reading {
         }
     }
 
+    /// Reads the characters behind each of which the same token goes on.
+    fn read_run(&mut self, held: &[u16]) -> Result<Option<Outcome>, NoMemory>
+        requires { HasRead self.old held.now }
+        ensures { IfOk result (λ o. RanOn o self.old self.new held.now) }
+    {
+        let next = self.scanner.skip(held, self.here)?;
+        if next <= MESSAGE_LIMIT {
+            self.here = next;
+            Ok(None)
+        } else {
+            Ok(Some(too_long()))
+        }
+    }
+
+    /// Reads such characters, and the one behind them.
+    fn read_some(&mut self, alloc: Global, held: &[u16]) -> Result<Option<Outcome>, NoMemory>
+        requires read { HasRead self.old held.now }
+        requires within { (self.old).here < length held.now }
+        ensures { IfOk result (λ o. WentOn o self.old self.new held.now) }
+    {
+        match self.read_run(held)? {
+            Some(outcome) => Ok(Some(outcome)),
+            None => {
+                if self.here < held.len() {
+                    self.read_at(alloc, held)
+                } else {
+                    Ok(None)
+                }
+            }
+        }
+    }
+
     /// Reads on until a message is complete, the stream is rejected, or all that is held was read.
     pub fn read_on(&mut self, alloc: Global, held: &[u16]) -> Result<Outcome, NoMemory>
         requires { HasRead self.old held.now }
         ensures { IfOk result (λ o. Ended o self.new held.now) }
     {
         'next: while self.here < held.len() {
-            match self.read_at(alloc, held)? {
+            match self.read_some(alloc, held)? {
                 None => {}
                 Some(outcome) => return Ok(outcome),
             }
