@@ -40,7 +40,7 @@ fn push_answer(
 fn answers(alloc: Global, bytes: &[u8], piece: usize) -> Result<String, NoMemory> {
     let mut decoder = EventDecoder::new(alloc);
     let mut out = String::new(alloc);
-    for part in bytes.chunks(piece) {
+    for part in bytes.chunks(piece.max(1)) {
         if decoder.place() < 1_000_000 && part.len() < 1_000_000 {
             decoder.feed(part)?;
         }
