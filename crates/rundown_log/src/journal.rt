@@ -1,0 +1,144 @@
+//! The journal in memory.
+ghost use Rattle.std.specs.Prelude.{◌≡◌, [], ◌∷◌, ◌++◌, ◌<◌, ◌≤◌, length, slice_get, Some, OnOk, OnErr};
+ghost use Rattle.std.specs.Option.{option_copied};
+ghost use Rattle.mos_edits.specs.Entries.{entry_count as entry_count_of, edit_at};
+ghost use Rattle.mos_machines.specs.Values.{edit_message};
+ghost use Rattle.mos_values.specs.Sound.{IsSound};
+ghost use Rattle.rundown_log.specs.Keeping.{Appends};
+ghost use Rattle.rundown_log.specs.Positions.{positions};
+
+use crate::entry::Entry;
+use crate::keeper::{KeepFault, Keeper};
+use crate::places::{Places, count_in, find_in, know};
+use mos_fields::{Id, NoMemory};
+use mos_values::Edit;
+use order_table::OrderTable;
+use std::alloc::Global;
+use std::marker::Model;
+
+/// The entries of the server's journal, with the places of each order's.
+#[derive(Drop)]
+pub struct Journal {
+    entries: Vec<Entry>,
+    places: OrderTable<Places>,
+}
+
+impl Model for Journal {
+    ghost use Rattle.std.specs.Prelude.{List};
+    ghost use Rattle.mos_edits.specs.Entries.{Entry as JournalEntry};
+    ghost use Rattle.rundown_log.specs.Positions.{ArePositions};
+
+    ghost Value = { List JournalEntry };
+
+    ghost view = { λ j. j.entries.items };
+
+    ghost invariant = { λ j. ArePositions j.entries.items j.places };
+}
+
+// Puts an entry and its place at the ends, once the keeper has it. Without memory, or where the keeper fails, both lists
+// stay as they were.
+fn keep_in<K: Keeper>(
+    entries: &mut Vec<Entry>,
+    places: &mut Vec<usize>,
+    keeper: &mut K,
+    entry: Entry,
+) -> Result<(), KeepFault>
+    requires { IsSound (edit_message entry.edit) }
+    ensures appends { Appends (K.kept keeper.old) (K.kept keeper.new) (K.faults keeper.old) (K.faults keeper.new) entry result }
+    ensures rises { K.faults keeper.old ≤ K.faults keeper.new }
+    ensures entries { OnOk result (entries.new.items ≡ entries.old.items ++ entry ∷ []) }
+    ensures places { OnOk result (places.new.items ≡ places.old.items ++ length entries.old.items ∷ []) }
+    ensures entries_err { OnErr result (entries.new.items ≡ entries.old.items) }
+    ensures places_err { OnErr result (places.new.items ≡ places.old.items) }
+{
+    entries.reserve(1)?;
+    places.reserve(1)?;
+    keeper.append(&entry)?;
+    places.push(entries.len()).unwrap();
+    entries.push(entry).unwrap();
+    Ok(())
+}
+
+impl Journal {
+    /// No entries. It takes no memory; the journal grows in this allocator.
+    pub fn new(alloc: Global) -> Self
+        ensures { result ≡ [] }
+    {
+        Journal {
+            entries: Vec::new(alloc),
+            places: OrderTable::new(alloc),
+        }
+    }
+
+    /// The allocator of the journal.
+    pub fn allocator(&self) -> Global {
+        *self.entries.allocator()
+    }
+
+    /// How many entries there are.
+    pub fn len(&self) -> usize
+        ensures { result ≡ length self.now }
+    {
+        self.entries.len()
+    }
+
+    /// The entry at a place, which counts from 0; `None` from the end on.
+    pub fn get(&self, place: usize) -> Option<&Entry>
+        ensures { option_copied result ≡ slice_get self.now place }
+    {
+        self.entries.get(place)
+    }
+
+    /// How many entries an order has. It takes no memory.
+    pub fn entry_count(&self, ro: &Id) -> usize
+        ensures { result ≡ entry_count_of self.now ro.now }
+    {
+        count_in(&self.places, ro)
+    }
+
+    /// The entry at a place, which counts from 0.
+    pub fn at(&self, place: usize) -> &Entry
+        requires { place < length self.now }
+        ensures { slice_get self.now place ≡ Some result.now }
+    {
+        &self.entries[place]
+    }
+
+    /// The place of entry `k` of an order, which counts from 0; `None` where the order has no such entry. It takes no
+    /// memory.
+    pub fn find(&self, ro: &Id, k: usize) -> Option<usize>
+        ensures { result ≡ slice_get (positions ro.now self.now) k }
+    {
+        find_in(&self.places, ro, k)
+    }
+
+    /// The edit of entry `k` of an order, which counts from 0. It takes no memory.
+    pub fn edit(&self, ro: &Id, k: usize) -> &Edit
+        requires { k < entry_count_of self.now ro.now }
+        ensures { result.now ≡ edit_at self.now ro.now k }
+    {
+        match self.find(ro, k) {
+            Some(place) => self.at(place).edit(),
+            None => unreachable!(),
+        }
+    }
+
+    /// Puts an entry at the end, once the keeper has it.
+    ///
+    /// `Failed` comes only where the keeper failed. After each error the journal is as it was.
+    pub fn keep<K: Keeper>(&mut self, keeper: &mut K, entry: Entry) -> Result<(), KeepFault>
+        requires { IsSound (edit_message entry.edit) }
+        ensures appends { Appends (K.kept keeper.old) (K.kept keeper.new) (K.faults keeper.old) (K.faults keeper.new) entry result }
+        ensures rises { K.faults keeper.old ≤ K.faults keeper.new }
+        ensures ok { OnOk result (self.new ≡ self.old ++ entry ∷ []) }
+        ensures err { OnErr result (self.new ≡ self.old) }
+    {
+        let ro = entry.ro().try_clone()?;
+        know(&mut self.places, &ro)?;
+        let mut places = Places::new(self.places.allocator());
+        self.places.exchange(&ro, &mut places);
+        let kept = keep_in(&mut self.entries, &mut places.items, keeper, entry);
+        self.places.exchange(&ro, &mut places);
+        kept
+    }
+}
