@@ -1,7 +1,7 @@
 //! The journal in memory.
 ghost use Rattle.std.specs.Prelude.{◌≡◌, [], ◌∷◌, ◌++◌, ◌<◌, ◌≤◌, length, slice_get, Some, OnOk, OnErr};
 ghost use Rattle.std.specs.Option.{option_copied};
-ghost use Rattle.mos_edits.specs.Entries.{entry_count as entry_count_of, edit_at};
+ghost use Rattle.mos_edits.specs.Entries.{entry_count as entry_count_of};
 ghost use Rattle.mos_machines.specs.Values.{edit_message};
 ghost use Rattle.mos_values.specs.Sound.{IsSound};
 ghost use Rattle.rundown_log.specs.Keeping.{Appends};
@@ -11,7 +11,6 @@ use crate::entry::Entry;
 use crate::keeper::{KeepFault, Keeper};
 use crate::places::{Places, count_in, find_in, know};
 use mos_fields::{Id, NoMemory};
-use mos_values::Edit;
 use order_table::OrderTable;
 use std::alloc::Global;
 use std::marker::Model;
@@ -110,17 +109,6 @@ impl Journal {
         ensures { result ≡ slice_get (positions ro.now self.now) k }
     {
         find_in(&self.places, ro, k)
-    }
-
-    /// The edit of entry `k` of an order, which counts from 0. It takes no memory.
-    pub fn edit(&self, ro: &Id, k: usize) -> &Edit
-        requires { k < entry_count_of self.now ro.now }
-        ensures { result.now ≡ edit_at self.now ro.now k }
-    {
-        match self.find(ro, k) {
-            Some(place) => self.at(place).edit(),
-            None => unreachable!(),
-        }
     }
 
     /// Puts an entry at the end, once the keeper has it.

@@ -8,7 +8,7 @@ use crate::view::{Seen, View};
 use mos_fields::{Air, Id};
 use mos_values::Edit;
 use order_table::RowChange;
-use rundown_log::Journal;
+use rundown_log::{Entry, Journal};
 
 // Whether an edit is a READY.
 fn is_ready_edit(edit: &Edit) -> bool
@@ -23,12 +23,18 @@ fn is_ready_edit(edit: &Edit) -> bool
     }
 }
 
+fn is_ready_entry(entry: &Entry) -> bool
+    ensures { result ≡ is_ready (kind entry.now.edit) }
+{
+    is_ready_edit(entry.edit())
+}
+
 // Whether entry `k` of an order is a READY.
 pub fn is_ready_at(journal: &Journal, ro: &Id, k: u64) -> bool
     ensures { result ≡ is_ready (kind (edit_at journal.now ro.now k)) }
 {
     match journal.find(ro, k as usize) {
-        Some(place) => is_ready_edit(journal.at(place).edit()),
+        Some(place) => is_ready_entry(journal.at(place)),
         None => false,
     }
 }
