@@ -7,7 +7,7 @@ ghost use Rattle.rundown_log.specs.Keeping.{Appends, Loads};
 
 use crate::entry::Entry;
 use mos_values::Sequence;
-use std::alloc::{AllocError, AllocFailed};
+use std::alloc::AllocError;
 
 /// Entries in order.
 pub type Entries = Sequence<Entry>;
@@ -28,17 +28,6 @@ impl From<AllocError> for KeepFault {
     ghost from_gives = { λ _ e. e ≡ out_of_memory };
 
     fn from(_fault: AllocError) -> KeepFault {
-        KeepFault::NoMemory
-    }
-}
-
-impl<T: Drop> From<AllocFailed<T>> for KeepFault {
-    ghost use Rattle.std.specs.Prelude.{◌≡◌};
-    ghost use Rattle.rundown_log.specs.declared.keeper.KeepFault.TheVariants.{NoMemory as out_of_memory};
-
-    ghost from_gives = { λ _ e. e ≡ out_of_memory };
-
-    fn from(_fault: AllocFailed<T>) -> KeepFault {
         KeepFault::NoMemory
     }
 }

@@ -1,21 +1,21 @@
 -- The entry that is found first by the places of the entries is the one that the definition scans the journal for.
-use Rattle.std.proofs.Common.{◌≡◌, ◌⊎◌, inl, inr, ℕ, zero, suc, ◌+◌, ◌<◌, ◌≤◌, Bool, true, false, List, [], ◌∷◌, length, slice_get, take, Option, Some, None, refl, sym, ap, ◌∙◌, subst, if◌then◌else◌, cond, nat_lt, ◌==◌, arith}
+use Rattle.std.proofs.Common.{◌≡◌, ◌⊎◌, inl, inr, ℕ, zero, suc, ◌+◌, ◌-◌, ◌<◌, ◌≤◌, Bool, true, false, List, [], ◌∷◌, length, slice_get, take, Option, Some, None, refl, sym, ap, ◌∙◌, subst, if◌then◌else◌, cond, nat_lt, ◌==◌, arith}
 use Rattle.std.proofs.lemmas.Bool.Decides.{nat_tests}
 use Rattle.mos_edits.specs.Texts.{Text, same_id}
 use Rattle.mos_edits.proofs.Identifiers.{same-true, same-self}
-use Rattle.mos_edits.specs.Entries.{Entry, entry_count}
+use Rattle.mos_edits.specs.Entries.{Entry, entry_count, edit_at}
 use Rattle.mos_machines.specs.Server.{ServerOut, View, due_at, due_in, first_due}
 use Rattle.mos_machines.specs.Server.View.{Out, Listed, In, From}
 use Rattle.mos_machines.specs.Server.ServerOut.{Idle, SendsEdit, SendsAgain, SendsBeat}
 use Rattle.mos_machines.specs.Tables.{look, row_ids}
 use Rattle.mos_machines.proofs.Least.{first_due-least, first_due-none, due_in-entry}
-use Rattle.order_table.specs.Rows.{IsAscending, find_row, value_or}
+use Rattle.order_table.specs.Rows.{IsAscending, value_or}
 use Rattle.order_table.proofs.AscendingRows.{find-none}
 use Rattle.order_table.proofs.Looked.{look-found}
-use Rattle.rundown_log.specs.Positions.{positions, positions_from}
-use Rattle.rundown_log.proofs.PositionLemmas.{Stands, stands, stands-at}
+use Rattle.rundown_log.specs.Positions.{positions}
+use Rattle.rundown_log.proofs.PositionLemmas.{stands, stands-at}
 use Rattle.server_peer.specs.declared.due.Due.{Due}
-use Rattle.server_peer.specs.Dues.{due_found, due_again, due_of, sooner, first_from, due_out, out_at, out_due}
+use Rattle.server_peer.specs.Dues.{due_found, due_of, sooner, first_from, due_out, out_at, out_due}
 
 -- an entry that a view makes due stands in the journal
 pub record DueAt (journal : List Entry) (r : Text) (v : View) (d : Due) : Type 0 where
@@ -25,8 +25,9 @@ pub record DueAt (journal : List Entry) (r : Text) (v : View) (d : Due) : Type 0
   pub within : d.place < length journal
   pub out : due_at r v (entry_count (take d.place journal) r) ≡ due_out r d
   pub numbered : d.again ≡ false → d.number < entry_count journal r
+  pub edit : entry.edit ≡ edit_at journal r (cond d.again (d.number - 1) d.number)
 
-found-at : (journal : List Entry) (r : Text) (v : View) (k number p : ℕ) (again : Bool) → slice_get (positions r journal) k ≡ Some p → due_at r v k ≡ due_out r (record { place = p; number = number; again = again }) → (again ≡ false → number ≡ k)
+found-at : (journal : List Entry) (r : Text) (v : View) (k number p : ℕ) (again : Bool) → slice_get (positions r journal) k ≡ Some p → due_at r v k ≡ due_out r (record { place = p; number = number; again = again }) → cond again (number - 1) number ≡ k
     → DueAt journal r v (record { place = p; number = number; again = again })
 found-at journal r v k number p again e out n =
     let s = stands 0 r journal k p e in
@@ -41,11 +42,12 @@ found-at journal r v k number p again e out n =
       ro = same-true r s.entry.ro s.ro;
       within = omega (arith, m_is, w);
       out = ap (λ (i : ℕ). due_at r v (entry_count (take i journal) r)) m_is ∙ (ap (λ (i : ℕ). due_at r v i) count ∙ out);
-      numbered = λ f. let n_is = n f in omega (arith, n_is, below);
+      numbered = λ f. let n_is : number ≡ k = sym (ap (λ (b : Bool). cond b (number - 1) number) f) ∙ n in omega (arith, n_is, below);
+      edit = s.edit ∙ ap (edit_at journal r) (sym n);
     }
 
 found-by : (journal : List Entry) (r : Text) (v : View) (d : Due) (k number : ℕ) (again : Bool) (o : Option ℕ) → slice_get (positions r journal) k ≡ o → due_found number again o ≡ Some d
-    → ((p : ℕ) → due_at r v k ≡ due_out r (record { place = p; number = number; again = again })) → (again ≡ false → number ≡ k) → DueAt journal r v d
+    → ((p : ℕ) → due_at r v k ≡ due_out r (record { place = p; number = number; again = again })) → cond again (number - 1) number ≡ k → DueAt journal r v d
 found-by journal r v d k number again None e h out n = absurd (cc)
 found-by journal r v d k number again (Some p) e h out n =
     let made : Due = record { place = p; number = number; again = again } in
@@ -64,10 +66,10 @@ again-due r n p = grind (arith, nat_tests)
 pub due-stands : (journal : List Entry) (r : Text) (v : View) (d : Due) → due_of journal r v ≡ Some d → DueAt journal r v d
 due-stands journal r Out d h = absurd (cc)
 due-stands journal r (Listed m) d h = absurd (cc)
-due-stands journal r (In n false) d h = found-by journal r (In n false) d n n false (slice_get (positions r journal) n) refl h (edit-due r n) (λ e. refl)
+due-stands journal r (In n false) d h = found-by journal r (In n false) d n n false (slice_get (positions r journal) n) refl h (edit-due r n) refl
 due-stands journal r (In zero true) d h = absurd (cc)
-due-stands journal r (In (suc n) true) d h = found-by journal r (In (suc n) true) d n (suc n) true (slice_get (positions r journal) n) refl h (again-due r n) (λ e. absurd (cc))
-due-stands journal r (From k) d h = found-by journal r (From k) d k k false (slice_get (positions r journal) k) refl h (from-due r k) (λ e. refl)
+due-stands journal r (In (suc n) true) d h = found-by journal r (In (suc n) true) d n (suc n) true (slice_get (positions r journal) n) refl h (again-due r n) (omega arith)
+due-stands journal r (From k) d h = found-by journal r (From k) d k k false (slice_get (positions r journal) k) refl h (from-due r k) refl
 
 -- an entry of the journal that is due is what the view of its order makes due
 record IsDue (journal : List Entry) (r : Text) (v : View) (n : ℕ) : Type 0 where

@@ -1,10 +1,10 @@
 -- How the parts of a device as the server keeps it stand for those of the server's state.
-use Rattle.std.specs.Prelude.{◌≡◌, ℕ, ◌+◌, ◌<◌, List, [], ◌∷◌, Bool, true, false, Option, Some, None, IsSome, ◌&&◌, if◌then◌else◌}
+use Rattle.std.specs.Prelude.{◌≡◌, ℕ, ◌+◌, ◌<◌, List, [], Bool, true, false, Option, Some, None, IsSome, ◌&&◌, if◌then◌else◌}
 use Rattle.mos_edits.specs.Texts.{Text, same_id}
 use Rattle.mos_edits.specs.Entries.{Entry, kind, edit_at}
-use Rattle.mos_machines.specs.Messages.{Packet, Message, Tag as MachineTag, Status, read_status}
+use Rattle.mos_machines.specs.Messages.{Packet, Message, Tag as MachineTag, read_status}
 use Rattle.mos_machines.specs.Messages.Message.{Heartbeat, RoAck}
-use Rattle.mos_machines.specs.Messages.Tag.{Untagged, OfEntry, OfAgain, OfList}
+use Rattle.mos_machines.specs.Messages.Tag.{OfEntry, OfAgain}
 use Rattle.mos_machines.specs.Server.{ServerOut, Upper, View, PeerState, is_success, is_ready, is_open, view_if, sent, beat_or_due}
 use Rattle.mos_fields.specs.declared.time.MosTime.{MosTime}
 use Rattle.mos_machines.specs.Tables.{PeerTables, put_row}

@@ -1,5 +1,5 @@
 //! The entry that a device is sent next.
-ghost use Rattle.std.specs.Prelude.{◌≡◌, None, slice_get};
+ghost use Rattle.std.specs.Prelude.{◌≡◌, ◌≤◌, None, true, false, length, slice_get};
 ghost use Rattle.rundown_log.specs.Positions.{positions};
 ghost use Rattle.server_peer.specs.Parts.{view_of};
 ghost use Rattle.server_peer.specs.Dues.{due_found, due_again, due_of as due_of_view, sooner as sooner_of, first_from};
@@ -73,13 +73,7 @@ fn sooner(a: Option<Due>, b: Option<Due>) -> Option<Due>
     match (a, b) {
         (None, b) => b,
         (Some(d), None) => Some(d),
-        (Some(d), Some(e)) => {
-            if e.place < d.place {
-                Some(e)
-            } else {
-                Some(d)
-            }
-        }
+        (Some(d), Some(e)) => { if e.place < d.place { Some(e) } else { Some(d) } }
     }
 }
 
@@ -92,4 +86,12 @@ pub fn first_due(journal: &Journal, rows: &[(Id, Seen)]) -> Option<Due>
         best = sooner(best, due_of(journal, &row.0, view_in_row(&row.1)));
     }
     best
+}
+
+// How many entries there are, which is a number of 64 bits.
+pub fn entries_in(journal: &Journal) -> usize
+    ensures count { result ≡ length journal.now }
+    ensures bound { length journal.now ≤ 18446744073709551615 }
+{
+    journal.len()
 }

@@ -1,9 +1,9 @@
 //! What a message of a device, and an accepted edit, do to its views.
-ghost use Rattle.std.specs.Prelude.{◌≡◌, ◌&&◌, OnOk, OnErr, IsSome};
+ghost use Rattle.std.specs.Prelude.{◌≡◌, ◌&&◌, true, false, OnOk, IsSome};
 ghost use Rattle.mos_edits.specs.Texts.{set_order};
 ghost use Rattle.mos_edits.specs.Entries.{entry_count};
 ghost use Rattle.mos_machines.specs.Server.{View as ServerView, is_open, peer_settled, settled, view_given};
-ghost use Rattle.mos_machines.specs.Tables.{peer_of};
+ghost use Rattle.mos_machines.specs.Tables.{peer_of, map_rows};
 ghost use Rattle.order_table.specs.Rows.{find_row};
 ghost use Rattle.server_peer.specs.Parts.{view_of, IsRoomFor};
 
@@ -24,11 +24,19 @@ fn once_given(view: View, n: u64) -> View
     }
 }
 
+// All entries of an order are on their way as a list.
+fn listed_view(count: usize) -> View
+    ensures { view_of result ≡ ServerView.Listed count }
+{
+    View::Listed { m: count as u64 }
+}
+
 impl Peer {
     /// A message of the device was heard: where it was a heartbeat, the device took each list that was on its way, else it
     /// may not have. It takes no memory.
     pub fn settle(&mut self, journal: &Journal, beat: bool)
-        ensures { peer_of self.new ≡ peer_settled journal.now beat (peer_of self.old) }
+        ensures rows { self.new ≡ record self.old { views = map_rows (settled journal.now beat) self.old.views } }
+        ensures step { peer_of self.new ≡ peer_settled journal.now beat (peer_of self.old) }
     {
         self.views.change_all(&Settling { journal, beat });
     }
@@ -47,8 +55,7 @@ impl Peer {
         ensures { peer_of self.new ≡ record (peer_of self.old) { views = set_order (λ q. settled journal.now false q ((peer_of self.old).views q)) ro.now (ServerView.Listed (entry_count journal.now ro.now)) } }
     {
         self.settle(journal, false);
-        let m = journal.entry_count(ro) as u64;
-        set(&mut self.views, ro, View::Listed { m });
+        set(&mut self.views, ro, listed_view(journal.entry_count(ro)));
     }
 
     /// Makes room for the view that an accepted edit of this order may leave, which may be a whole-order edit. Nothing
@@ -57,7 +64,7 @@ impl Peer {
         ensures there { OnOk result (IsRoomFor is_whole ro.now self.new) }
         ensures same { peer_of self.new ≡ peer_of self.old }
     {
-        if self.upper.is_open() && is_whole {
+        if self.is_given(is_whole) {
             know(&mut self.views, ro)
         } else {
             Ok(())
@@ -70,9 +77,24 @@ impl Peer {
         requires { IsRoomFor is_whole ro.now self.old }
         ensures { peer_of self.new ≡ record (peer_of self.old) { views = set_order (peer_of self.old).views ro.now (view_given (is_open (peer_of self.old).upper && is_whole) n ((peer_of self.old).views ro.now)) } }
     {
-        if self.upper.is_open() && is_whole {
-            let view = once_given(view_in(&self.views, ro), n);
-            set(&mut self.views, ro, view);
+        if self.is_given(is_whole) {
+            self.give(ro, n);
         }
+    }
+
+    // Whether an edit that may be a whole-order one is given to the device.
+    fn is_given(&self, is_whole: bool) -> bool
+        ensures { result ≡ (is_open (peer_of self.now).upper && is_whole) }
+    {
+        self.upper.is_open() && is_whole
+    }
+
+    // A whole-order edit was accepted, which is entry `n` of this order, while the server's connection is open.
+    fn give(&mut self, ro: &Id, n: u64)
+        requires { IsSome (find_row ro.now self.old.views) }
+        ensures { peer_of self.new ≡ record (peer_of self.old) { views = set_order (peer_of self.old).views ro.now (view_given true n ((peer_of self.old).views ro.now)) } }
+    {
+        let view = once_given(view_in(&self.views, ro), n);
+        set(&mut self.views, ro, view);
     }
 }

@@ -1,5 +1,5 @@
 //! What the server sends a device next.
-ghost use Rattle.std.specs.Prelude.{◌≡◌, ◌<◌, Some, OnOk, OnErr, IfOk, IsSome};
+ghost use Rattle.std.specs.Prelude.{◌≡◌, Some, OnOk, OnErr, IfOk, IsSome};
 ghost use Rattle.mos_machines.specs.Server.{Upper as ServerUpper, peer_next};
 ghost use Rattle.mos_machines.specs.Tables.{peer_of};
 ghost use Rattle.mos_machines.specs.Values.{edit_message as edit_message_of};
@@ -7,10 +7,10 @@ ghost use Rattle.order_table.specs.Rows.{find_row};
 ghost use Rattle.machine_answers.specs.declared.answers.Sent.TheVariants as sents;
 ghost use Rattle.machine_answers.specs.declared.answers.Tag.TheVariants as tags;
 ghost use Rattle.mos_values.specs.declared.message.Message.TheVariants as carried;
-ghost use Rattle.server_peer.specs.Parts.{out_of, upper_of, link_if_idle as link_if_idle_of, idle_link as idle_link_of, sent_of, sent_idle};
+ghost use Rattle.server_peer.specs.Parts.{out_of, upper_of, link_if_idle as link_if_idle_of, idle_link as idle_link_of, sent_of, sent_idle, IsNumbered};
 ghost use Rattle.server_peer.specs.Dues.{due_tag as due_tag_of, due_out};
 
-use crate::due::{Due, first_due};
+use crate::due::{Due, entries_in, first_due};
 use crate::peer::Peer;
 use crate::upper::{ServerOut, Upper};
 use machine_answers::{Sent, Tag};
@@ -121,7 +121,7 @@ impl Peer {
     // The entry that is due.
     fn send_entry(&mut self, link: u64, entry: &Entry, due: Due) -> Result<Sent, NoMemory>
         requires row { IsSome (find_row entry.now.ro self.old.views) }
-        requires number { due.number < 18446744073709551615 }
+        requires number { IsNumbered (due_out entry.now.ro due) }
         ensures answer { IfOk result (λ s. s ≡ sents.Out (edit_message_of entry.now.edit) (due_tag_of entry.now.ro due)) }
         ensures step { OnOk result (self.new ≡ record self.old { upper = ServerUpper.Open link (due_out entry.now.ro due) }) }
         ensures err { OnErr result (self.new ≡ self.old) }
@@ -142,6 +142,7 @@ impl Peer {
         ensures err { OnErr result (self.new ≡ self.old) }
     {
         self.views.has_ascending_ids();
+        let _count = entries_in(journal);
         match first_due(journal, self.views.rows()) {
             Some(due) => self.send_entry(link, journal.at(due.place), due),
             None => Ok(self.send_beat(link, now)),

@@ -16,6 +16,7 @@ pub fn is_id(ro: &OptId, id: &Id) -> bool
 
 // OK and NO DECK, in code units.
 const OKAY: [u16; 2] = [79, 75];
+
 const NO_DECK: [u16; 7] = [78, 79, 32, 68, 69, 67, 75];
 
 fn is_okay(status: &Slug) -> bool
