@@ -25,7 +25,7 @@ use std::alloc::Global;
 
 // The order that was asked for, or that there is none.
 fn said_list(alloc: Global, order: Option<&Order>, ro: &Id) -> Result<Heard, NoMemory>
-    ensures { IfOk result (λ h. h ≡ heard.Say (list_said ro.now (option_copied order))) }
+    ensures { IfOk result (λ h. h ≡ heard.Say (list_said ro.now (option_copied order.entry))) }
 {
     match order {
         Some(order) => Ok(Heard::Say(Message::RoList(order.to_body()?))),

@@ -18,7 +18,7 @@ use std::marker::Model;
 /// Each call is one step of the server. A call for a connection that isn't the current one is answered `Stale` and changes
 /// nothing. Devices are numbered from 0.
 #[derive(Drop)]
-pub struct Ncs<K> {
+pub struct Ncs<K: Keeper> {
     pub(crate) keeper: K,
     pub(crate) journal: Journal,
     pub(crate) orders: Orders,

@@ -21,8 +21,8 @@ impl Model for Entry {
     ghost view = { λ e. entry_of e.edit };
 }
 
-// The roID that an edit names.
-fn edit_ro(edit: &Edit) -> &Id
+/// The roID that an edit names.
+pub fn edit_ro(edit: &Edit) -> &Id
     ensures { result.now ≡ edit_ro_of edit.now }
 {
     match edit {
@@ -34,6 +34,9 @@ fn edit_ro(edit: &Edit) -> &Id
         Edit::Air { ro, air: _ } => ro,
     }
 }
+
+// Lets a value go. What is let go here is dropped by a function of its type, and not variant by variant on each path.
+pub fn let_go<T: Drop>(_value: T) {}
 
 impl Entry {
     /// The entry of an edit. It takes no memory.

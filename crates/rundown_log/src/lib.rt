@@ -11,7 +11,7 @@ mod places;
 #[cfg(test)]
 mod tests;
 
-pub use entry::Entry;
+pub use entry::{Entry, edit_ro};
 pub use journal::Journal;
 pub use keeper::{Entries, KeepFault, Keeper};
 pub use mem_keeper::MemKeeper;

@@ -3,14 +3,15 @@ ghost use Rattle.std.specs.Prelude.{◌≡◌, ◌↔◌, ◌≤◌, [], ◌∷�
 ghost use Rattle.std.specs.List.{list_any};
 ghost use Rattle.mos_io.specs.Counts.{counted};
 ghost use Rattle.rundown_log.specs.Keeping.{Appends};
-ghost use Rattle.rundown_log.specs.Memory.{fails_next as fails_next_of, failed, appended, settled};
+ghost use Rattle.rundown_log.specs.Memory.{fails_next as fails_next_of, kept_if, doubtful_if, failed, appended, settled_by, settled};
 
-use crate::entry::Entry;
+use crate::entry::{Entry, let_go};
 use crate::keeper::{Entries, KeepFault, Keeper};
 use mos_fields::NoMemory;
 use mos_values::Sequence;
 use std::alloc::Global;
 use std::marker::Model;
+use std::mem::replace;
 
 /// Keeps entries in memory, and fails at chosen appends.
 #[derive(Drop)]
@@ -38,10 +39,21 @@ fn copies(alloc: Global, kept: &[Entry]) -> Result<Entries, NoMemory>
     ensures { IfOk result (λ entries. entries ≡ kept.now) }
 {
     let mut entries = Sequence::new(alloc);
-    for entry in kept {
+    'kept: for entry in kept {
         entries.push(entry.try_clone()?)?;
     }
     Ok(entries)
+}
+
+// A copy of an entry in doubt, at the end.
+fn copy_to(doubtful: &Option<Entry>, kept: &mut Entries) -> Result<(), NoMemory>
+    ensures ok { OnOk result (kept.new ≡ settled_by true doubtful.now kept.old) }
+    ensures err { OnErr result (kept.new ≡ kept.old) }
+{
+    match doubtful {
+        Some(entry) => kept.push(entry.try_clone()?),
+        None => Ok(()),
+    }
 }
 
 // Whether a number is listed.
@@ -82,11 +94,10 @@ impl MemKeeper {
         ensures ok { OnOk result (self.new ≡ settled self.old stands) }
         ensures err { OnErr result (self.new ≡ self.old) }
     {
-        match &self.doubtful {
-            Some(entry) if stands => self.kept.push(entry.try_clone()?)?,
-            _ => {}
+        if stands {
+            copy_to(&self.doubtful, &mut self.kept)?;
         }
-        self.doubtful = None;
+        let_go(replace(&mut self.doubtful, None));
         Ok(())
     }
 
@@ -121,13 +132,22 @@ impl MemKeeper {
         ensures ok { OnOk result (self.new ≡ record (failed self.old entry) { failing = self.old.failing; call = self.old.call; faults = self.old.faults }) }
         ensures err { OnErr result (self.new ≡ self.old) }
     {
-        if self.stands {
-            self.kept.push(entry)?;
-            self.doubtful = None;
-        } else {
-            self.doubtful = Some(entry);
-        }
+        let doubtful = self.keep_or_doubt(entry)?;
+        let_go(replace(&mut self.doubtful, doubtful));
         Ok(())
+    }
+
+    // An entry that is kept at once, or is in doubt.
+    fn keep_or_doubt(&mut self, entry: Entry) -> Result<Option<Entry>, NoMemory>
+        ensures doubtful { IfOk result (λ d. d ≡ doubtful_if self.old.stands entry) }
+        ensures ok { OnOk result (self.new ≡ record self.old { kept = kept_if self.old.stands self.old.kept entry }) }
+        ensures err { OnErr result (self.new ≡ self.old) }
+    {
+        if !self.stands {
+            return Ok(Some(entry));
+        }
+        self.kept.push(entry)?;
+        Ok(None)
     }
 
     // An append that doesn't.

@@ -1,5 +1,5 @@
 //! A keeper in memory that fails at a chosen append, and a journal over it.
-use crate::{Entry, Journal, KeepFault, Keeper, MemKeeper};
+use crate::{Journal, KeepFault, Keeper, MemKeeper};
 use mos_fields::{Air, Id};
 use mos_values::Edit;
 use std::alloc::Global;
@@ -10,11 +10,11 @@ fn id(alloc: Global, name: char) -> Result<Id, Fail> {
 }
 
 // READY of an order that is named by one letter.
-fn ready(alloc: Global, name: char) -> Result<Entry, Fail> {
-    Ok(Entry::new(Edit::Air {
+fn ready(alloc: Global, name: char) -> Result<Edit, Fail> {
+    Ok(Edit::Air {
         ro: id(alloc, name)?,
         air: Air::Ready,
-    }))
+    })
 }
 
 #[test]
@@ -23,7 +23,7 @@ fn entries_are_found_by_order_and_number(rt: HostRuntime) -> Result<(), Fail> {
     let mut keeper = MemKeeper::new(alloc, Vec::new(alloc), false);
     let mut journal = Journal::new(alloc);
     for name in ['R', 'S', 'R'] {
-        assert_eq!(rt; journal.keep(&mut keeper, ready(alloc, name)?), Ok(()));
+        assert_eq!(rt; journal.keep(&mut keeper, &ready(alloc, name)?), Ok(()));
     }
     let ro = id(alloc, 'R')?;
     assert_eq!(rt; journal.len(), 3);
@@ -40,14 +40,14 @@ fn a_failed_append_stands_only_once_settled(rt: HostRuntime) -> Result<(), Fail>
     let fails = Vec::from_slice(alloc, &[1u64])?;
     let mut keeper = MemKeeper::new(alloc, fails, false);
     let mut journal = Journal::new(alloc);
-    assert_eq!(rt; journal.keep(&mut keeper, ready(alloc, 'R')?), Ok(()));
-    assert_eq!(rt; journal.keep(&mut keeper, ready(alloc, 'S')?), Err(KeepFault::Failed));
+    assert_eq!(rt; journal.keep(&mut keeper, &ready(alloc, 'R')?), Ok(()));
+    assert_eq!(rt; journal.keep(&mut keeper, &ready(alloc, 'S')?), Err(KeepFault::Failed));
     assert_eq!(rt; journal.len(), 1);
     assert_eq!(rt; keeper.load()?.len(), 1);
     keeper.settle(true)?;
     assert_eq!(rt; keeper.load()?.len(), 2);
     keeper.fail_next();
-    assert_eq!(rt; journal.keep(&mut keeper, ready(alloc, 'T')?), Err(KeepFault::Failed));
+    assert_eq!(rt; journal.keep(&mut keeper, &ready(alloc, 'T')?), Err(KeepFault::Failed));
     assert_eq!(rt; keeper.entries().len(), 2);
     Ok(())
 }

@@ -1,7 +1,7 @@
 //! What the server keeps for one device.
-ghost use Rattle.std.specs.Prelude.{◌≡◌};
+ghost use Rattle.std.specs.Prelude.{◌≡◌, [], false};
 ghost use Rattle.mos_machines.specs.Messages.{is_link as is_link_of};
-ghost use Rattle.mos_machines.specs.Server.{no_peer, upper_link, is_busy as is_busy_of, peer_opened, peer_cut, peer_beat, peer_linked};
+ghost use Rattle.mos_machines.specs.Server.{Upper as ServerUpper, no_peer, upper_link, is_busy as is_busy_of, peer_opened, peer_cut, peer_beat, peer_linked};
 ghost use Rattle.mos_machines.specs.Tables.{peer_of};
 ghost use Rattle.server_peer.specs.Parts.{upper_of, view_of};
 
@@ -53,14 +53,20 @@ impl Peer {
     pub fn upper_opened(&mut self, link: u64)
         ensures { peer_of self.new ≡ peer_opened link (peer_of self.old) }
     {
+        self.forget();
         self.upper = Upper::Greeting { link };
-        self.note = false;
-        self.views = OrderTable::new(self.views.allocator());
     }
 
     /// The server's connection ended. It takes no memory.
     pub fn upper_cut(&mut self)
         ensures { peer_of self.new ≡ peer_cut (peer_of self.old) }
+    {
+        self.forget();
+    }
+
+    // Nothing is in flight, no heartbeat is asked for, and nothing is known of the device's orders.
+    fn forget(&mut self)
+        ensures { self.new ≡ record { upper = ServerUpper.Down; note = false; link = self.old.link; views = [] } }
     {
         self.upper = Upper::Down;
         self.note = false;

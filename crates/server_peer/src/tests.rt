@@ -3,7 +3,7 @@ use crate::{Peer, ServerOut, Upper, View};
 use machine_answers::{Sent, Step, Tag};
 use mos_fields::{Air, Id, MosTime, OptId, Slug};
 use mos_values::{AckGroups, Edit, Message, RoAck};
-use rundown_log::{Entry, Journal, MemKeeper};
+use rundown_log::{Journal, MemKeeper};
 use std::alloc::Global;
 use std::test::Fail;
 
@@ -19,11 +19,11 @@ fn id(alloc: Global, name: char) -> Result<Id, Fail> {
     Ok(Id::try_new(alloc, &[name])?)
 }
 
-fn ready(alloc: Global, name: char) -> Result<Entry, Fail> {
-    Ok(Entry::new(Edit::Air {
+fn ready(alloc: Global, name: char) -> Result<Edit, Fail> {
+    Ok(Edit::Air {
         ro: id(alloc, name)?,
         air: Air::Ready,
-    }))
+    })
 }
 
 fn okay(alloc: Global, name: char) -> Result<Message, Fail> {
@@ -67,7 +67,7 @@ fn the_first_due_entry_is_sent(rt: HostRuntime) -> Result<(), Fail> {
         peer.settle(&journal, true);
     }
     for name in ['S', 'R', 'S'] {
-        assert_eq!(rt; journal.keep(&mut keeper, ready(alloc, name)?), Ok(()));
+        assert_eq!(rt; journal.keep(&mut keeper, &ready(alloc, name)?), Ok(()));
     }
     assert_eq!(rt; number(&peer.next_send(&journal, &now)?, &first), Some(0));
     assert!(rt; peer.is_busy(&first));
