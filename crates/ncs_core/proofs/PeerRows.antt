@@ -1,10 +1,13 @@
 -- One device's tables written anew.
-use Rattle.std.proofs.Common.{◌≡◌, ℕ, ◌<◌, Bool, true, false, List, length, get_or, set, refl, sym, ap, ◌∙◌, subst, if◌then◌else◌, ◌==◌, arith}
+use Rattle.std.proofs.Common.{◌≡◌, ℕ, zero, suc, ◌<◌, Bool, true, false, List, [], ◌∷◌, length, get_or, set, Option, Result, Ok, Err, OnOk, refl, sym, ap, ◌∙◌, subst, if◌then◌else◌, ◌==◌, arith}
 use Rattle.std.proofs.lemmas.Bool.Decides.{nat_tests}
 use Rattle.std.proofs.lemmas.List.{get_or-set_same, get_or-set_other}
 use Rattle.mos_edits.specs.Texts.{set_number}
-use Rattle.mos_machines.specs.Server.{PeerState}
-use Rattle.mos_machines.specs.Steps.{ServerState, with_peer}
+use Rattle.mos_fields.specs.declared.time.MosTime.{MosTime}
+use Rattle.mos_machines.specs.Messages.{Message, Packet, Step}
+use Rattle.mos_machines.specs.Server.{PeerState, peer_next, peer_answered}
+use Rattle.mos_machines.specs.Steps.{ServerState, with_peer, is_upper, unless_stale, server_sent, server_stepped, server_step}
+use Rattle.mos_machines.specs.Steps.ServerEvent.{NextSend, UpperAnswer}
 use Rattle.mos_machines.specs.Tables.{PeerTables, ServerTables, no_peer_tables, peer_of, server_state}
 
 equal-by : (a b : ℕ) → (a == b) ≡ true → a ≡ b
@@ -23,3 +26,31 @@ peer-at peers d x h e = by (e == d) refl
 -- a device's tables written anew are its state written anew
 pub set-peer : (t : ServerTables) (d : ℕ) (x : PeerTables) → d < length t.peers → server_state (record t { peers = set t.peers d x }) ≡ with_peer (server_state t) d (peer_of x)
 set-peer t d x h = λ i. record { journal = t.journal; stopped = t.stopped; faults = t.faults; peers = λ e. peer-at t.peers d x h e i }
+
+-- a device's state after a call on its current connection is that after the server's step
+pub sent-step : (s : ServerState) (d c : ℕ) (now : MosTime) (x : PeerState) → is_upper s d c ≡ true → x ≡ (peer_next s.journal now (s.peers d)).0 → with_peer s d x ≡ (server_step false s (NextSend d c now)).1
+sent-step s d c now x u e = ap (with_peer s d) e ∙ by (is_upper s d c) u (peer_next s.journal now (s.peers d))
+  where
+    by : (b : Bool) → b ≡ true → (p : PeerState × Option Packet) → with_peer s d p.0 ≡ (unless_stale b s (server_sent s d p)).1
+    by true h (y, q) = refl
+    by false h p = absurd (cc)
+
+pub answered-step : (s : ServerState) (d c : ℕ) (m : Message) (x : PeerState) → is_upper s d c ≡ true → x ≡ (peer_answered s.journal (s.peers d) m).0 → with_peer s d x ≡ (server_step false s (UpperAnswer d c m)).1
+answered-step s d c m x u e = ap (with_peer s d) e ∙ by (is_upper s d c) u (peer_answered s.journal (s.peers d) m)
+  where
+    by : (b : Bool) → b ≡ true → (p : PeerState × Step) → with_peer s d p.0 ≡ (unless_stale b s (server_stepped s d p)).1
+    by true h (y, q) = refl
+    by false h p = absurd (cc)
+
+pub on-ok : {X Y : Type 0} {A B : Type 0} (r : Result X Y) → OnOk r A → (A → B) → OnOk r B
+on-ok (Ok x) a f = f a
+on-ok (Err y) a f = a
+
+-- the device at a place, whatever stands for one that isn't there
+any-default : {X : Type 0} (xs : List X) (d : ℕ) (a b : X) → d < length xs → get_or xs d a ≡ get_or xs d b
+any-default [] d a b h = absurd (omega (arith, h))
+any-default (x ∷ xs) zero a b h = refl
+any-default (x ∷ xs) (suc d) a b h = any-default xs d a b (omega (arith, h))
+
+pub peer-here : (items peers : List PeerTables) (d : ℕ) (x : PeerTables) → items ≡ peers → d < length peers → x ≡ get_or items d x → peer_of x ≡ peer_of (get_or peers d no_peer_tables)
+peer-here items peers d x s h e = ap peer_of (e ∙ (ap (λ (xs : List PeerTables). get_or xs d x) s ∙ any-default peers d x no_peer_tables h))
