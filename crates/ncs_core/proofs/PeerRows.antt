@@ -1,5 +1,5 @@
 -- One device's tables written anew.
-use Rattle.std.proofs.Common.{◌≡◌, ℕ, zero, suc, ◌<◌, Bool, true, false, List, [], ◌∷◌, length, get_or, set, Option, Result, Ok, Err, OnOk, refl, sym, ap, ◌∙◌, subst, if◌then◌else◌, ◌==◌, arith}
+use Rattle.std.proofs.Common.{◌≡◌, ℕ, zero, suc, ◌<◌, Bool, true, false, List, [], ◌∷◌, length, get_or, set, Option, Result, Ok, Err, OnOk, IfOk, refl, sym, ap, ◌∙◌, subst, if◌then◌else◌, ◌==◌, arith}
 use Rattle.std.proofs.lemmas.Bool.Decides.{nat_tests}
 use Rattle.std.proofs.lemmas.List.{get_or-set_same, get_or-set_other}
 use Rattle.mos_edits.specs.Texts.{set_number}
@@ -54,3 +54,21 @@ any-default (x ∷ xs) (suc d) a b h = any-default xs d a b (omega (arith, h))
 
 pub peer-here : (items peers : List PeerTables) (d : ℕ) (x : PeerTables) → items ≡ peers → d < length peers → x ≡ get_or items d x → peer_of x ≡ peer_of (get_or peers d no_peer_tables)
 peer-here items peers d x s h e = ap peer_of (e ∙ (ap (λ (xs : List PeerTables). get_or xs d x) s ∙ any-default peers d x no_peer_tables h))
+
+pub table-here : (items peers : List PeerTables) (d : ℕ) (x : PeerTables) → items ≡ peers → d < length peers → x ≡ get_or items d x → x ≡ get_or peers d no_peer_tables
+table-here items peers d x s h e = e ∙ (ap (λ (xs : List PeerTables). get_or xs d x) s ∙ any-default peers d x no_peer_tables h)
+
+-- a device's state written as it is changes nothing
+same-at : (f : ℕ → PeerState) (d e : ℕ) → set_number f d (f d) e ≡ f e
+same-at f d e = by (e == d) refl
+  where
+    by : (c : Bool) → (e == d) ≡ c → (if c then f d else f e) ≡ f e
+    by true s = ap f (sym (equal-by e d s))
+    by false s = refl
+
+pub with-same : (s : ServerState) (d : ℕ) (x : PeerState) → x ≡ s.peers d → with_peer s d x ≡ s
+with-same s d x e = ap (with_peer s d) e ∙ (λ i. record { journal = s.journal; stopped = s.stopped; faults = s.faults; peers = λ n. same-at s.peers d n i })
+
+pub if-ok-is : {X Y : Type 0} (r : Result X Y) (x y : X) → x ≡ y → IfOk r (λ a. a ≡ x) → IfOk r (λ a. a ≡ y)
+if-ok-is (Ok a) x y e h = h ∙ e
+if-ok-is (Err f) x y e h = h

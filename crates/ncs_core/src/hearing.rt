@@ -1,12 +1,14 @@
 //! What a device says and asks on the connection that it opened.
-ghost use Rattle.std.specs.Prelude.{◌≡◌, ◌<◌, false, OnOk, OnErr, IfOk, IsOk};
+ghost use Rattle.std.specs.Prelude.{◌≡◌, ◌<◌, false, get_or, OnOk, OnErr, IfOk, IsOk, IsSome};
 ghost use Rattle.std.specs.Option.{option_copied};
 ghost use Rattle.mos_edits.specs.Entries.{order_now};
 ghost use Rattle.mos_machines.specs.Messages.{Message as Said, message_ro};
 ghost use Rattle.mos_machines.specs.Messages.Status.{NotNow};
 ghost use Rattle.mos_machines.specs.Server.{peer_hear, peer_settled};
 ghost use Rattle.mos_machines.specs.Steps.{ServerEvent, server_step, with_peer};
+ghost use Rattle.mos_machines.specs.Tables.{no_peer_tables};
 ghost use Rattle.mos_machines.specs.Values.{seen, message_of};
+ghost use Rattle.order_table.specs.Rows.{find_row};
 ghost use Rattle.machine_answers.specs.Answers.{heard_of};
 ghost use Rattle.machine_answers.specs.declared.answers.Heard.TheVariants as heard;
 ghost use Rattle.mos_values.specs.declared.message.Message.TheVariants as carried;
@@ -14,7 +16,7 @@ ghost use Rattle.ncs_core.specs.Answers.{acked, other_status, list_said, peer_li
 ghost use Rattle.ncs_core.specs.State.{ncs_of, devices_of, LeavesRest};
 
 use crate::ncs::Ncs;
-use crate::orders::{headers_in, order_in};
+use crate::orders::headers_in;
 use crate::reading::{ack, other_ack};
 use machine_answers::{Heard, Status};
 use mos_fields::{Id, NoMemory};
@@ -42,6 +44,7 @@ impl<K: Keeper> Ncs<K> {
         ensures rest { LeavesRest self.old self.new }
         ensures err { OnErr result (ncs_of self.new ≡ ncs_of self.old) }
     {
+        self.orders.has_ascending_ids();
         let headers = headers_in(self.allocator(), self.orders.rows())?;
         self.peers[d as usize].settle(&self.journal, false);
         Ok(Heard::Say(Message::RoListAll(headers)))
@@ -60,6 +63,33 @@ impl<K: Keeper> Ncs<K> {
         Ok(Heard::Say(Message::RoAck(answer)))
     }
 
+    // Makes room for the view of an order. Nothing else changes, also without memory for it.
+    fn reserve_view(&mut self, d: u32, ro: &Id) -> Result<(), NoMemory>
+        requires { d < devices_of self.old }
+        ensures there { OnOk result (IsSome (find_row ro.now (get_or self.new.server.peers d no_peer_tables).views)) }
+        ensures same { ncs_of self.new ≡ ncs_of self.old }
+        ensures rest { LeavesRest self.old self.new }
+    {
+        self.peers[d as usize].reserve(ro)
+    }
+
+    // All entries of an order are on their way to a device.
+    fn set_listed(&mut self, d: u32, ro: &Id)
+        requires within { d < devices_of self.old }
+        requires there { IsSome (find_row ro.now (get_or self.old.server.peers d no_peer_tables).views) }
+        ensures step { ncs_of self.new ≡ with_peer (ncs_of self.old) d (peer_listed self.old.server.journal ro.now ((ncs_of self.old).peers d)) }
+        ensures rest { LeavesRest self.old self.new }
+    {
+        self.peers[d as usize].listed(&self.journal, ro);
+    }
+
+    // The order that is asked for, or that there is none.
+    fn say_list(&self, ro: &Id) -> Result<Heard, NoMemory>
+        ensures { IfOk result (λ h. h ≡ heard.Say (list_said ro.now (order_now self.now.server.journal ro.now))) }
+    {
+        said_list(self.allocator(), self.order(ro), ro)
+    }
+
     // An order is asked for, and is given.
     fn give_list(&mut self, d: u32, ro: &Id) -> Result<Heard, NoMemory>
         requires { d < devices_of self.old }
@@ -68,9 +98,9 @@ impl<K: Keeper> Ncs<K> {
         ensures rest { LeavesRest self.old self.new }
         ensures err { OnErr result (ncs_of self.new ≡ ncs_of self.old) }
     {
-        self.peers[d as usize].reserve(ro)?;
-        let said = said_list(self.allocator(), order_in(&self.orders, ro), ro)?;
-        self.peers[d as usize].listed(&self.journal, ro);
+        self.reserve_view(d, ro)?;
+        let said = self.say_list(ro)?;
+        self.set_listed(d, ro);
         Ok(said)
     }
 
