@@ -21,8 +21,8 @@ use crate::reading::{ack, other_ack};
 use machine_answers::{Heard, Status};
 use mos_fields::{Id, NoMemory};
 use mos_values::Message;
-use running_order::Order;
 use rundown_log::Keeper;
+use running_order::Order;
 use std::alloc::Global;
 
 // The order that was asked for, or that there is none.

@@ -118,17 +118,17 @@ header-units : (h : Header) → header_units h ≡ units_in (header_events h)
 unfolding header_events
 header-units h =
     let j = joined-units (
-          must fields.RoID h.ro
-          ∷ must fields.RoSlug h.slug
-          ∷ maybe fields.RoChannel h.channel
-          ∷ maybe fields.RoEdStart h.ed_start
-          ∷ maybe fields.RoEdDur h.ed_dur
-          ∷ maybe fields.RoTrigger h.trigger
-          ∷ maybe fields.MacroIn h.macro_in
-          ∷ maybe fields.MacroOut h.macro_out
-          ∷ raws fields.Metadata h.metadata
-          ∷ raws fields.Kept h.others
-          ∷ []) in
+    must fields.RoID h.ro
+    ∷ must fields.RoSlug h.slug
+    ∷ maybe fields.RoChannel h.channel
+    ∷ maybe fields.RoEdStart h.ed_start
+    ∷ maybe fields.RoEdDur h.ed_dur
+    ∷ maybe fields.RoTrigger h.trigger
+    ∷ maybe fields.MacroIn h.macro_in
+    ∷ maybe fields.MacroOut h.macro_out
+    ∷ raws fields.Metadata h.metadata
+    ∷ raws fields.Kept h.others
+    ∷ []) in
     let a = must-units fields.RoID 4 h.ro refl in
     let b = must-units fields.RoSlug 6 h.slug refl in
     let c = maybe-units fields.RoChannel 9 h.channel refl in
@@ -145,17 +145,17 @@ patch-units : (h : HeaderPatch) → patch_units h ≡ units_in (patch_events h)
 unfolding patch_events
 patch-units h =
     let j = joined-units (
-          must fields.RoID h.ro
-          ∷ maybe fields.RoSlug h.slug
-          ∷ maybe fields.RoChannel h.channel
-          ∷ maybe fields.RoEdStart h.ed_start
-          ∷ maybe fields.RoEdDur h.ed_dur
-          ∷ maybe fields.RoTrigger h.trigger
-          ∷ maybe fields.MacroIn h.macro_in
-          ∷ maybe fields.MacroOut h.macro_out
-          ∷ raws fields.Metadata h.metadata
-          ∷ raws fields.Kept h.others
-          ∷ []) in
+    must fields.RoID h.ro
+    ∷ maybe fields.RoSlug h.slug
+    ∷ maybe fields.RoChannel h.channel
+    ∷ maybe fields.RoEdStart h.ed_start
+    ∷ maybe fields.RoEdDur h.ed_dur
+    ∷ maybe fields.RoTrigger h.trigger
+    ∷ maybe fields.MacroIn h.macro_in
+    ∷ maybe fields.MacroOut h.macro_out
+    ∷ raws fields.Metadata h.metadata
+    ∷ raws fields.Kept h.others
+    ∷ []) in
     let a = must-units fields.RoID 4 h.ro refl in
     let b = maybe-units fields.RoSlug 6 h.slug refl in
     let c = maybe-units fields.RoChannel 9 h.channel refl in
@@ -172,22 +172,22 @@ item-units : (x : Item) → IsSmallItem x → item_units x ≡ units_in (element
 unfolding item_events
 item-units x small =
     let j = joined-units (
-          must fields.ItemID x.id
-          ∷ maybe fields.ItemSlug x.slug
-          ∷ must fields.ObjID x.obj
-          ∷ must fields.MosID x.mos
-          ∷ maybe_raw fields.MosAbstract x.mos_abstract
-          ∷ maybe_raw fields.ObjPaths x.obj_paths
-          ∷ maybe fields.ItemChannel x.channel
-          ∷ maybe_as samples_text fields.ItemEdStart x.ed_start
-          ∷ maybe_as samples_text fields.ItemEdDur x.ed_dur
-          ∷ maybe_as samples_text fields.ItemUserTimingDur x.user_timing_dur
-          ∷ maybe fields.ItemTrigger x.trigger
-          ∷ maybe fields.MacroIn x.macro_in
-          ∷ maybe fields.MacroOut x.macro_out
-          ∷ raws fields.Metadata x.metadata
-          ∷ raws fields.Kept x.others
-          ∷ []) in
+    must fields.ItemID x.id
+    ∷ maybe fields.ItemSlug x.slug
+    ∷ must fields.ObjID x.obj
+    ∷ must fields.MosID x.mos
+    ∷ maybe_raw fields.MosAbstract x.mos_abstract
+    ∷ maybe_raw fields.ObjPaths x.obj_paths
+    ∷ maybe fields.ItemChannel x.channel
+    ∷ maybe_as samples_text fields.ItemEdStart x.ed_start
+    ∷ maybe_as samples_text fields.ItemEdDur x.ed_dur
+    ∷ maybe_as samples_text fields.ItemUserTimingDur x.user_timing_dur
+    ∷ maybe fields.ItemTrigger x.trigger
+    ∷ maybe fields.MacroIn x.macro_in
+    ∷ maybe fields.MacroOut x.macro_out
+    ∷ raws fields.Metadata x.metadata
+    ∷ raws fields.Kept x.others
+    ∷ []) in
     let t = units_in_element (name_of fields.ItemTag) (item_events x) (units_of_name fields.ItemTag) in
     let a = must-units fields.ItemID 6 x.id refl in
     let b = maybe-units fields.ItemSlug 8 x.slug refl in
@@ -213,7 +213,7 @@ items-units (x ∷ xs) h =
     let a = item-units x h.0 in
     let i = items-units xs h.1 in
     let e : units_in (items_events (x ∷ xs)) ≡ units_in (element (name_of fields.ItemTag) (item_events x)) + units_in (items_events xs) =
-          ap units_in (flat_map-cons (λ (y : Item). element (name_of fields.ItemTag) (item_events y)) x xs) ∙ units_in-append (element (name_of fields.ItemTag) (item_events x)) (items_events xs) in
+    ap units_in (flat_map-cons (λ (y : Item). element (name_of fields.ItemTag) (item_events y)) x xs) ∙ units_in-append (element (name_of fields.ItemTag) (item_events x)) (items_events xs) in
     omega (arith, a, i, e)
 
 story-units : (s : Story) → AreSmallItems s.items → story_units s ≡ units_in (element (name_of fields.StoryTag) (story_events s))
@@ -237,7 +237,7 @@ stories-units (s ∷ ss) h =
     let a = story-units s h.0 in
     let i = stories-units ss h.1 in
     let e : units_in (stories_events (s ∷ ss)) ≡ units_in (element (name_of fields.StoryTag) (story_events s)) + units_in (stories_events ss) =
-          ap units_in (flat_map-cons (λ (y : Story). element (name_of fields.StoryTag) (story_events y)) s ss) ∙ units_in-append (element (name_of fields.StoryTag) (story_events s)) (stories_events ss) in
+    ap units_in (flat_map-cons (λ (y : Story). element (name_of fields.StoryTag) (story_events y)) s ss) ∙ units_in-append (element (name_of fields.StoryTag) (story_events s)) (stories_events ss) in
     omega (arith, a, i, e)
 
 pub order-units : (o : Order) → IsSmallOrder o → list_units o ≡ units_in (list_events o)
@@ -257,7 +257,7 @@ ros-units (h ∷ hs) =
     let t = units_in_element (name_of fields.RoTag) (patch_events h) (units_of_name fields.RoTag) in
     let i = ros-units hs in
     let e : units_in (headers_events (h ∷ hs)) ≡ units_in (element (name_of fields.RoTag) (patch_events h)) + units_in (headers_events hs) =
-          ap units_in (flat_map-cons (λ (y : HeaderPatch). element (name_of fields.RoTag) (patch_events y)) h hs) ∙ units_in-append (element (name_of fields.RoTag) (patch_events h)) (headers_events hs) in
+    ap units_in (flat_map-cons (λ (y : HeaderPatch). element (name_of fields.RoTag) (patch_events y)) h hs) ∙ units_in-append (element (name_of fields.RoTag) (patch_events h)) (headers_events hs) in
     omega (arith, a, t, i, e)
 
 pub orders-units : (hs : List HeaderPatch) → list_all_units hs ≡ units_in (list_all_events hs)
