@@ -2,9 +2,9 @@
 use Rattle.std.proofs.Common.{◌≡◌, ℕ, Bool, true, false, List, Option, Some, None, refl, sym, ap, ◌∙◌, if◌then◌else◌}
 use Rattle.mos_edits.specs.Texts.{Text}
 use Rattle.mos_edits.specs.Orders.{Order}
-use Rattle.mos_edits.specs.Entries.{Entry, entry_count, order_now, headers}
+use Rattle.mos_edits.specs.Entries.{Entry, entry_count, order_now}
 use Rattle.mos_machines.specs.Messages.{Message, Packet, message_ro}
-use Rattle.mos_machines.specs.Messages.Message.{RoReq, RoReqAll, RoAck}
+use Rattle.mos_machines.specs.Messages.Message.{RoReq, RoAck}
 use Rattle.mos_machines.specs.Messages.Status.{NotNow}
 use Rattle.mos_machines.specs.Server.{PeerState, peer_hear, peer_settled, is_busy, list_of}
 use Rattle.mos_machines.specs.Steps.{ServerState, with_peer, is_lower, unless_stale, server_says, server_step}

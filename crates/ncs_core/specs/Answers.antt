@@ -1,5 +1,5 @@
 -- What the server says to a device.
-use Rattle.std.specs.Prelude.{List, [], Bool, false, Option, Some, None}
+use Rattle.std.specs.Prelude.{List, [], false, Option, Some, None}
 use Rattle.mos_edits.specs.Texts.{Text, set_order}
 use Rattle.mos_edits.specs.Entries.{Entry, entry_count}
 use Rattle.mos_edits.specs.Orders.{Order}

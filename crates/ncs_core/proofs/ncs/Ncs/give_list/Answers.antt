@@ -1,4 +1,4 @@
-use Rattle.std.proofs.Common.{◌≡◌, ap, ◌∙◌}
+use Rattle.std.proofs.Common.{ap, ◌∙◌}
 use Rattle.mos_machines.specs.Steps.{ServerState, with_peer}
 use Rattle.ncs_core.specs.Answers.{peer_listed}
 use Rattle.ncs_core.proofs.ncs.Ncs.give_list.Goals as goal

@@ -1,8 +1,7 @@
-use Rattle.std.proofs.Common.{◌≡◌, List, true, sym, ap, ◌∙◌}
+use Rattle.std.proofs.Common.{◌≡◌, true, sym, ap, ◌∙◌}
 use Rattle.mos_machines.specs.Messages.{is_link}
 use Rattle.mos_machines.specs.Server.{PeerState}
 use Rattle.mos_machines.specs.Steps.{is_lower}
-use Rattle.mos_machines.specs.Tables.{PeerTables}
 use Rattle.mos_machines.specs.Values.{seen}
 use Rattle.ncs_core.specs.State.{NcsTables, ncs_of}
 use Rattle.ncs_core.proofs.PeerRows.{peer-here, on-ok, if-ok-is}

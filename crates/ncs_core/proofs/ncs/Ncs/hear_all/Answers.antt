@@ -1,4 +1,4 @@
-use Rattle.std.proofs.Common.{◌≡◌, List, set, false, sym, ap, ◌∙◌}
+use Rattle.std.proofs.Common.{◌≡◌, List, set, false, ap, ◌∙◌}
 use Rattle.mos_edits.specs.Orders.{HeaderPatch}
 use Rattle.mos_edits.specs.Entries.{headers}
 use Rattle.mos_machines.specs.Server.{peer_settled}

@@ -1,7 +1,7 @@
-use Rattle.std.proofs.Common.{◌≡◌, List, set, true, sym, ap, ◌∙◌}
+use Rattle.std.proofs.Common.{◌≡◌, set, true, sym, ap, ◌∙◌}
 use Rattle.mos_machines.specs.Server.{peer_settled, peer_hear}
 use Rattle.mos_machines.specs.Steps.{with_peer}
-use Rattle.mos_machines.specs.Tables.{PeerTables, server_state, peer_of}
+use Rattle.mos_machines.specs.Tables.{server_state}
 use Rattle.mos_machines.specs.Values.{seen}
 use Rattle.mos_values.specs.declared.message.Message as values
 use Rattle.ncs_core.specs.State.{NcsTables, ncs_of}

@@ -1,7 +1,7 @@
-use Rattle.std.proofs.Common.{◌≡◌, List, set, false, sym, ap, ◌∙◌}
+use Rattle.std.proofs.Common.{◌≡◌, set, false, ap, ◌∙◌}
 use Rattle.mos_machines.specs.Server.{peer_settled}
 use Rattle.mos_machines.specs.Steps.{with_peer}
-use Rattle.mos_machines.specs.Tables.{PeerTables, server_state, peer_of}
+use Rattle.mos_machines.specs.Tables.{server_state}
 use Rattle.ncs_core.specs.State.{NcsTables, ncs_of}
 use Rattle.ncs_core.proofs.PeerRows.{set-peer, peer-here}
 use Rattle.ncs_core.proofs.ncs.Ncs.hear_other.Goals as goal

@@ -1,7 +1,6 @@
-use Rattle.std.proofs.Common.{◌≡◌, List, Bool, true, false, sym, ap, ◌∙◌}
+use Rattle.std.proofs.Common.{◌≡◌, true, false, sym, ap, ◌∙◌}
 use Rattle.mos_machines.specs.Server.{PeerState, is_busy}
 use Rattle.mos_machines.specs.Steps.{with_peer}
-use Rattle.mos_machines.specs.Tables.{PeerTables}
 use Rattle.mos_values.specs.declared.message.Message as values
 use Rattle.machine_answers.specs.declared.answers.Heard.TheVariants as heard
 use Rattle.ncs_core.specs.State.{NcsTables, ncs_of}

@@ -1,4 +1,4 @@
-use Rattle.std.proofs.Common.{◌≡◌, ◌<◌, List, length, set, IsSome, sym, ap, ◌∙◌, subst}
+use Rattle.std.proofs.Common.{◌≡◌, ◌<◌, length, set, IsSome, sym, ap, ◌∙◌, subst}
 use Rattle.std.proofs.lemmas.List.{get_or-set_same}
 use Rattle.mos_machines.specs.Tables.{PeerTables, no_peer_tables, server_state, peer_of}
 use Rattle.order_table.specs.Rows.{find_row}

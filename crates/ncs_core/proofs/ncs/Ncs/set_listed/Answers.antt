@@ -1,6 +1,6 @@
-use Rattle.std.proofs.Common.{◌≡◌, List, set, IsSome, sym, ap, ◌∙◌, subst}
+use Rattle.std.proofs.Common.{◌≡◌, set, IsSome, sym, ap, ◌∙◌, subst}
 use Rattle.mos_machines.specs.Steps.{with_peer}
-use Rattle.mos_machines.specs.Tables.{PeerTables, server_state, peer_of}
+use Rattle.mos_machines.specs.Tables.{PeerTables, server_state}
 use Rattle.order_table.specs.Rows.{find_row}
 use Rattle.ncs_core.specs.Answers.{peer_listed}
 use Rattle.ncs_core.specs.State.{NcsTables, ncs_of}

@@ -1,8 +1,8 @@
-use Rattle.std.proofs.Common.{◌≡◌, List, set, true, sym, ap, ◌∙◌}
+use Rattle.std.proofs.Common.{◌≡◌, set, true, sym, ap, ◌∙◌}
 use Rattle.mos_machines.specs.Messages.{is_link}
 use Rattle.mos_machines.specs.Server.{PeerState, upper_link, peer_answered}
 use Rattle.mos_machines.specs.Steps.{is_upper}
-use Rattle.mos_machines.specs.Tables.{PeerTables, server_state, peer_of}
+use Rattle.mos_machines.specs.Tables.{server_state, peer_of}
 use Rattle.mos_machines.specs.Values.{seen}
 use Rattle.ncs_core.specs.State.{NcsTables, ncs_of}
 use Rattle.ncs_core.proofs.PeerRows.{set-peer, answered-step, peer-here}
