@@ -1,0 +1,3 @@
+pub mod PeerRows
+pub mod HeaderRows
+pub mod HearSteps

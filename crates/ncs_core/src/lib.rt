@@ -1,0 +1,13 @@
+//! The server's machine: what the newsroom's server keeps of the running orders and of its devices, and its steps.
+//!
+//! An `Ncs` is seen as the tables of its state. Each call is one step of the server, by its definition in `mos_machines`.
+#![tactic(auto)]
+
+mod connections;
+mod hearing;
+mod ncs;
+mod orders;
+mod reading;
+
+pub use ncs::Ncs;
+pub use server_peer::{ServerOut, Upper, View};

@@ -1,0 +1,90 @@
+//! The server's machine.
+ghost use Rattle.std.specs.Prelude.{◌≡◌, ◌<◌};
+ghost use Rattle.std.specs.Option.{option_copied};
+ghost use Rattle.mos_edits.specs.Entries.{entry_count, order_now};
+ghost use Rattle.server_peer.specs.Parts.{upper_of, view_of};
+ghost use Rattle.ncs_core.specs.State.{ncs_of, devices_of};
+
+use crate::orders::{Orders, order_in};
+use mos_fields::Id;
+use rundown_log::{Journal, Keeper};
+use running_order::Order;
+use server_peer::{Peer, Upper, View};
+use std::alloc::Global;
+use std::marker::Model;
+
+/// What the server keeps: the journal of the accepted edits and its keeper, each order after its entries, and its devices.
+///
+/// Each call is one step of the server. A call for a connection that isn't the current one is answered `Stale` and changes
+/// nothing. Devices are numbered from 0.
+#[derive(Drop)]
+pub struct Ncs<K: Keeper> {
+    pub(crate) keeper: K,
+    pub(crate) journal: Journal,
+    pub(crate) orders: Orders,
+    pub(crate) peers: Vec<Peer>,
+    pub(crate) stopped: bool,
+}
+
+impl<K: Keeper> Model for Ncs<K> {
+    ghost use Rattle.std.specs.Prelude.{◌≤◌, length};
+    ghost use Rattle.ncs_core.specs.State.{NcsTables, AreOrders};
+
+    ghost Value = { NcsTables };
+
+    ghost view = { λ n. record { server = record { journal = n.journal; stopped = n.stopped; faults = K.faults n.keeper; peers = n.peers.items }; kept = K.kept n.keeper } };
+
+    ghost invariant = { λ n. AreOrders n.journal n.orders × (length n.peers.items ≤ 64) };
+}
+
+impl<K: Keeper> Ncs<K> {
+    // The allocator of the journal.
+    pub(crate) fn allocator(&self) -> Global {
+        self.journal.allocator()
+    }
+
+    /// How many devices there are, 1 to 64. It takes no memory.
+    pub fn devices(&self) -> u32
+        ensures { result ≡ devices_of self.now }
+    {
+        self.peers.len() as u32
+    }
+
+    /// The order of a roID after all its entries, where there is one. It takes no memory.
+    pub fn order(&self, ro: &Id) -> Option<&Order>
+        ensures { option_copied result ≡ order_now self.now.server.journal ro.now }
+    {
+        order_in(&self.orders, ro)
+    }
+
+    /// How many entries an order has. It takes no memory.
+    pub fn entries(&self, ro: &Id) -> u64
+        ensures { result ≡ entry_count self.now.server.journal ro.now }
+    {
+        self.journal.entry_count(ro) as u64
+    }
+
+    /// The connection that the server opened to a device, and what is in flight there. It takes no memory.
+    pub fn upper(&self, d: u32) -> &Upper
+        requires { d < devices_of self.now }
+        ensures { upper_of result.now ≡ ((ncs_of self.now).peers d).upper }
+    {
+        self.peers[d as usize].upper()
+    }
+
+    /// What the server takes a device to hold of an order. It takes no memory.
+    pub fn view(&self, d: u32, ro: &Id) -> View
+        requires { d < devices_of self.now }
+        ensures { view_of result ≡ ((ncs_of self.now).peers d).views ro.now }
+    {
+        self.peers[d as usize].view(ro)
+    }
+
+    /// The connection that a device opened, where it has one. It takes no memory.
+    pub fn device_link(&self, d: u32) -> Option<u64>
+        requires { d < devices_of self.now }
+        ensures { result ≡ ((ncs_of self.now).peers d).link }
+    {
+        self.peers[d as usize].link()
+    }
+}

@@ -1,0 +1,28 @@
+-- What a keeper's calls do to the entries that it keeps, where these are observable.
+use Rattle.std.specs.Prelude.{◌≡◌, ℕ, List, [], ◌∷◌, ◌++◌, ◌⊎◌, Option, Some, None, Result, Ok, Err}
+use Rattle.mos_edits.specs.Entries.{Entry}
+use Rattle.mos_io.specs.Counts.{Rose}
+use Rattle.rundown_log.specs.declared.keeper.KeepFault.{KeepFault}
+use Rattle.rundown_log.specs.declared.keeper.KeepFault.TheVariants.{Failed, NoMemory}
+
+-- one more entry stands at the end
+abbrev pub Keeps : Option (List Entry) → Option (List Entry) → Entry → Type 0
+Keeps None after e = after ≡ None
+Keeps (Some kept) after e = after ≡ Some (kept ++ e ∷ [])
+
+-- what an append did
+abbrev pub Appends : Option (List Entry) → Option (List Entry) → ℕ → ℕ → Entry → Result (Unit {0}) KeepFault → Type 0
+Appends before after faults_before faults_after e (Ok done) = Keeps before after e
+Appends before after faults_before faults_after e (Err Failed) = ((after ≡ before) ⊎ Keeps before after e) × Rose faults_before faults_after
+Appends before after faults_before faults_after e (Err NoMemory) = after ≡ before
+
+-- these are the entries that are kept
+abbrev pub AreKept : Option (List Entry) → List Entry → Type 0
+AreKept None entries = Unit {0}
+AreKept (Some kept) entries = entries ≡ kept
+
+-- what a load gave
+abbrev pub Loads : Option (List Entry) → ℕ → ℕ → Result (List Entry) KeepFault → Type 0
+Loads kept faults_before faults_after (Ok entries) = AreKept kept entries
+Loads kept faults_before faults_after (Err Failed) = Rose faults_before faults_after
+Loads kept faults_before faults_after (Err NoMemory) = Unit {0}

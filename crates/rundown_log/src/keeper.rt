@@ -1,0 +1,55 @@
+//! What entries are written to.
+ghost use Rattle.std.specs.Prelude.{◌≡◌, ℕ, ◌≤◌, List, Option};
+ghost use Rattle.mos_edits.specs.Entries.{Entry as JournalEntry};
+ghost use Rattle.mos_machines.specs.Values.{edit_message};
+ghost use Rattle.mos_values.specs.Sound.{IsSound};
+ghost use Rattle.rundown_log.specs.Keeping.{Appends, Loads};
+
+use crate::entry::Entry;
+use mos_values::Sequence;
+use std::alloc::AllocError;
+
+/// Entries in order.
+pub type Entries = Sequence<Entry>;
+
+/// Why an entry wasn't kept, or the entries weren't loaded.
+#[derive(Clone, Copy, Debug, Drop, PartialEq, Eq)]
+pub enum KeepFault {
+    /// The keeper failed, and counted that. The entry may stand there.
+    Failed,
+    /// Out of memory. Nothing was kept.
+    NoMemory,
+}
+
+impl From<AllocError> for KeepFault {
+    ghost use Rattle.std.specs.Prelude.{◌≡◌};
+    ghost use Rattle.rundown_log.specs.declared.keeper.KeepFault.TheVariants.{NoMemory as out_of_memory};
+
+    ghost from_gives = { λ _ e. e ≡ out_of_memory };
+
+    fn from(_fault: AllocError) -> KeepFault {
+        KeepFault::NoMemory
+    }
+}
+
+/// Keeps the entries of a journal, so that they are there after a restart.
+///
+/// A keeper may be observable: its ghost state `kept` is then the list of the entries that it keeps. `faults` counts the
+/// calls that failed, and never falls.
+pub trait Keeper {
+    ghost kept: { Self → Option (List JournalEntry) };
+
+    ghost faults: { Self → ℕ };
+
+    /// Keeps one more entry, at the end. After `Failed` it stands there or doesn't; `NoMemory` keeps nothing.
+    fn append(&mut self, e: &Entry) -> Result<(), KeepFault>
+        requires { IsSound (edit_message e.now.edit) }
+        ensures appends { Appends (kept self.old) (kept self.new) (faults self.old) (faults self.new) e.now result }
+        ensures rises { faults self.old ≤ faults self.new };
+
+    /// The entries that are kept. They stay there.
+    fn load(&mut self) -> Result<Entries, KeepFault>
+        ensures loads { Loads (kept self.old) (faults self.old) (faults self.new) result }
+        ensures stay { kept self.new ≡ kept self.old }
+        ensures rises { faults self.old ≤ faults self.new };
+}

@@ -1,0 +1,53 @@
+//! A keeper in memory that fails at a chosen append, and a journal over it.
+use crate::{Journal, KeepFault, Keeper, MemKeeper};
+use mos_fields::{Air, Id};
+use mos_values::Edit;
+use std::alloc::Global;
+use std::test::Fail;
+
+fn id(alloc: Global, name: char) -> Result<Id, Fail> {
+    Ok(Id::try_new(alloc, &[name])?)
+}
+
+// READY of an order that is named by one letter.
+fn ready(alloc: Global, name: char) -> Result<Edit, Fail> {
+    Ok(Edit::Air {
+        ro: id(alloc, name)?,
+        air: Air::Ready,
+    })
+}
+
+#[test]
+fn entries_are_found_by_order_and_number(rt: HostRuntime) -> Result<(), Fail> {
+    let alloc = rt.alloc();
+    let mut keeper = MemKeeper::new(alloc, Vec::new(alloc), false);
+    let mut journal = Journal::new(alloc);
+    for name in ['R', 'S', 'R'] {
+        assert_eq!(rt; journal.keep(&mut keeper, &ready(alloc, name)?), Ok(()));
+    }
+    let ro = id(alloc, 'R')?;
+    assert_eq!(rt; journal.len(), 3);
+    assert_eq!(rt; journal.entry_count(&ro), 2);
+    assert_eq!(rt; journal.find(&ro, 1), Some(2));
+    assert_eq!(rt; journal.find(&ro, 2), None);
+    assert!(rt; journal.at(1).ro().is(&id(alloc, 'S')?));
+    Ok(())
+}
+
+#[test]
+fn a_failed_append_stands_only_once_settled(rt: HostRuntime) -> Result<(), Fail> {
+    let alloc = rt.alloc();
+    let fails = Vec::from_slice(alloc, &[1u64])?;
+    let mut keeper = MemKeeper::new(alloc, fails, false);
+    let mut journal = Journal::new(alloc);
+    assert_eq!(rt; journal.keep(&mut keeper, &ready(alloc, 'R')?), Ok(()));
+    assert_eq!(rt; journal.keep(&mut keeper, &ready(alloc, 'S')?), Err(KeepFault::Failed));
+    assert_eq!(rt; journal.len(), 1);
+    assert_eq!(rt; keeper.load()?.len(), 1);
+    keeper.settle(true)?;
+    assert_eq!(rt; keeper.load()?.len(), 2);
+    keeper.fail_next();
+    assert_eq!(rt; journal.keep(&mut keeper, &ready(alloc, 'T')?), Err(KeepFault::Failed));
+    assert_eq!(rt; keeper.entries().len(), 2);
+    Ok(())
+}

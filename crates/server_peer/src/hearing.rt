@@ -1,0 +1,100 @@
+//! What a message of a device, and an accepted edit, do to its views.
+ghost use Rattle.std.specs.Prelude.{◌≡◌, ◌&&◌, true, false, OnOk, IsSome};
+ghost use Rattle.mos_edits.specs.Texts.{set_order};
+ghost use Rattle.mos_edits.specs.Entries.{entry_count};
+ghost use Rattle.mos_machines.specs.Server.{View as ServerView, is_open, peer_settled, settled, view_given};
+ghost use Rattle.mos_machines.specs.Tables.{peer_of, map_rows};
+ghost use Rattle.order_table.specs.Rows.{find_row};
+ghost use Rattle.server_peer.specs.Parts.{view_of, IsRoomFor};
+
+use crate::changes::Settling;
+use crate::peer::Peer;
+use crate::view::View;
+use crate::views::{know, set, view_in};
+use mos_fields::{Id, NoMemory};
+use rundown_log::Journal;
+
+// The view once a whole-order edit was accepted, which is entry `n`.
+fn once_given(view: View, n: u64) -> View
+    ensures { view_of result ≡ view_given true n (view_of view) }
+{
+    match view {
+        View::Out => View::From { k: n },
+        view => view,
+    }
+}
+
+// All entries of an order are on their way as a list.
+fn listed_view(count: usize) -> View
+    ensures { view_of result ≡ ServerView.Listed count }
+{
+    View::Listed { m: count as u64 }
+}
+
+impl Peer {
+    /// A message of the device was heard: where it was a heartbeat, the device took each list that was on its way, else it
+    /// may not have. It takes no memory.
+    pub fn settle(&mut self, journal: &Journal, beat: bool)
+        ensures rows { self.new ≡ record self.old { views = map_rows (settled journal.now beat) self.old.views } }
+        ensures step { peer_of self.new ≡ peer_settled journal.now beat (peer_of self.old) }
+    {
+        self.views.change_all(&Settling { journal, beat });
+    }
+
+    /// Makes room for a view of this order. Nothing else changes, also without memory for it.
+    pub fn reserve(&mut self, ro: &Id) -> Result<(), NoMemory>
+        ensures there { OnOk result (IsSome (find_row ro.now self.new.views)) }
+        ensures same { peer_of self.new ≡ peer_of self.old }
+    {
+        know(&mut self.views, ro)
+    }
+
+    /// A request of an order was heard, and all its entries are on their way as a list. It takes no memory.
+    pub fn listed(&mut self, journal: &Journal, ro: &Id)
+        requires { IsSome (find_row ro.now self.old.views) }
+        ensures { peer_of self.new ≡ record (peer_of self.old) { views = set_order (λ q. settled journal.now false q ((peer_of self.old).views q)) ro.now (ServerView.Listed (entry_count journal.now ro.now)) } }
+    {
+        self.settle(journal, false);
+        set(&mut self.views, ro, listed_view(journal.entry_count(ro)));
+    }
+
+    /// Makes room for the view that an accepted edit of this order may leave, which may be a whole-order edit. Nothing
+    /// else changes, also without memory for it.
+    pub fn reserve_given(&mut self, ro: &Id, is_whole: bool) -> Result<(), NoMemory>
+        ensures there { OnOk result (IsRoomFor is_whole ro.now self.new) }
+        ensures same { peer_of self.new ≡ peer_of self.old }
+    {
+        if self.is_given(is_whole) {
+            know(&mut self.views, ro)
+        } else {
+            Ok(())
+        }
+    }
+
+    /// An edit of this order was accepted, which is its entry `n`: a whole-order edit is sent to a device of which nothing
+    /// is known, where the server's connection is open. It takes no memory.
+    pub fn given(&mut self, ro: &Id, is_whole: bool, n: u64)
+        requires { IsRoomFor is_whole ro.now self.old }
+        ensures { peer_of self.new ≡ record (peer_of self.old) { views = set_order (peer_of self.old).views ro.now (view_given (is_open (peer_of self.old).upper && is_whole) n ((peer_of self.old).views ro.now)) } }
+    {
+        if self.is_given(is_whole) {
+            self.give(ro, n);
+        }
+    }
+
+    // Whether an edit that may be a whole-order one is given to the device.
+    fn is_given(&self, is_whole: bool) -> bool
+        ensures { result ≡ (is_open (peer_of self.now).upper && is_whole) }
+    {
+        self.upper.is_open() && is_whole
+    }
+
+    // A whole-order edit was accepted, which is entry `n` of this order, while the server's connection is open.
+    fn give(&mut self, ro: &Id, n: u64)
+        requires { IsSome (find_row ro.now self.old.views) }
+        ensures { peer_of self.new ≡ record (peer_of self.old) { views = set_order (peer_of self.old).views ro.now (view_given true n ((peer_of self.old).views ro.now)) } }
+    {
+        let view = once_given(view_in(&self.views, ro), n);
+        set(&mut self.views, ro, view);
+    }
+}

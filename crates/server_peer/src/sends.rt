@@ -1,0 +1,167 @@
+//! What the server sends a device next.
+ghost use Rattle.std.specs.Prelude.{◌≡◌, Some, OnOk, OnErr, IfOk, IsSome};
+ghost use Rattle.mos_machines.specs.Server.{Upper as ServerUpper, peer_next};
+ghost use Rattle.mos_machines.specs.Tables.{peer_of};
+ghost use Rattle.mos_machines.specs.Values.{edit_message as edit_message_of};
+ghost use Rattle.order_table.specs.Rows.{find_row};
+ghost use Rattle.machine_answers.specs.declared.answers.Sent.TheVariants as sents;
+ghost use Rattle.machine_answers.specs.declared.answers.Tag.TheVariants as tags;
+ghost use Rattle.mos_values.specs.declared.message.Message.TheVariants as carried;
+ghost use Rattle.server_peer.specs.Parts.{out_of, upper_of, link_if_idle as link_if_idle_of, idle_link as idle_link_of, sent_of, sent_idle, IsNumbered};
+ghost use Rattle.server_peer.specs.Dues.{due_tag as due_tag_of, due_out};
+
+use crate::due::{Due, entries_in, first_due};
+use crate::peer::Peer;
+use crate::upper::{ServerOut, Upper};
+use machine_answers::{Sent, Tag};
+use mos_fields::{Id, MosTime, NoMemory};
+use mos_values::{Edit, Message};
+use rundown_log::{Entry, Journal};
+
+// The link of an open connection on which nothing is in flight.
+fn idle_link(upper: &Upper) -> Option<u64>
+    ensures { result ≡ idle_link_of (upper_of upper.now) }
+{
+    match upper {
+        Upper::Open { link, out } => link_if_idle(*link, out),
+        _ => None,
+    }
+}
+
+fn link_if_idle(link: u64, out: &ServerOut) -> Option<u64>
+    ensures { result ≡ link_if_idle_of link (out_of out.now) }
+{
+    match out {
+        ServerOut::Idle => Some(link),
+        _ => None,
+    }
+}
+
+// The message that carries an edit.
+fn edit_message(edit: &Edit) -> Result<Message, NoMemory>
+    ensures { IfOk result (λ m. m ≡ edit_message_of edit.now) }
+{
+    Ok(match edit {
+        Edit::Create(body) => Message::RoCreate(body.try_clone()?),
+        Edit::Replace(body) => Message::RoReplace(body.try_clone()?),
+        Edit::Delete(ro) => Message::RoDelete(ro.try_clone()?),
+        Edit::Metadata(patch) => Message::RoMetadataReplace(patch.try_clone()?),
+        Edit::Act { ro, action } => Message::RoElementAction {
+            ro: ro.try_clone()?,
+            action: action.try_clone()?,
+        },
+        Edit::Air { ro, air } => Message::RoReadyToAir {
+            ro: ro.try_clone()?,
+            air: *air,
+        },
+    })
+}
+
+// The tag of an entry that is due.
+fn due_tag(ro: Id, due: Due) -> Tag
+    ensures { result ≡ due_tag_of ro due }
+{
+    if due.again {
+        Tag::Again { ro, m: due.number }
+    } else {
+        Tag::Edit { ro, k: due.number }
+    }
+}
+
+// What is in flight once an entry that is due was sent.
+fn due_flight(ro: Id, due: Due) -> ServerOut
+    ensures { out_of result ≡ due_out ro due }
+{
+    if due.again {
+        ServerOut::Again { ro, m: due.number }
+    } else {
+        ServerOut::Edit { ro, k: due.number }
+    }
+}
+
+// An entry that is due, as it is sent.
+fn sent_entry(entry: &Entry, due: Due) -> Result<Sent, NoMemory>
+    ensures { IfOk result (λ s. s ≡ sents.Out (edit_message_of entry.now.edit) (due_tag_of entry.now.ro due)) }
+{
+    let tag = due_tag(entry.ro().try_clone()?, due);
+    Ok(Sent::Out {
+        message: edit_message(entry.edit())?,
+        tag,
+    })
+}
+
+// A heartbeat.
+fn beat_at(now: &MosTime) -> Sent
+    ensures { result ≡ sents.Out (carried.Heartbeat now.now) tags.Beat }
+{
+    Sent::Out {
+        message: Message::Heartbeat(*now),
+        tag: Tag::Beat,
+    }
+}
+
+impl Peer {
+    // A heartbeat, where one was asked for.
+    fn send_beat(&mut self, link: u64, now: &MosTime) -> Sent
+        requires { idle_link_of self.old.upper ≡ Some link }
+        ensures answer { result ≡ sent_of (sent_idle now.now (peer_of self.old) link).1 }
+        ensures step { peer_of self.new ≡ (sent_idle now.now (peer_of self.old) link).0 }
+    {
+        if !self.note {
+            return Sent::Nothing;
+        }
+        self.note = false;
+        self.upper = Upper::Open {
+            link,
+            out: ServerOut::Beat,
+        };
+        beat_at(now)
+    }
+
+    // The entry that is due.
+    fn send_entry(&mut self, link: u64, entry: &Entry, due: Due) -> Result<Sent, NoMemory>
+        requires row { IsSome (find_row entry.now.ro self.old.views) }
+        requires number { IsNumbered (due_out entry.now.ro due) }
+        ensures answer { IfOk result (λ s. s ≡ sents.Out (edit_message_of entry.now.edit) (due_tag_of entry.now.ro due)) }
+        ensures step { OnOk result (self.new ≡ record self.old { upper = ServerUpper.Open link (due_out entry.now.ro due) }) }
+        ensures err { OnErr result (self.new ≡ self.old) }
+    {
+        let ro = entry.ro().try_clone()?;
+        let sent = sent_entry(entry, due)?;
+        self.upper = Upper::Open {
+            link,
+            out: due_flight(ro, due),
+        };
+        Ok(sent)
+    }
+
+    fn send(&mut self, journal: &Journal, link: u64, now: &MosTime) -> Result<Sent, NoMemory>
+        requires { idle_link_of self.old.upper ≡ Some link }
+        ensures answer { IfOk result (λ a. a ≡ sent_of (peer_next journal.now now.now (peer_of self.old)).1) }
+        ensures step { OnOk result (peer_of self.new ≡ (peer_next journal.now now.now (peer_of self.old)).0) }
+        ensures err { OnErr result (self.new ≡ self.old) }
+    {
+        self.views.has_ascending_ids();
+        let _count = entries_in(journal);
+        match first_due(journal, self.views.rows()) {
+            Some(due) => self.send_entry(link, journal.at(due.place), due),
+            None => Ok(self.send_beat(link, now)),
+        }
+    }
+
+    /// What is sent next on the server's connection: of the entries that the views make due, the one that stands first in
+    /// the journal; or else a heartbeat that was asked for.
+    ///
+    /// `Nothing` comes exactly where the connection isn't open, an answer is awaited, or none of these is due. The only
+    /// error is that memory runs out; all is then as it was.
+    pub fn next_send(&mut self, journal: &Journal, now: &MosTime) -> Result<Sent, NoMemory>
+        ensures answer { IfOk result (λ a. a ≡ sent_of (peer_next journal.now now.now (peer_of self.old)).1) }
+        ensures step { OnOk result (peer_of self.new ≡ (peer_next journal.now now.now (peer_of self.old)).0) }
+        ensures err { OnErr result (self.new ≡ self.old) }
+    {
+        match idle_link(&self.upper) {
+            Some(link) => self.send(journal, link, now),
+            None => Ok(Sent::Nothing),
+        }
+    }
+}
