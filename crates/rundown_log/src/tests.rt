@@ -41,13 +41,19 @@ fn a_failed_append_stands_only_once_settled(rt: HostRuntime) -> Result<(), Fail>
     let mut keeper = MemKeeper::new(alloc, fails, false);
     let mut journal = Journal::new(alloc);
     assert_eq!(rt; journal.keep(&mut keeper, &ready(alloc, 'R')?), Ok(()));
-    assert_eq!(rt; journal.keep(&mut keeper, &ready(alloc, 'S')?), Err(KeepFault::Failed));
+    assert_eq!(rt;
+        journal.keep(&mut keeper, &ready(alloc, 'S')?),
+        Err(KeepFault::Failed)
+    );
     assert_eq!(rt; journal.len(), 1);
     assert_eq!(rt; keeper.load()?.len(), 1);
     keeper.settle(true)?;
     assert_eq!(rt; keeper.load()?.len(), 2);
     keeper.fail_next();
-    assert_eq!(rt; journal.keep(&mut keeper, &ready(alloc, 'T')?), Err(KeepFault::Failed));
+    assert_eq!(rt;
+        journal.keep(&mut keeper, &ready(alloc, 'T')?),
+        Err(KeepFault::Failed)
+    );
     assert_eq!(rt; keeper.entries().len(), 2);
     Ok(())
 }
