@@ -1,0 +1,64 @@
+//! Reads each line of standard input as a stream of MOS messages of its own, an ASCII text that is turned into UCS-2, and
+//! prints what `mos_replay show` says of it. `stdin` beside `src/` holds streams for every message, and `stdout` what is
+//! to be said of each, for this software and any other: see `docs/VECTORS.md`.
+#![tactic(auto)]
+
+use mos_fields::NoMemory;
+use mos_io::{MemSink, MemSource};
+use std::alloc::Global;
+use std::process::ExitCode;
+use stream_commands::{Command, run_stream};
+
+/// The most lines that are read.
+const MOST: u32 = 100_000;
+
+/// The bytes of an ASCII text in UCS-2, high byte first, without the line feed at its end.
+fn ucs2(alloc: Global, line: &str) -> Result<Vec<u8>, NoMemory> {
+    let mut bytes = Vec::new(alloc);
+    for byte in line.as_bytes() {
+        if *byte != b'\n' {
+            bytes.extend_from_slice(&[0, *byte])?;
+        }
+    }
+    Ok(bytes)
+}
+
+/// What `show` says of a stream.
+fn shown(alloc: Global, line: &str) -> Result<String, NoMemory> {
+    let bytes = ucs2(alloc, line)?;
+    let mut source = MemSource::new(bytes, Vec::new(alloc), Vec::new(alloc));
+    let mut sink = MemSink::new(alloc, Vec::new(alloc));
+    let _ = run_stream(alloc, Command::Show, &mut source, &mut sink);
+    let mut text = String::new(alloc);
+    for byte in sink.bytes() {
+        text.push(*byte as char)?;
+    }
+    Ok(text)
+}
+
+/// Says of the next line what is to be said. False at the end of the input, and where something failed.
+fn answer_line(rt: &HostRuntime, line: &mut String) -> bool {
+    line.clear();
+    match rt.read_line(line) {
+        Ok(count) => {
+            if count == 0 {
+                return false;
+            }
+        }
+        Err(_) => return false,
+    }
+    match shown(rt.alloc(), line.as_str()) {
+        Ok(text) => print!(rt; "{text}").is_ok(),
+        Err(_) => false,
+    }
+}
+
+fn main(rt: HostRuntime) -> ExitCode {
+    let mut line = String::new(rt.alloc());
+    for _ in 0..MOST {
+        if !answer_line(&rt, &mut line) {
+            break;
+        }
+    }
+    ExitCode::SUCCESS
+}
