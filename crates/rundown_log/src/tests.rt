@@ -1,4 +1,8 @@
 //! A keeper in memory that fails at a chosen append, and a journal over it.
+ghost use Rattle.std.specs.Prelude.{IfOk};
+ghost use Rattle.mos_machines.specs.Values.{edit_message};
+ghost use Rattle.mos_values.specs.Sound.{IsSound};
+
 use crate::{Journal, KeepFault, Keeper, MemKeeper};
 use mos_fields::{Air, Id};
 use mos_values::Edit;
@@ -10,7 +14,10 @@ fn id(alloc: Global, name: char) -> Result<Id, Fail> {
 }
 
 // READY of an order that is named by one letter.
-fn ready(alloc: Global, name: char) -> Result<Edit, Fail> {
+#[tactic(auto, unfolding(mos_values::specs::Sound::IsSound))]
+fn ready(alloc: Global, name: char) -> Result<Edit, Fail>
+    ensures { IfOk result (λ e. IsSound (edit_message e)) }
+{
     Ok(Edit::Air {
         ro: id(alloc, name)?,
         air: Air::Ready,

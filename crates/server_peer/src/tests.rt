@@ -1,4 +1,8 @@
 //! A device that is sent the entries of two orders in their order in the journal.
+ghost use Rattle.std.specs.Prelude.{IfOk};
+ghost use Rattle.mos_machines.specs.Values.{edit_message};
+ghost use Rattle.mos_values.specs.Sound.{IsSound};
+
 use crate::{Peer, ServerOut, Upper, View};
 use machine_answers::{Sent, Step, Tag};
 use mos_fields::{Air, Id, MosTime, OptId, Slug};
@@ -19,7 +23,10 @@ fn id(alloc: Global, name: char) -> Result<Id, Fail> {
     Ok(Id::try_new(alloc, &[name])?)
 }
 
-fn ready(alloc: Global, name: char) -> Result<Edit, Fail> {
+#[tactic(auto, unfolding(mos_values::specs::Sound::IsSound))]
+fn ready(alloc: Global, name: char) -> Result<Edit, Fail>
+    ensures { IfOk result (λ e. IsSound (edit_message e)) }
+{
     Ok(Edit::Air {
         ro: id(alloc, name)?,
         air: Air::Ready,
