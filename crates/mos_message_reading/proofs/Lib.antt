@@ -1,4 +1,3 @@
 mod ValueLemmas
 mod NameLemmas
-mod EventLemmas
-mod FitLemmas
+mod RequestLemmas

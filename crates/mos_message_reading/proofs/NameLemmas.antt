@@ -1,10 +1,12 @@
 -- The name of a raw element is what stands behind its `<` as long as a name can go on.
-use Rattle.std.proofs.Common.{◌≡◌, ℕ, zero, suc, Bool, true, false, cond, List, [], ◌∷◌, ◌++◌, length, take, None, Option, refl, sym, subst, ap, ◌∙◌}
-use Rattle.std.specs.Prelude.{◌&&◌, ◌||◌, ◌==◌}
+use Rattle.std.proofs.Common.{◌≡◌, ℕ, zero, suc, ◌+◌, arith, Result, Ok, Err, IfOk, Bool, true, false, cond, List, [], ◌∷◌, ◌++◌, length, take, None, Option, refl, sym, subst, ap, ◌∙◌}
+use Rattle.std.specs.Prelude.{◌&&◌, ◌||◌, ◌==◌, IsOkUnless}
 use Rattle.std.proofs.lemmas.Bool.{eqb-true}
 use Rattle.mos_fields.specs.Characters.{Text, is_allowed, are_allowed}
 use Rattle.mos_fields.specs.Elements.{name_count}
-use Rattle.mos_fields.specs.Faults.{bad_char_from, text_fault}
+use Rattle.mos_fields.specs.Faults.{Fault, AnswersFault, bad_char_from, text_fault}
+use Rattle.mos_fields.specs.declared.fault.FieldFault.{FieldFault}
+use Rattle.mos_fields.specs.declared.fault.FieldFault.TheVariants.{NoMemory as out_of_memory}
 use Rattle.mos_fields.specs.Names.{is_start, is_further, may_grow, named, is_name}
 use Rattle.mos_fields.specs.Raw.{is_space, TagText, ends_start, ends_empty, tag_space, IsRaw, raw_empty, raw_whole, IsRawElement}
 
@@ -53,7 +55,7 @@ all_further f (c ∷ cs) h = let p = if_true (may_grow f c) _ h in (grown f c p.
 
 count_name : (n y : Text) → AllFurther n → name_count y ≡ 0 → name_count (n ++ y) ≡ length n
 count_name [] y f s = s
-count_name (c ∷ n) y f s = rw f.0 (ap suc (count_name n y f.1 s))
+count_name (c ∷ n) y f s = let h : 1 + name_count (n ++ y) ≡ suc (length n) = omega (arith, count_name n y f.1 s) in rw f.0 h
 
 take_name : (n y : Text) → take (length n) (n ++ y) ≡ n
 take_name [] y = refl
@@ -86,7 +88,7 @@ at_space c x h = one (c == 32) refl
 behind_name : (e : Bool) (x y : Text) → TagText false e x y → name_count x ≡ 0
 behind_name e x y ends_start = refl
 behind_name e x y ends_empty = refl
-behind_name e x y (tag_space s t) = at_space _ _ s
+behind_name e x y (tag_space {c = c} {x = z} s t) = at_space c z s
 
 front_is : (n x : Text) → is_name n ≡ true → name_count x ≡ 0 → take (name_count (n ++ x)) (n ++ x) ≡ n
 front_is n x h z = ap (λ k. take k (n ++ x)) (count_name n x (all_further [] n h) z) ∙ take_name n x
@@ -114,11 +116,11 @@ raw_front c x r = front_of r.0 c x r.1
 
 -- it begins with `<`
 pub raw_mark : (c : ℕ) (x : Text) → IsRawElement (c ∷ x) → c ≡ 60
-raw_mark c x r = go r.0 r.1
+raw_mark c x r = go r.0 (c ∷ x) r.1 refl
   where
-    go : (n : Text) → IsRaw n (c ∷ x) → c ≡ 60
-    go n (raw_empty h t) = refl
-    go n (raw_whole h t l) = refl
+    go : (n z : Text) → IsRaw n z → c ∷ x ≡ z → c ≡ 60
+    go n z (raw_empty h t) e = cc
+    go n z (raw_whole h t l) e = cc
 
 pub raw_some : IsRawElement [] → ⊥
 raw_some r = go r.0 [] r.1 refl
@@ -126,3 +128,29 @@ raw_some r = go r.0 [] r.1 refl
     go : (n x : Text) → IsRaw n x → x ≡ [] → ⊥
     go n x (raw_empty h t) e = absurd cc
     go n x (raw_whole h t l) e = absurd cc
+
+pub raw_behind : (c : ℕ) (x : Text) → IsRawElement (c ∷ x) → IsRawElement (60 ∷ x)
+raw_behind c x r = let P : ℕ → Type 0 = λ k. IsRawElement (k ∷ x) in subst P (raw_mark c x r) r
+
+-- ---- what a call answers
+
+pub only_memory : {A : Type 0} (x : Text) (r : Result A FieldFault) (f : FieldFault) → are_allowed x ≡ true → AnswersFault (text_fault x) r → r ≡ Err f → f ≡ out_of_memory
+only_memory {A = A} x r f a h e =
+    let F : Fault → Type 0 = λ t. AnswersFault t r in
+    let P : Result A FieldFault → Type 0 = λ z. IsOkUnless z out_of_memory in
+    subst P e (subst F (allowed_fine x a) h)
+
+pub named_front : (k : ℕ) (x : Text) → k ≡ name_count x → IsRawElement (60 ∷ x) → is_name (take k x) ≡ true
+named_front k x e r = let P : ℕ → Type 0 = λ j. is_name (take j x) ≡ true in subst P (sym e) (raw_front 60 x r).named
+
+pub element_front : {E : Type 0} (r : Result Text E) (k : ℕ) (x : Text) → k ≡ name_count x → IsRawElement (60 ∷ x)
+    → IfOk r (λ n. n ≡ take k x) → IfOk r (λ n. IsRaw n (60 ∷ x))
+element_front (Ok n) k x e r h =
+    let P : Text → Type 0 = λ m. IsRaw m (60 ∷ x) in
+    let same : n ≡ take (name_count x) x = h ∙ ap (λ j. take j x) e in
+    subst P (sym same) (raw_front 60 x r).element
+element_front (Err y) k x e r h = tt
+
+-- the same of the whole text
+pub element_whole : {E : Type 0} (r : Result Text E) (c : ℕ) (x : Text) → IsRawElement (c ∷ x) → IfOk r (λ n. IsRaw n (60 ∷ x)) → IfOk r (λ n. IsRaw n (c ∷ x))
+element_whole {E = E} r c x h i = let P : ℕ → Type 0 = λ k. IfOk r (λ n. IsRaw n (k ∷ x)) in subst P (sym (raw_mark c x h)) i

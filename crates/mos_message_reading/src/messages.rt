@@ -68,6 +68,7 @@ fn known_message(alloc: Global, name: ElementName, nested: Nested) -> Result<Mes
 
 /// The message of an envelope, from its part: an element of the tables, or a raw element of another name, which is kept.
 /// The only error is that memory runs out.
+#[tactic(auto, unfolding(mos_values::specs::Parts::must_raw))]
 pub fn message_of(alloc: Global, slot: Slot) -> Result<Message, NoMemory>
     requires { OneMessage (part_of slot) }
     ensures { IfOk result (λ m. message_events m ≡ part_events fields.Message (part_of slot)) }

@@ -4,6 +4,7 @@ ghost use Rattle.mos_fields.specs.Characters.{are_allowed};
 ghost use Rattle.mos_fields.specs.Elements.{name_count as count_of};
 ghost use Rattle.mos_fields.specs.Names.{is_further as further, is_name};
 ghost use Rattle.mos_fields.specs.Raw.{IsRaw, IsRawElement};
+ghost use Rattle.mos_fields.specs.declared.fault.FieldFault.TheVariants.{NoMemory as out_of_memory};
 ghost use Rattle.mos_fields.specs.declared.field.Field.TheVariants as fields;
 ghost use Rattle.mos_values.specs.MessageViews.{message_events};
 ghost use Rattle.mos_values.specs.Parts.{must_raw};
@@ -43,6 +44,14 @@ fn chars_of(alloc: Global, text: &Text) -> Result<Vec<char>, NoMemory>
     Ok(chars)
 }
 
+/// The fault of a call that can lack memory alone.
+fn memory_fault(fault: FieldFault) -> NoMemory
+    requires { fault ≡ out_of_memory }
+{
+    let _ = fault;
+    NoMemory
+}
+
 /// The name of these characters. The only error is that memory runs out.
 fn name_of(alloc: Global, chars: &[char]) -> Result<Name, NoMemory>
     requires allowed { are_allowed chars.now ≡ true }
@@ -51,8 +60,7 @@ fn name_of(alloc: Global, chars: &[char]) -> Result<Name, NoMemory>
 {
     match Text::try_new(alloc, chars) {
         Ok(text) => Ok(Name::from_name(text)),
-        Err(FieldFault::NoMemory) => Err(NoMemory),
-        Err(_) => unreachable!(),
+        Err(fault) => Err(memory_fault(fault)),
     }
 }
 
