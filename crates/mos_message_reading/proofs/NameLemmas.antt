@@ -1,5 +1,5 @@
 -- The name of a raw element is what stands behind its `<` as long as a name can go on.
-use Rattle.std.proofs.Common.{◌≡◌, ℕ, zero, suc, ◌+◌, arith, Result, Ok, Err, IfOk, Bool, true, false, cond, List, [], ◌∷◌, ◌++◌, length, take, None, Option, refl, sym, subst, ap, ◌∙◌}
+use Rattle.std.proofs.Common.{◌≡◌, ℕ, zero, suc, ◌+◌, arith, Result, Ok, Err, IfOk, Bool, true, false, cond, [], ◌∷◌, ◌++◌, length, take, None, refl, sym, subst, ap, ◌∙◌}
 use Rattle.std.specs.Prelude.{◌&&◌, ◌||◌, ◌==◌, IsOkUnless}
 use Rattle.std.proofs.lemmas.Bool.{eqb-true}
 use Rattle.mos_fields.specs.Characters.{Text, is_allowed, are_allowed}

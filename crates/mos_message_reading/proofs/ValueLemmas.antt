@@ -1,5 +1,5 @@
 -- What code units encode is the value of a message.
-use Rattle.std.proofs.Common.{ℕ, List, [], ◌∷◌}
+use Rattle.std.proofs.Common.{ℕ, List}
 use Rattle.std.specs.List.{AllByRecursion}
 use Rattle.mos_tables.specs.declared.table.Table.TheVariants.{Envelope}
 use Rattle.mos_tables.specs.Events.{Event}

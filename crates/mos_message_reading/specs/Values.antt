@@ -1,5 +1,5 @@
 -- The values of whole messages that the grammar accepts.
-use Rattle.std.specs.Prelude.{◌≡◌, ℕ, List, Option, Some}
+use Rattle.std.specs.Prelude.{◌≡◌, ℕ, List, Some}
 use Rattle.mos_fields.specs.Characters.{Text}
 use Rattle.mos_fields.specs.declared.operation.Operation.{Operation}
 use Rattle.mos_tables.specs.declared.table.Table.{Table}
