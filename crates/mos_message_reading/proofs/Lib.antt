@@ -1,3 +1,4 @@
 mod ValueLemmas
 mod NameLemmas
 mod RequestLemmas
+mod ElementLemmas

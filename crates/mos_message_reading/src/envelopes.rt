@@ -9,7 +9,7 @@ ghost use Rattle.mos_values.specs.Parts.{element};
 ghost use Rattle.mos_cursor.specs.Accepted.{IsAccepted, OneLeaf, OptionalLeaf, OneMessage};
 ghost use Rattle.mos_cursor.specs.Parts.{part_events};
 ghost use Rattle.mos_cursor.specs.Slots.{part_of};
-ghost use Rattle.mos_message_reading.specs.Values.{IsMessageValue};
+ghost use Rattle.mos_message_reading.specs.Values.{IsMessageValue, IsNamed};
 
 use crate::messages::message_of;
 use mos_cursor::{Cursor, Slot, record_slots};
@@ -45,7 +45,8 @@ fn envelope_with(
     requires ncs { OneLeaf forms.Id (part_of ncs) }
     requires message_id { OptionalLeaf forms.OptId (part_of message_id) }
     requires message { OneMessage (part_of message) }
-    ensures { IfOk result (λ e. envelope_events e ≡ element mos_name (part_events fields.MosID (part_of mos) ++ part_events fields.NcsID (part_of ncs) ++ part_events fields.MessageID (part_of message_id) ++ part_events fields.Message (part_of message))) }
+    ensures events { IfOk result (λ e. envelope_events e ≡ element mos_name (part_events fields.MosID (part_of mos) ++ part_events fields.NcsID (part_of ncs) ++ part_events fields.MessageID (part_of message_id) ++ part_events fields.Message (part_of message))) }
+    ensures named { IfOk result (λ e. IsNamed e.message) }
 {
     let mos = mos.id();
     let ncs = ncs.id();
@@ -62,7 +63,8 @@ fn envelope_with(
 /// The envelope of the events inside its element.
 fn envelope_inside(alloc: Global, inner: Cursor) -> Result<Envelope, NoMemory>
     requires { IsAccepted tables.Envelope [] inner }
-    ensures { IfOk result (λ e. envelope_events e ≡ element mos_name inner) }
+    ensures events { IfOk result (λ e. envelope_events e ≡ element mos_name inner) }
+    ensures named { IfOk result (λ e. IsNamed e.message) }
 {
     let slots: [Slot; 4] = record_slots::<4>(alloc, Table::Envelope, inner)?;
     let [mos, ncs, message_id, message] = slots;
@@ -75,7 +77,8 @@ fn envelope_inside(alloc: Global, inner: Cursor) -> Result<Envelope, NoMemory>
 /// of every encoding are. The only error is that memory runs out.
 pub fn envelope_of(alloc: Global, events: Events) -> Result<Envelope, NoMemory>
     requires { IsMessageValue events }
-    ensures { IfOk result (λ e. envelope_events e ≡ events) }
+    ensures events { IfOk result (λ e. envelope_events e ≡ events) }
+    ensures named { IfOk result (λ e. IsNamed e.message) }
 {
     let inner = inner_of(events);
     envelope_inside(alloc, inner)

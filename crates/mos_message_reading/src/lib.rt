@@ -17,3 +17,6 @@ mod requests;
 pub use envelopes::envelope_of;
 pub use laws::encoded_message;
 pub use messages::message_of;
+
+#[cfg(test)]
+mod tests;

@@ -6,6 +6,7 @@ ghost use Rattle.mos_values.specs.MessageViews.{message_events};
 ghost use Rattle.mos_cursor.specs.Accepted.{MessageFits, OneMessage};
 ghost use Rattle.mos_cursor.specs.Parts.{part_events, record_events};
 ghost use Rattle.mos_cursor.specs.Slots.{part_of, record_of};
+ghost use Rattle.mos_message_reading.specs.Values.{IsNamed};
 
 use crate::answers::{order_ack_of, order_action_of, readiness_of, status_of, story_sent_of};
 use crate::attributes::{level_of, operation_of};
@@ -60,7 +61,8 @@ fn named_message(alloc: Global, name: MessageName, nested: Nested) -> Result<Mes
 /// The message of an element of this name. The only error is that memory runs out.
 fn known_message(alloc: Global, name: ElementName, nested: Nested) -> Result<Message, NoMemory>
     requires { MessageFits (element_text name) (record_of nested) }
-    ensures { IfOk result (λ m. message_events m ≡ record_events (element_text name) (record_of nested)) }
+    ensures events { IfOk result (λ m. message_events m ≡ record_events (element_text name) (record_of nested)) }
+    ensures named { IfOk result (λ m. IsNamed m) }
 {
     let name = message_name(name);
     named_message(alloc, name, nested)
@@ -71,7 +73,8 @@ fn known_message(alloc: Global, name: ElementName, nested: Nested) -> Result<Mes
 #[tactic(auto, unfolding(mos_values::specs::Parts::must_raw))]
 pub fn message_of(alloc: Global, slot: Slot) -> Result<Message, NoMemory>
     requires { OneMessage (part_of slot) }
-    ensures { IfOk result (λ m. message_events m ≡ part_events fields.Message (part_of slot)) }
+    ensures events { IfOk result (λ m. message_events m ≡ part_events fields.Message (part_of slot)) }
+    ensures named { IfOk result (λ m. IsNamed m) }
 {
     match slot {
         Slot::Message(name, nested) => known_message(alloc, name, nested),

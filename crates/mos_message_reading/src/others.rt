@@ -8,6 +8,7 @@ ghost use Rattle.mos_fields.specs.declared.fault.FieldFault.TheVariants.{NoMemor
 ghost use Rattle.mos_fields.specs.declared.field.Field.TheVariants as fields;
 ghost use Rattle.mos_values.specs.MessageViews.{message_events};
 ghost use Rattle.mos_values.specs.Parts.{must_raw};
+ghost use Rattle.mos_message_reading.specs.Values.{IsNamed};
 
 use mos_fields::{FieldFault, Name, NoMemory, Text, Unread};
 use mos_values::Message;
@@ -88,7 +89,7 @@ fn name_at(alloc: Global, chars: &[char]) -> Result<Name, NoMemory>
 }
 
 /// The name of a raw element. The only error is that memory runs out.
-fn name_in(alloc: Global, text: &Text) -> Result<Name, NoMemory>
+pub(crate) fn name_in(alloc: Global, text: &Text) -> Result<Name, NoMemory>
     requires { IsRawElement text.now }
     ensures { IfOk result (λ n. IsRaw n text.now) }
 {
@@ -100,7 +101,8 @@ fn name_in(alloc: Global, text: &Text) -> Result<Name, NoMemory>
 #[tactic(auto, unfolding(mos_values::specs::MessageViews::message_events))]
 pub(crate) fn other_of(alloc: Global, text: Text) -> Result<Message, NoMemory>
     requires { IsRawElement text }
-    ensures { IfOk result (λ m. message_events m ≡ must_raw fields.Message text) }
+    ensures events { IfOk result (λ m. message_events m ≡ must_raw fields.Message text) }
+    ensures named { IfOk result (λ m. IsNamed m) }
 {
     let name = name_in(alloc, &text)?;
     Ok(Message::Other {
