@@ -1,0 +1,4 @@
+mod ValueLemmas
+mod NameLemmas
+mod RequestLemmas
+mod ElementLemmas
