@@ -17,6 +17,3 @@ mod requests;
 pub use envelopes::envelope_of;
 pub use laws::encoded_message;
 pub use messages::message_of;
-
-#[cfg(test)]
-mod tests;
