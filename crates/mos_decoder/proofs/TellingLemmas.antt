@@ -14,7 +14,7 @@ use Rattle.mos_reader.specs.declared.found.ReadFault.{ReadFault}
 use Rattle.mos_reader.specs.declared.found.ReadFault.TheVariants.{Rejected, NoMemory}
 use Rattle.mos_reader.specs.Answers.{Stream, fed_on, fed, ended_run, run_of, answer_of, stream_behind, ComesTo, Answers}
 use Rattle.mos_decoder.specs.Inputs.{Input, whole, refused, is_odd, ended, input_of}
-use Rattle.mos_decoder.specs.Bytes.{ByteStream, start_bytes, behind_odd, odd_in, fed_bytes, found_of, front, counted, HasHanded, Tells, TellsEnd}
+use Rattle.mos_decoder.specs.Bytes.{ByteStream, start_bytes, behind_odd, odd_in, fed_bytes, found_of, front, counted, HasHanded, IsReadValue, HandsValue, Tells, TellsEnd}
 use Rattle.mos_decoder.proofs.StreamLemmas.{at_reader, message_first, rejection_first, more_first}
 use Rattle.mos_decoder.proofs.PairLemmas.{units_behind, odd_behind, even_bytes, odd_bytes}
 
@@ -223,3 +223,29 @@ run_grown false s t f a = came_grown s t (unit_run start_reader s.held) f refl a
 pub found_grows : (at_end : Bool) (fault : Option ReadFault) (s t : Stream) (f : Found) → Answers at_end fault s (Ok (Some f)) t → Grows s t
 found_grows at_end (Some k) s t f (a, b) = absurd (cc)
 found_grows at_end None s t f a = run_grown at_end s t f a
+
+-- ---- a message's value was read
+
+came_value : (s t : Stream) (run : UnitRun) (f : Found) → unit_run start_reader s.held ≡ run → ComesTo run s (Ok (Some f)) t → IsReadValue f.value
+came_value s t (still_reads x) f e (a, b) = absurd (cc)
+came_value s t (completed began v rest) f e (a, b) =
+    let i : record { began = s.base + began; value = v } ≡ f = cc in
+    (s.held, began, rest, e ∙ ap (λ z. completed began z rest) (ap (λ z. z.value) i))
+came_value s t (rejected_at place k) f e (a, b) = absurd (cc)
+
+ended_value : (s t : Stream) (run : UnitRun) (f : Found) → unit_run start_reader s.held ≡ run → ComesTo (ended_run (length s.held) run) s (Ok (Some f)) t → IsReadValue f.value
+ended_value s t (still_reads x) f e a = go (is_resting x) a
+  where
+    go : (b : Bool) → ComesTo (cond b (still_reads x) (rejected_at (length s.held) kinds.End)) s (Ok (Some f)) t → IsReadValue f.value
+    go true (a, b) = absurd (cc)
+    go false (a, b) = absurd (cc)
+ended_value s t (completed began v rest) f e a = came_value s t (completed began v rest) f e a
+ended_value s t (rejected_at place k) f e (a, b) = absurd (cc)
+
+run_value : (at_end : Bool) (s t : Stream) (f : Found) → ComesTo (run_of at_end s) s (Ok (Some f)) t → IsReadValue f.value
+run_value true s t f a = ended_value s t (unit_run start_reader s.held) f refl a
+run_value false s t f a = came_value s t (unit_run start_reader s.held) f refl a
+
+pub found_value : (at_end : Bool) (fault : Option ReadFault) (s t : Stream) (f : Found) → Answers at_end fault s (Ok (Some f)) t → IsReadValue f.value
+found_value at_end (Some k) s t f (a, b) = absurd (cc)
+found_value at_end None s t f a = run_value at_end s t f a

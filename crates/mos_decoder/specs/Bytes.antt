@@ -1,6 +1,7 @@
 -- What a decoder of bytes answers.
 use Rattle.std.specs.Prelude.{◌≡◌, ℕ, Bool, true, false, cond, List, [], ◌∷◌, ◌++◌, ◌+◌, length, Option, Some, None, Result, Ok, Err, ⊤}
 use Rattle.mos_fields.specs.Characters.{units_in}
+use Rattle.mos_tables.specs.Events.{Event}
 use Rattle.mos_lexer.specs.declared.kind.Kind.TheVariants as kinds
 use Rattle.mos_lexer.specs.Units.{Reader, StreamReader, StreamRun, reads_stream, rejects_stream, start_stream, start_reader, stream_units, UnitRun, still_reads, completed, rejected_at, unit_run}
 use Rattle.mos_lexer.specs.Units.{Found as FoundOf}
@@ -63,6 +64,16 @@ abbrev pub OnFound : Result (Option Found) ReadFault → Type 0 → Type 0
 OnFound (Ok (Some f)) P = P
 OnFound (Ok None) P = ⊤
 OnFound (Err k) P = ⊤
+
+-- a value that was read from the code units of a message
+abbrev pub IsReadValue : List Event → Type 0
+IsReadValue v = (us : List ℕ) × (began : ℕ) × (rest : List ℕ) × (unit_run start_reader us ≡ completed began v rest)
+
+-- the value of a message that is handed out was read
+abbrev pub HandsValue : Result (Option Found) ReadFault → Type 0
+HandsValue (Ok (Some f)) = IsReadValue f.value
+HandsValue (Ok None) = ⊤
+HandsValue (Err k) = ⊤
 
 -- What the answer says of the bytes that were fed: one more message is handed out, more is to come, or the stream of
 -- their code units is rejected.

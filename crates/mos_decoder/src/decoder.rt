@@ -2,7 +2,7 @@
 ghost use Rattle.std.specs.Prelude.{◌≡◌, ◌+◌, ◌<◌, ◌^◌, ◌++◌, ℕ, List, [], None, IsSome, false, OnErr, OnOk, length};
 ghost use Rattle.mos_lexer.specs.Units.{Found as FoundOf};
 ghost use Rattle.mos_reader.specs.Answers.{Answers, fed};
-ghost use Rattle.mos_decoder.specs.Bytes.{HasHanded, OnFound, Tells, TellsEnd, counted, fed_bytes, start_bytes};
+ghost use Rattle.mos_decoder.specs.Bytes.{HandsValue, HasHanded, OnFound, Tells, TellsEnd, counted, fed_bytes, start_bytes};
 
 use crate::units::units_behind;
 use mos_fields::NoMemory;
@@ -90,6 +90,7 @@ impl EventDecoder {
         ensures count { (self.new).count ≡ counted result (self.old).count }
         ensures tells { (bytes : List ℕ) (found : List FoundOf) → HasHanded self.old bytes found → Tells bytes found result self.new }
         ensures shorter { OnFound result (length (self.new).stream.held < length (self.old).stream.held) }
+        ensures value { HandsValue result }
     {
         match self.reader.next() {
             Ok(Some(found)) => {
@@ -111,6 +112,7 @@ impl EventDecoder {
         ensures count { (self.new).count ≡ counted result (self.old).count }
         ensures tells { (bytes : List ℕ) (found : List FoundOf) → HasHanded self.old bytes found → TellsEnd bytes found result self.new }
         ensures shorter { OnFound result (length (self.new).stream.held < length (self.old).stream.held) }
+        ensures value { HandsValue result }
     {
         match self.odd {
             None => self.end_with_a_unit(),
@@ -124,6 +126,7 @@ impl EventDecoder {
         ensures count { (self.new).count ≡ counted result (self.old).count }
         ensures tells { (bytes : List ℕ) (found : List FoundOf) → HasHanded self.old bytes found → TellsEnd bytes found result self.new }
         ensures shorter { OnFound result (length (self.new).stream.held < length (self.old).stream.held) }
+        ensures value { HandsValue result }
     {
         match self.reader.end() {
             Ok(Some(found)) => {
@@ -141,6 +144,7 @@ impl EventDecoder {
         ensures count { (self.new).count ≡ counted result (self.old).count }
         ensures tells { (bytes : List ℕ) (found : List FoundOf) → HasHanded self.old bytes found → TellsEnd bytes found result self.new }
         ensures shorter { OnFound result (length (self.new).stream.held < length (self.old).stream.held) }
+        ensures value { HandsValue result }
     {
         match self.next() {
             Ok(Some(found)) => Ok(Some(found)),

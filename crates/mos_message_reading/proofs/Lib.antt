@@ -2,3 +2,4 @@ mod ValueLemmas
 mod NameLemmas
 mod RequestLemmas
 mod ElementLemmas
+mod ReadLemmas

@@ -9,6 +9,7 @@ use Rattle.mos_tables.specs.Events.{Event}
 use Rattle.mos_tables.specs.Tables.{messages, table_of_name}
 use Rattle.mos_grammar.specs.Streams.{mos_name}
 use Rattle.mos_lexer.specs.Encodings.{Encodes}
+use Rattle.mos_lexer.specs.Units.{start_reader, completed, unit_run}
 use Rattle.mos_values.specs.declared.message.Message.{Message}
 use Rattle.mos_values.specs.declared.message.Message.TheVariants.{Other}
 use Rattle.mos_cursor.specs.Accepted.{IsWhole}
@@ -20,6 +21,10 @@ IsMessageValue v = IsWhole Envelope mos_name v
 -- what code units encode is the value of a message
 abbrev pub EncodedValuesAreMessages : Type 0
 EncodedValuesAreMessages = (v : List Event) (us : List ℕ) → Encodes v us → IsMessageValue v
+
+-- what is read from code units, to the end of a message, is the value of a message
+abbrev pub ReadValuesAreMessages : Type 0
+ReadValuesAreMessages = (v : List Event) (us : List ℕ) (began : ℕ) (rest : List ℕ) → unit_run start_reader us ≡ completed began v rest → IsMessageValue v
 
 -- the name is that of a message with a table
 abbrev pub IsMessageName : Text → Type 0

@@ -15,5 +15,5 @@ mod others;
 mod requests;
 
 pub use envelopes::envelope_of;
-pub use laws::encoded_message;
+pub use laws::{encoded_message, read_message};
 pub use messages::message_of;

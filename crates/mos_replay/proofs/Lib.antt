@@ -1,6 +1,1 @@
-pub mod Standing
-pub mod Streams
-pub mod Slices
-pub mod Answering
-pub mod Endings
 pub mod Wording

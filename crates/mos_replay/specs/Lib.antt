@@ -1,5 +1,2 @@
+pub mod Commands
 pub mod Words
-pub mod Running
-pub mod Making
-pub mod TextLists
-pub mod Writings

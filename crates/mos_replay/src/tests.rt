@@ -1,7 +1,16 @@
+//! Runs over inputs and outputs in memory.
+use crate::help::{USAGE, about};
 use crate::run::mos_run;
 use mos_io::{MemSink, MemSource};
 use std::test::Fail;
 use stream_commands::Status;
+
+/// 129 code units
+const HEARTBEAT: &str =
+    "<mos><mosID>dev1</mosID><ncsID>ncs1</ncsID><messageID>7</messageID><heartbeat><time>2009-04-11T14:22:07Z</time></heartbeat></mos>";
+
+/// The front of a message, in 67 code units.
+const FRONT: &str = "<mos><mosID>dev1</mosID><ncsID>ncs1</ncsID><messageID>8</messageID>";
 
 /// The bytes of an ASCII text in UCS-2, high byte first.
 fn ucs2(rt: &HostRuntime, text: &str) -> Result<Vec<u8>, Fail> {
@@ -13,47 +22,91 @@ fn ucs2(rt: &HostRuntime, text: &str) -> Result<Vec<u8>, Fail> {
     Ok(bytes)
 }
 
-/// What `take` ends with and writes, where the calls of these numbers fail and the input comes in these pieces.
-fn take(
+/// A run of one word over these bytes, in these pieces, where the calls of these numbers fail: how it ends, and what it
+/// writes.
+fn run(
     rt: &HostRuntime,
-    input: &str,
+    word: &str,
+    bytes: Vec<u8>,
     pieces: &[usize],
     read_fails: &[u64],
     write_fails: &[u64],
 ) -> Result<(Status, Vec<u8>), Fail> {
     let alloc = rt.alloc();
     let pieces = Vec::from_slice(alloc, pieces)?;
-    let mut source = MemSource::new(
-        ucs2(rt, input)?,
-        pieces,
-        Vec::from_slice(alloc, read_fails)?,
-    );
+    let mut source = MemSource::new(bytes, pieces, Vec::from_slice(alloc, read_fails)?);
     let mut sink = MemSink::new(alloc, Vec::from_slice(alloc, write_fails)?);
-    let words = [String::from_str(alloc, "take")?];
+    let words = [String::from_str(alloc, word)?];
     let status = mos_run(alloc, &words, &mut source, &mut sink);
     Ok((status, Vec::from_slice(alloc, sink.bytes())?))
 }
 
-const HEARTBEAT: &str =
-    "<mos><mosID>dev1</mosID><ncsID>ncs1</ncsID><messageID>7</messageID><heartbeat><time>2009-04-11T14:22:07Z</time></heartbeat></mos>";
+/// How `take` of a text ends, and whether it writes this in UCS-2.
+fn take(rt: &HostRuntime, text: &str, wanted: &str) -> Result<(Status, bool), Fail> {
+    let (status, written) = run(rt, "take", ucs2(rt, text)?, &[], &[], &[])?;
+    let wanted = ucs2(rt, wanted)?;
+    Ok((status, written.as_slice() == wanted.as_slice()))
+}
+
+/// The same of elements, each behind the front of a message of its own, and of the answers in such messages; each stands
+/// on a line of its own.
+fn take_elements(rt: &HostRuntime, elements: &str, answers: &str) -> Result<(Status, bool), Fail> {
+    let text = messages(rt, elements)?;
+    let wanted = messages(rt, answers)?;
+    take(rt, text.as_str(), wanted.as_str())
+}
+
+/// A message of each line.
+fn messages(rt: &HostRuntime, elements: &str) -> Result<String, Fail> {
+    let mut text = String::new(rt.alloc());
+    for element in elements.lines() {
+        text.push_str(FRONT)?;
+        text.push_str(element)?;
+        text.push_str("</mos>")?;
+    }
+    Ok(text)
+}
+
+/// The roAck of each line: a roID, a space, and a status.
+fn acks(rt: &HostRuntime, lines: &str) -> Result<String, Fail> {
+    let mut text = String::new(rt.alloc());
+    for line in lines.lines() {
+        if let Some((ro, status)) = line.split_once(' ') {
+            text.push_str("<roAck><roID>")?;
+            text.push_str(ro)?;
+            text.push_str("</roID><roStatus>")?;
+            text.push_str(status)?;
+            text.push_str("</roStatus></roAck>\n")?;
+        }
+    }
+    Ok(text)
+}
+
+/// How `take` of elements ends, and whether its answers are these roAcks.
+fn take_acked(rt: &HostRuntime, elements: &str, lines: &str) -> Result<(Status, bool), Fail> {
+    let answers = acks(rt, lines)?;
+    take_elements(rt, elements, answers.as_str())
+}
+
+const DONE: (Status, bool) = (Status::Done, true);
+
+const REFUSED: (Status, bool) = (Status::Refused, true);
 
 #[test]
 fn a_heartbeat_is_answered_by_itself(rt: HostRuntime) -> Result<(), Fail> {
-    let (status, written) = take(&rt, HEARTBEAT, &[], &[], &[])?;
+    let (status, written) = run(&rt, "take", ucs2(&rt, HEARTBEAT)?, &[], &[], &[])?;
     assert_eq!(rt; status, Status::Done);
     assert_eq!(rt; written.len(), 258);
-    assert_eq!(rt;
-        &written[..10],
-        [0x00, 0x3C, 0x00, 0x6D, 0x00, 0x6F, 0x00, 0x73, 0x00, 0x3E].as_slice()
-    );
-    assert!(rt; written.as_slice() == ucs2(&rt, HEARTBEAT)?.as_slice());
+    let front = [0x00u8, 0x3C, 0x00, 0x6D, 0x00, 0x6F, 0x00, 0x73, 0x00, 0x3E];
+    assert!(rt; written.as_slice().starts_with(&front));
+    assert_eq!(rt; take(&rt, HEARTBEAT, HEARTBEAT)?, DONE);
     Ok(())
 }
 
 #[test]
 fn bytes_one_by_one_are_the_same_message(rt: HostRuntime) -> Result<(), Fail> {
-    let pieces = [1usize; 300];
-    let (status, written) = take(&rt, HEARTBEAT, &pieces, &[], &[])?;
+    let bytes = ucs2(&rt, HEARTBEAT)?;
+    let (status, written) = run(&rt, "take", bytes, &[1usize; 300], &[], &[])?;
     assert_eq!(rt; status, Status::Done);
     assert!(rt; written.as_slice() == ucs2(&rt, HEARTBEAT)?.as_slice());
     Ok(())
@@ -61,9 +114,11 @@ fn bytes_one_by_one_are_the_same_message(rt: HostRuntime) -> Result<(), Fail> {
 
 #[test]
 fn an_empty_input_has_no_messages(rt: HostRuntime) -> Result<(), Fail> {
-    let (status, written) = take(&rt, "", &[], &[], &[])?;
+    assert_eq!(rt; take(&rt, "", "")?, DONE);
+    assert_eq!(rt; take(&rt, " \n", "")?, DONE);
+    let (status, written) = run(&rt, "check", Vec::new(rt.alloc()), &[], &[], &[])?;
     assert_eq!(rt; status, Status::Done);
-    assert_eq!(rt; written.len(), 0);
+    assert!(rt; written.as_slice() == b"0 messages, 0 units\n".as_slice());
     Ok(())
 }
 
@@ -72,87 +127,164 @@ fn other_words_are_no_command(rt: HostRuntime) -> Result<(), Fail> {
     let alloc = rt.alloc();
     let mut source = MemSource::new(Vec::new(alloc), Vec::new(alloc), Vec::new(alloc));
     let mut sink = MemSink::new(alloc, Vec::new(alloc));
-    assert_eq!(rt; mos_run(alloc, &[], &mut source, &mut sink), Status::Usage);
+    let usage = Status::Usage;
+    assert_eq!(rt; mos_run(alloc, &[], &mut source, &mut sink), usage);
     let make = [
         String::from_str(alloc, "make")?,
         String::from_str(alloc, "x")?,
     ];
-    assert_eq!(rt;
-        mos_run(alloc, &make, &mut source, &mut sink),
-        Status::Usage
-    );
+    assert_eq!(rt; mos_run(alloc, &make, &mut source, &mut sink), usage);
     let twice = [
         String::from_str(alloc, "take")?,
         String::from_str(alloc, "take")?,
     ];
-    assert_eq!(rt;
-        mos_run(alloc, &twice, &mut source, &mut sink),
-        Status::Usage
-    );
+    assert_eq!(rt; mos_run(alloc, &twice, &mut source, &mut sink), usage);
     assert_eq!(rt; sink.bytes().len(), 0);
     Ok(())
 }
 
+/// What is printed for one word that asks about the program; nothing for another one.
+fn about_word(rt: &HostRuntime, word: &str) -> Result<&'static str, Fail> {
+    let words = [String::from_str(rt.alloc(), word)?];
+    Ok(about(&words).unwrap_or(""))
+}
+
 #[test]
-fn an_order_is_acknowledged(rt: HostRuntime) -> Result<(), Fail> {
-    let create =
-        "<mos><mosID>dev1</mosID><ncsID>ncs1</ncsID><messageID>8</messageID><roCreate><roID>R1</roID><roSlug>News</roSlug><story><storyID>A</storyID><item><itemID>1</itemID><objID>O1</objID><mosID>dev1</mosID></item></story></roCreate></mos>";
-    let (status, written) = take(&rt, create, &[], &[], &[])?;
-    assert_eq!(rt; status, Status::Done);
-    let ack =
-        "<mos><mosID>dev1</mosID><ncsID>ncs1</ncsID><messageID>8</messageID><roAck><roID>R1</roID><roStatus>OK</roStatus></roAck></mos>";
-    assert!(rt; written.as_slice() == ucs2(&rt, ack)?.as_slice());
+fn the_program_tells_of_itself(rt: HostRuntime) -> Result<(), Fail> {
+    let help = about_word(&rt, "--help")?;
+    assert!(rt; help.contains(USAGE));
+    for word in "take show check replay make".split(' ') {
+        let line = format!(in rt.alloc(); "\n  {word} ")?;
+        assert!(rt; help.contains(line.as_str()));
+    }
+    for status in 0..6u8 {
+        let line = format!(in rt.alloc(); "\n  {status}  ")?;
+        assert!(rt; help.contains(line.as_str()));
+    }
+    let version = "mos_replay 0.1.0, MOS Protocol 2.8.5\n";
+    assert_eq!(rt; about_word(&rt, "--version")?, version);
+    assert_eq!(rt; about_word(&rt, "take")?, "");
+    assert_eq!(rt; about_word(&rt, "--Help")?, "");
+    assert!(rt; about(&[]).is_none());
     Ok(())
 }
 
 #[test]
-fn a_deletion_is_acknowledged(rt: HostRuntime) -> Result<(), Fail> {
-    let delete =
-        "<mos><mosID>dev1</mosID><ncsID>ncs1</ncsID><messageID>9</messageID><roDelete><roID>R&amp;D</roID></roDelete></mos>";
-    let (status, written) = take(&rt, delete, &[], &[], &[])?;
-    assert_eq!(rt; status, Status::Done);
-    let ack =
-        "<mos><mosID>dev1</mosID><ncsID>ncs1</ncsID><messageID>9</messageID><roAck><roID>R&amp;D</roID><roStatus>OK</roStatus></roAck></mos>";
-    assert!(rt; written.as_slice() == ucs2(&rt, ack)?.as_slice());
+fn orders_are_acknowledged_in_any_encoding(rt: HostRuntime) -> Result<(), Fail> {
+    let elements =
+        "<roCreate><roID>R1</roID><roSlug>News</roSlug><story><storyID>A</storyID><item><itemID>1</itemID><objID>O1</objID><mosID>dev1</mosID></item></story></roCreate>
+ <roCreate a='1'> <roID>R&amp;D</roID> <extra/> <roSlug/> </roCreate >
+<roReplace><roID>R1</roID><roSlug>News</roSlug></roReplace>
+<roDelete><roID>R&#68;</roID></roDelete>";
+    let answers = "R1 OK\nR&amp;D OK\nR1 OK\nRD OK\n";
+    assert_eq!(rt; take_acked(&rt, elements, answers)?, DONE);
     Ok(())
 }
 
 #[test]
-fn other_input_is_refused(rt: HostRuntime) -> Result<(), Fail> {
-    let (cut, written) = take(
-        &rt,
-        "<mos><mosID>dev1</mosID><ncsID>ncs1</ncsID>",
-        &[],
-        &[],
-        &[],
-    )?;
-    assert_eq!(rt; cut, Status::Refused);
-    assert!(rt; written.as_slice() == ucs2(&rt, "REFUSED\n")?.as_slice());
-    let (repeated, _) = take(
-        &rt,
-        "<mos><mosID>d</mosID><ncsID>n</ncsID><messageID>8</messageID><roCreate><roID>R</roID><roID>R</roID><roSlug></roSlug></roCreate></mos>",
-        &[],
-        &[],
-        &[],
-    )?;
-    assert_eq!(rt; repeated, Status::Refused);
-    let (same_story, _) = take(
-        &rt,
-        "<mos><mosID>d</mosID><ncsID>n</ncsID><messageID>8</messageID><roCreate><roID>R</roID><roSlug></roSlug><story><storyID>A</storyID></story><story><storyID>A</storyID></story></roCreate></mos>",
-        &[],
-        &[],
-        &[],
-    )?;
-    assert_eq!(rt; same_story, Status::Refused);
+fn ready_is_taken_in_step_alone(rt: HostRuntime) -> Result<(), Fail> {
+    let elements = "<roReadyToAir><roID>R1</roID><roAir>READY</roAir></roReadyToAir>
+<roReadyToAir><roID>R1</roID><roAir>NOT READY</roAir></roReadyToAir>
+<roReadyToAir><roID>R1</roID><roAir>READY</roAir></roReadyToAir>
+<roCreate><roID>R1</roID><roSlug>News</roSlug></roCreate>
+<roReadyToAir><roID>R1</roID><roAir>READY</roAir></roReadyToAir>
+<roReadyToAir><roID>R1</roID><roAir>NOT READY</roAir></roReadyToAir>
+<roDelete><roID>R1</roID></roDelete>
+<roReadyToAir><roID>R1</roID><roAir>READY</roAir></roReadyToAir>
+<roReq><roID>R1</roID></roReq>
+<roReqAll/>
+<extra/>";
+    let answers =
+        "R1 NOT IN STEP\nR1 OK\nR1 NOT IN STEP\nR1 OK\nR1 OK\nR1 OK\nR1 OK\nR1 MISSING R1\nR1 NOT SUPPORTED\n";
+    let nameless = "<roAck><roID/><roStatus>NOT SUPPORTED</roStatus></roAck>\n";
+    let mut wanted = acks(&rt, answers)?;
+    wanted.push_str(nameless)?;
+    wanted.push_str(nameless)?;
+    assert_eq!(rt; take_elements(&rt, elements, wanted.as_str())?, DONE);
     Ok(())
 }
 
-/// A roDelete of an order whose roID has so many characters.
+const STORIES: &str =
+    "<roCreate><roID>r</roID><roSlug>r</roSlug><story><storyID>A</storyID></story><story><storyID>B</storyID></story><story><storyID>C</storyID></story></roCreate>";
+
+#[test]
+fn stories_move_and_change_places(rt: HostRuntime) -> Result<(), Fail> {
+    let actions =
+        "<roElementAction operation='MOVE'><roID>r</roID><element_target><storyID>A</storyID></element_target><element_source><storyID>C</storyID></element_source></roElementAction>
+<roElementAction operation='SWAP'><roID>r</roID><element_source><storyID>A</storyID><storyID>A</storyID></element_source></roElementAction>
+<roElementAction operation='DELETE'><roID>r</roID><element_source><storyID>B</storyID></element_source></roElementAction>
+<roElementAction operation='MOVE'><roID>r</roID><element_target><storyID>A</storyID></element_target><element_source><storyID>A</storyID></element_source></roElementAction>
+<roElementAction operation='DELETE'><roID>r</roID><element_source><storyID>A</storyID></element_source></roElementAction>";
+    let elements = format!(in rt.alloc(); "{STORIES}\n{actions}")?;
+    let answers = "r OK\nr OK\nr OK\nr OK\nr MISSING A\nr NOT IN STEP\n";
+    assert_eq!(rt; take_acked(&rt, elements.as_str(), answers)?, DONE);
+    Ok(())
+}
+
+#[test]
+fn items_are_put_in_and_moved(rt: HostRuntime) -> Result<(), Fail> {
+    let actions =
+        "<roElementAction operation='INSERT'><roID>r</roID><element_target><storyID/></element_target><element_source><story><storyID>D</storyID></story></element_source></roElementAction>
+<roElementAction operation='INSERT'><roID>r</roID><element_target><storyID>A</storyID><itemID/></element_target><element_source><item><itemID>x</itemID><objID>x</objID><mosID>m1</mosID></item><item><itemID>y</itemID><objID>y</objID><mosID>m1</mosID></item></element_source></roElementAction>
+<roElementAction operation='MOVE'><roID>r</roID><element_target><storyID>A</storyID><itemID>x</itemID></element_target><element_source><itemID>y</itemID></element_source></roElementAction>
+<roElementAction operation='SWAP'><roID>r</roID><element_target><storyID>A</storyID></element_target><element_source><itemID>x</itemID><itemID>z</itemID></element_source></roElementAction>";
+    let elements = format!(in rt.alloc(); "{STORIES}\n{actions}")?;
+    let answers = "r OK\nr OK\nr OK\nr OK\nr MISSING z\n";
+    assert_eq!(rt; take_acked(&rt, elements.as_str(), answers)?, DONE);
+    let there =
+        "<roElementAction operation='INSERT'><roID>r</roID><element_target><storyID>A</storyID></element_target><element_source><story><storyID>C</storyID></story></element_source></roElementAction>";
+    let elements = format!(in rt.alloc(); "{STORIES}\n{there}")?;
+    let answers = "r OK\nr ALREADY THERE C\n";
+    assert_eq!(rt; take_acked(&rt, elements.as_str(), answers)?, DONE);
+    Ok(())
+}
+
+/// How `take` of an element behind the front of a message ends, and whether it writes this line alone.
+fn refused(rt: &HostRuntime, element: &str, line: &str) -> Result<(Status, bool), Fail> {
+    let text = format!(in rt.alloc(); "{FRONT}{element}")?;
+    take(rt, text.as_str(), line)
+}
+
+#[test]
+fn a_rejection_has_its_place_and_kind(rt: HostRuntime) -> Result<(), Fail> {
+    let twice = "<roCreate><roID>R</roID><roID>";
+    assert_eq!(rt; refused(&rt, twice, "REFUSED 91 Twice(roID)\n")?, REFUSED);
+    let missing = "<roCreate><roID>R</roID></roCreate>";
+    assert_eq!(rt;
+        refused(&rt, missing, "REFUSED 91 Missing(roSlug)\n")?,
+        REFUSED
+    );
+    let operation = "<roElementAction><roID>R</roID>";
+    assert_eq!(rt;
+        refused(&rt, operation, "REFUSED 67 Missing(operation)\n")?,
+        REFUSED
+    );
+    let story =
+        "<roCreate><roID>R</roID><roSlug/><story><storyID>A</storyID></story><story><storyID>A</storyID></story></roCreate></mos>";
+    assert_eq!(rt;
+        refused(&rt, story, "REFUSED 151 Value(storyID)\n")?,
+        REFUSED
+    );
+    let unit = Vec::from_slice(rt.alloc(), &[0x00u8, 0x3C, 0xD8, 0x00, 0x00, 0x41])?;
+    let (status, written) = run(&rt, "take", unit, &[], &[], &[])?;
+    assert_eq!(rt; status, Status::Refused);
+    assert!(rt; written.as_slice() == ucs2(&rt, "REFUSED 1 BadUnit\n")?.as_slice());
+    let entity = "<mos><mosID>&#x110000;";
+    assert_eq!(rt; take(&rt, entity, "REFUSED 12 Entity\n")?, REFUSED);
+    Ok(())
+}
+
+#[test]
+fn answers_before_a_rejection_stay(rt: HostRuntime) -> Result<(), Fail> {
+    let text = format!(in rt.alloc(); "{HEARTBEAT}{FRONT}</mos>")?;
+    let wanted = format!(in rt.alloc(); "{HEARTBEAT}REFUSED 196 Tag\n")?;
+    assert_eq!(rt; take(&rt, text.as_str(), wanted.as_str())?, REFUSED);
+    Ok(())
+}
+
+/// A roDelete of an order whose roID has so many characters, behind the front of a message.
 fn deletion(rt: &HostRuntime, count: usize) -> Result<String, Fail> {
-    let mut text = String::from_str(
-        rt.alloc(),
-        "<mos><mosID>d</mosID><ncsID>n</ncsID><messageID>8</messageID><roDelete><roID>",
-    )?;
+    let mut text = String::from_str(rt.alloc(), "<roDelete><roID>")?;
     for _ in 0..count {
         text.push('R')?;
     }
@@ -163,19 +295,72 @@ fn deletion(rt: &HostRuntime, count: usize) -> Result<String, Fail> {
 #[test]
 fn an_order_id_has_128_characters_at_most(rt: HostRuntime) -> Result<(), Fail> {
     let longest = deletion(&rt, 128)?;
-    let (status, _) = take(&rt, longest.as_str(), &[], &[], &[])?;
+    let text = format!(in rt.alloc(); "{FRONT}{longest}")?;
+    let (status, _) = take(&rt, text.as_str(), "")?;
     assert_eq!(rt; status, Status::Done);
     let longer = deletion(&rt, 129)?;
-    let (status, _) = take(&rt, longer.as_str(), &[], &[], &[])?;
+    let line = "REFUSED 83 Value(roID)\n";
+    assert_eq!(rt; refused(&rt, longer.as_str(), line)?, REFUSED);
+    Ok(())
+}
+
+/// So many of the bytes, or all of them.
+fn front(rt: &HostRuntime, bytes: &[u8], count: usize) -> Result<Vec<u8>, Fail> {
+    Ok(Vec::from_slice(rt.alloc(), &bytes[..count.min(bytes.len())])?)
+}
+
+#[test]
+fn a_message_that_is_cut_is_refused_at_its_end(rt: HostRuntime) -> Result<(), Fail> {
+    let bytes = ucs2(&rt, HEARTBEAT)?;
+    for count in 0..129usize {
+        let line = format!(in rt.alloc(); "REFUSED {count} End\n")?;
+        let wanted = ucs2(&rt, line.as_str())?;
+        let (_, written) = run(&rt, "take", front(&rt, &bytes, 2 * count)?, &[], &[], &[])?;
+        assert!(rt; (written.as_slice() == wanted.as_slice()) == (count > 0));
+        let odd = front(&rt, &bytes, 2 * count + 1)?;
+        let (status, written) = run(&rt, "take", odd, &[7], &[], &[])?;
+        assert_eq!(rt; status, Status::Refused);
+        assert!(rt; written.as_slice() == wanted.as_slice());
+    }
+    Ok(())
+}
+
+#[test]
+fn a_byte_behind_the_last_message_is_no_end(rt: HostRuntime) -> Result<(), Fail> {
+    let mut bytes = ucs2(&rt, HEARTBEAT)?;
+    bytes.push(0)?;
+    let (status, written) = run(&rt, "take", bytes, &[], &[], &[])?;
+    let wanted = format!(in rt.alloc(); "{HEARTBEAT}REFUSED 129 End\n")?;
     assert_eq!(rt; status, Status::Refused);
+    assert!(rt; written.as_slice() == ucs2(&rt, wanted.as_str())?.as_slice());
+    Ok(())
+}
+
+/// `check` of so many spaces.
+fn spaces(rt: &HostRuntime, count: usize) -> Result<(Status, Vec<u8>), Fail> {
+    let mut bytes = Vec::new(rt.alloc());
+    for _ in 0..count {
+        bytes.push(0)?;
+        bytes.push(b' ')?;
+    }
+    run(rt, "check", bytes, &[], &[], &[])
+}
+
+#[test]
+fn white_space_counts_for_the_length_of_a_message(rt: HostRuntime) -> Result<(), Fail> {
+    let (status, written) = spaces(&rt, 8_388_608)?;
+    assert_eq!(rt; status, Status::Done);
+    assert!(rt; written.as_slice() == b"0 messages, 8388608 units\n".as_slice());
+    let (status, written) = spaces(&rt, 8_388_609)?;
+    assert_eq!(rt; status, Status::Refused);
+    assert!(rt; written.as_slice() == b"REFUSED 8388608 TooLong\n".as_slice());
     Ok(())
 }
 
 #[test]
 fn a_failed_write_ends_the_run(rt: HostRuntime) -> Result<(), Fail> {
-    let mut two = String::from_str(rt.alloc(), HEARTBEAT)?;
-    two.push_str(HEARTBEAT)?;
-    let (status, written) = take(&rt, two.as_str(), &[], &[], &[1])?;
+    let two = format!(in rt.alloc(); "{HEARTBEAT}{HEARTBEAT}")?;
+    let (status, written) = run(&rt, "take", ucs2(&rt, two.as_str())?, &[], &[], &[1])?;
     assert_eq!(rt; status, Status::WriteFault);
     assert!(rt; written.as_slice() == ucs2(&rt, HEARTBEAT)?.as_slice());
     Ok(())
@@ -183,8 +368,12 @@ fn a_failed_write_ends_the_run(rt: HostRuntime) -> Result<(), Fail> {
 
 #[test]
 fn a_failed_read_ends_the_run(rt: HostRuntime) -> Result<(), Fail> {
-    let (status, written) = take(&rt, HEARTBEAT, &[], &[0], &[])?;
+    let (status, written) = run(&rt, "take", ucs2(&rt, HEARTBEAT)?, &[], &[0], &[])?;
     assert_eq!(rt; status, Status::ReadFault);
     assert_eq!(rt; written.len(), 0);
+    let two = format!(in rt.alloc(); "{HEARTBEAT}{HEARTBEAT}")?;
+    let (status, written) = run(&rt, "take", ucs2(&rt, two.as_str())?, &[300], &[1], &[])?;
+    assert_eq!(rt; status, Status::ReadFault);
+    assert!(rt; written.as_slice() == ucs2(&rt, HEARTBEAT)?.as_slice());
     Ok(())
 }

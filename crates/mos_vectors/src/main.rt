@@ -7,7 +7,7 @@ use mos_fields::NoMemory;
 use mos_io::{MemSink, MemSource};
 use std::alloc::Global;
 use std::process::ExitCode;
-use stream_commands::{Command, run_stream};
+use stream_commands::{Lister, run_stream};
 
 /// The most lines that are read.
 const MOST: u32 = 100_000;
@@ -28,7 +28,7 @@ fn shown(alloc: Global, line: &str) -> Result<String, NoMemory> {
     let bytes = ucs2(alloc, line)?;
     let mut source = MemSource::new(bytes, Vec::new(alloc), Vec::new(alloc));
     let mut sink = MemSink::new(alloc, Vec::new(alloc));
-    let _ = run_stream(alloc, Command::Show, &mut source, &mut sink);
+    let _ = run_stream(alloc, &mut Lister, &mut source, &mut sink);
     let mut text = String::new(alloc);
     for byte in sink.bytes() {
         text.push(*byte as char)?;

@@ -1,7 +1,6 @@
 -- What a run has written.
 use Rattle.std.proofs.Common.{◌≡◌, ℕ, ◌<◌, ◌≤◌, ◌+◌, ◌^◌, Bool, true, false, List, [], ◌∷◌, ◌++◌, length, take, unwrap_or, Result, Ok, Err, refl, sym, ap, ◌∙◌, subst, arith, inl, inr, ◌⊎◌}
 use Rattle.std.specs.Prelude.{Option, Some, None, ⊤}
-use Rattle.std.specs.List.{flat_map}
 use Rattle.std.proofs.lemmas.List.{append_assoc, append-nil, length-append}
 use Rattle.mos_fields.specs.Characters.{units_in}
 use Rattle.mos_io.specs.Bytes.{Appends, Falls, IsAtEnd, Takes}
@@ -16,12 +15,9 @@ use Rattle.mos_decoder.specs.Bytes.{ByteStream, HasHanded, Tells, TellsEnd, foun
 use Rattle.mos_reader.specs.Answers.{fed}
 use Rattle.mos_decoder.proofs.TellingLemmas.{told_rejected}
 use Rattle.mos_decoder.proofs.PairLemmas.{few_units}
-use Rattle.stream_commands.specs.Lines.{refused_line}
-use Rattle.stream_commands.specs.declared.command.Command.{Command}
-use Rattle.stream_commands.specs.declared.command.Command.TheVariants.{Show, Check}
 use Rattle.stream_commands.specs.declared.status.Status.{Status}
 use Rattle.stream_commands.specs.declared.status.Status.TheVariants as statuses
-use Rattle.stream_commands.specs.Running.{line_of, lines_of, last_line, output_of, IsBounded, Reads, ReadsAll, IsDone, IsRefused, IsShown, ShowsAt, HasHeard, HasHeardAll, HasRefused, TellsAt, HeardAt, Hears, WritesLine, Refuses, Stops, EndsSo}
+use Rattle.stream_commands.specs.Running.{IsBounded, Reads, ReadsAll, Telling, IsDone, IsRefused, IsShown, ShowsAt, HasHeard, HasHeardAll, HasRefused, TellsAt, HeardAt, Hears, TellsMore, WritesText, Refuses, Stops, EndsSo}
 
 -- ---- what was written
 
@@ -37,124 +33,136 @@ pub rose_after : (a b c : ℕ) → a ≤ b → Rose b c → Rose a c
 rose_after a b c h (inl r) = inl (omega (arith, h, r))
 rose_after a b c h (inr r) = inr r
 
-lines_both : (w : Command) (fs gs : List Found) → lines_of w (fs ++ gs) ≡ lines_of w fs ++ lines_of w gs
-lines_both w [] gs = refl
-lines_both w (f ∷ fs) gs = ap (λ z. line_of w f ++ z) (lines_both w fs gs) ∙ sym (append_assoc (line_of w f) (lines_of w fs) (lines_of w gs))
+-- ---- a text that isn't written
 
-pub one_more_line : (w : Command) (fs : List Found) (f : Found) → lines_of w (fs ++ f ∷ []) ≡ lines_of w fs ++ line_of w f
-one_more_line w fs f = lines_both w fs (f ∷ []) ∙ ap (λ z. lines_of w fs ++ z) (append-nil (line_of w f))
+-- what is told is written
+pub told_more : (old new : Telling) (f : Found) (a b : Option (List ℕ)) (e g : ℕ) (more : List ℕ) → ((found : List Found) (text : List ℕ) → old found text → new (found ++ f ∷ []) (text ++ more)) → Appends a b more → TellsMore old new f a b e g (Ok tt)
+told_more old new f a b e g more h w = λ found text k. (more, h found text k, w)
 
--- ---- rejections
+pub untold : (old new : Telling) (f : Found) (text : List ℕ) (a b : Option (List ℕ)) (e g : ℕ) (k : Status) → WritesText text a b e g (Err k) → TellsMore old new f a b e g (Err k)
+untold old new f text a b e g statuses.Done h = absurd h
+untold old new f text a b e g statuses.Refused h = absurd h
+untold old new f text a b e g statuses.Usage h = absurd h
+untold old new f text a b e g statuses.ReadFault h = absurd h
+untold old new f text a b e g statuses.WriteFault h = h
+untold old new f text a b e g statuses.NoMemory h = h
 
-pub refuses_fault : (line : List ℕ) (a b : Option (List ℕ)) (f g : ℕ) (k : Status) → WritesLine line a b f g (Err k) → Refuses line a b f g k
-refuses_fault line a b f g statuses.Done h = absurd h
-refuses_fault line a b f g statuses.Refused h = absurd h
-refuses_fault line a b f g statuses.Usage h = absurd h
-refuses_fault line a b f g statuses.ReadFault h = absurd h
-refuses_fault line a b f g statuses.WriteFault h = h
-refuses_fault line a b f g statuses.NoMemory h = h
-
--- a line that wasn't written
-pub hears_fault : (at_end : Bool) (w : Command) (bytes line : List ℕ) (k : Status) (s : ByteStream) (start a b : Option (List ℕ)) (e f g : ℕ) → e ≤ f → WritesLine line a b f g (Err k) → Hears at_end w bytes (Err k) s start b e g
-hears_fault at_end w bytes line statuses.Done s start a b e f g l h = absurd h
-hears_fault at_end w bytes line statuses.Refused s start a b e f g l h = absurd h
-hears_fault at_end w bytes line statuses.Usage s start a b e f g l h = absurd h
-hears_fault at_end w bytes line statuses.ReadFault s start a b e f g l h = absurd h
-hears_fault at_end w bytes line statuses.WriteFault s start a b e f g l h = rose_after e f g l h
-hears_fault at_end w bytes line statuses.NoMemory s start a b e f g l h = tt
-
--- ---- a message
+pub refuses_fault : (text : List ℕ) (a b : Option (List ℕ)) (f g : ℕ) (k : Status) → WritesText text a b f g (Err k) → Refuses text a b f g k
+refuses_fault text a b f g statuses.Done h = absurd h
+refuses_fault text a b f g statuses.Refused h = absurd h
+refuses_fault text a b f g statuses.Usage h = absurd h
+refuses_fault text a b f g statuses.ReadFault h = absurd h
+refuses_fault text a b f g statuses.WriteFault h = h
+refuses_fault text a b f g statuses.NoMemory h = h
 
 pub handed_told : (at_end : Bool) (bytes : List ℕ) (found : List Found) (f : Read) (t : ByteStream) → TellsAt at_end bytes found (Ok (Some f)) t → HasHanded t bytes (found ++ found_of f ∷ [])
 handed_told true bytes found f t h = h
 handed_told false bytes found f t h = h
-
-pub heard_more : (at_end : Bool) (w : Command) (bytes : List ℕ) (s t : ByteStream) (start a b : Option (List ℕ)) (f : Read)
-    → ((found : List Found) → HasHanded s bytes found → TellsAt at_end bytes found (Ok (Some f)) t) → HasHeard w bytes s start a → Appends a b (line_of w (found_of f)) → HasHeard w bytes t start b
-heard_more at_end w bytes s t start a b f tells h e = record {
-  found = h.found ++ found_of f ∷ [];
-  handed = handed_told at_end bytes h.found f t (tells h.found h.handed);
-  writes = subst (Appends start b) (sym (one_more_line w h.found (found_of f))) (appends_both start a b (lines_of w h.found) (line_of w (found_of f)) h.writes e);
-}
-
--- ---- no more of them
-
-pub heard_all : (at_end : Bool) (w : Command) (bytes : List ℕ) (s t : ByteStream) (start a : Option (List ℕ))
-    → ((found : List Found) → HasHanded s bytes found → TellsAt at_end bytes found (Ok None) t) → HasHeard w bytes s start a → HeardAt at_end w bytes t start a
-heard_all false w bytes s t start a tells h = record { found = h.found; handed = (tells h.found h.handed).0; writes = h.writes }
-heard_all true w bytes s t start a tells h = let r = tells h.found h.handed in record { found = h.found; handed = r.0; writes = h.writes; input = r.1 }
-
--- ---- a rejection
 
 has_refused : (at_end : Bool) (bytes : List ℕ) (found : List Found) (place : ℕ) (k : Kind) (t : ByteStream) → TellsAt at_end bytes found (Err (Rejected place k)) t
     → (input_of bytes ≡ refused found place k) × ShowsAt at_end bytes place k
 has_refused true bytes found place k t h = (h, tt)
 has_refused false bytes found place k t h = (told_rejected bytes found place k h, (h.0, h.2))
 
--- what refusing comes to
-pub refused_heard : (at_end : Bool) (w : Command) (bytes : List ℕ) (place : ℕ) (kind : Kind) (s t : ByteStream) (start a b : Option (List ℕ)) (e f g : ℕ) (k : Status)
-    → ((found : List Found) → HasHanded s bytes found → TellsAt at_end bytes found (Err (Rejected place kind)) t) → HasHeard w bytes s start a → e ≤ f → Refuses (refused_line place kind) a b f g k → Hears at_end w bytes (Err k) t start b e g
-refused_heard at_end w bytes place kind s t start a b e f g statuses.Done tells h l r = absurd r
-refused_heard at_end w bytes place kind s t start a b e f g statuses.Usage tells h l r = absurd r
-refused_heard at_end w bytes place kind s t start a b e f g statuses.ReadFault tells h l r = absurd r
-refused_heard at_end w bytes place kind s t start a b e f g statuses.WriteFault tells h l r = rose_after e f g l r
-refused_heard at_end w bytes place kind s t start a b e f g statuses.NoMemory tells h l r = tt
-refused_heard at_end w bytes place kind s t start a b e f g statuses.Refused tells h l r =
-    let q = has_refused at_end bytes h.found place kind t (tells h.found h.handed) in
-    record {
-      found = h.found;
-      place = place;
-      kind = kind;
-      input = q.0;
-      shows = q.1;
-      writes = appends_both start a b (lines_of w h.found) (refused_line place kind) h.writes r;
-    }
+-- ---- a message
 
--- what stopping at a fault comes to
-pub stopped_heard : (at_end : Bool) (w : Command) (bytes : List ℕ) (fault : ReadFault) (s t : ByteStream) (start a b : Option (List ℕ)) (e f g : ℕ) (k : Status)
-    → ((found : List Found) → HasHanded s bytes found → TellsAt at_end bytes found (Err fault) t) → HasHeard w bytes s start a → e ≤ f → Stops fault a b f g k → Hears at_end w bytes (Err k) t start b e g
-stopped_heard at_end w bytes (Rejected place kind) s t start a b e f g k tells h l r = refused_heard at_end w bytes place kind s t start a b e f g k tells h l r
-stopped_heard at_end w bytes NoMemory s t start a b e f g k tells h l r = subst (λ z. Hears at_end w bytes (Err z) t start b e g) (sym r) tt
+pub heard_more : (old new : Telling) (at_end : Bool) (bytes : List ℕ) (s t : ByteStream) (start a b : Option (List ℕ)) (e g : ℕ) (f : Read)
+    → ((found : List Found) → HasHanded s bytes found → TellsAt at_end bytes found (Ok (Some f)) t) → HasHeard old bytes s start a → TellsMore old new (found_of f) a b e g (Ok tt) → HasHeard new bytes t start b
+heard_more old new at_end bytes s t start a b e g f tells h w =
+    let m = w h.found h.text h.tells in
+    record {
+      found = h.found ++ found_of f ∷ [];
+      text = h.text ++ m.0;
+      handed = handed_told at_end bytes h.found f t (tells h.found h.handed);
+      tells = m.1;
+      writes = appends_both start a b h.text m.0 h.writes m.2;
+    }
 
 -- ---- more bytes
 
-pub heard_fed : (w : Command) (before more : List ℕ) (s t : ByteStream) (start a : Option (List ℕ)) → ((found : List Found) → HasHanded s before found → HasHanded t (before ++ more) found) → HasHeard w before s start a → HasHeard w (before ++ more) t start a
-heard_fed w before more s t start a f h = record { found = h.found; handed = f h.found h.handed; writes = h.writes }
+pub heard_fed : (told : Telling) (before more : List ℕ) (s t : ByteStream) (start a : Option (List ℕ)) → ((found : List Found) → HasHanded s before found → HasHanded t (before ++ more) found) → HasHeard told before s start a → HasHeard told (before ++ more) t start a
+heard_fed told before more s t start a f h = record { found = h.found; text = h.text; handed = f h.found h.handed; tells = h.tells; writes = h.writes }
+
+module _ (told : Telling) (refusal : ℕ → Kind → List ℕ) where
+  -- a text that wasn't written
+  pub hears_fault : (old : Telling) (m : Found) (at_end : Bool) (bytes : List ℕ) (k : Status) (s : ByteStream) (start a b : Option (List ℕ)) (e f g : ℕ) → e ≤ f → TellsMore old told m a b f g (Err k) → Hears at_end told refusal bytes (Err k) s start b e g
+  hears_fault old m at_end bytes statuses.Done s start a b e f g l h = absurd h
+  hears_fault old m at_end bytes statuses.Refused s start a b e f g l h = absurd h
+  hears_fault old m at_end bytes statuses.Usage s start a b e f g l h = absurd h
+  hears_fault old m at_end bytes statuses.ReadFault s start a b e f g l h = absurd h
+  hears_fault old m at_end bytes statuses.WriteFault s start a b e f g l h = rose_after e f g l h
+  hears_fault old m at_end bytes statuses.NoMemory s start a b e f g l h = tt
+
+  -- ---- no more of them
+
+  pub heard_all : (at_end : Bool) (bytes : List ℕ) (s t : ByteStream) (start a : Option (List ℕ))
+      → ((found : List Found) → HasHanded s bytes found → TellsAt at_end bytes found (Ok None) t) → HasHeard told bytes s start a → HeardAt at_end told bytes t start a
+  heard_all false bytes s t start a tells h = record { found = h.found; text = h.text; handed = (tells h.found h.handed).0; tells = h.tells; writes = h.writes }
+  heard_all true bytes s t start a tells h = let r = tells h.found h.handed in record { heard = record { found = h.found; text = h.text; handed = r.0; tells = h.tells; writes = h.writes }; input = r.1 }
+
+  -- ---- a rejection
+
+  -- what refusing comes to
+  pub refused_heard : (at_end : Bool) (bytes : List ℕ) (place : ℕ) (kind : Kind) (s t : ByteStream) (start a b : Option (List ℕ)) (e f g : ℕ) (k : Status)
+      → ((found : List Found) → HasHanded s bytes found → TellsAt at_end bytes found (Err (Rejected place kind)) t) → HasHeard told bytes s start a → e ≤ f → Refuses (refusal place kind) a b f g k → Hears at_end told refusal bytes (Err k) t start b e g
+  refused_heard at_end bytes place kind s t start a b e f g statuses.Done tells h l r = absurd r
+  refused_heard at_end bytes place kind s t start a b e f g statuses.Usage tells h l r = absurd r
+  refused_heard at_end bytes place kind s t start a b e f g statuses.ReadFault tells h l r = absurd r
+  refused_heard at_end bytes place kind s t start a b e f g statuses.WriteFault tells h l r = rose_after e f g l r
+  refused_heard at_end bytes place kind s t start a b e f g statuses.NoMemory tells h l r = tt
+  refused_heard at_end bytes place kind s t start a b e f g statuses.Refused tells h l r =
+      let q = has_refused at_end bytes h.found place kind t (tells h.found h.handed) in
+      record {
+        found = h.found;
+        text = h.text;
+        place = place;
+        kind = kind;
+        input = q.0;
+        shows = q.1;
+        tells = h.tells;
+        writes = appends_both start a b h.text (refusal place kind) h.writes r;
+      }
+
+  -- what stopping at a fault comes to
+  pub stopped_heard : (at_end : Bool) (bytes : List ℕ) (fault : ReadFault) (s t : ByteStream) (start a b : Option (List ℕ)) (e f g : ℕ) (k : Status)
+      → ((found : List Found) → HasHanded s bytes found → TellsAt at_end bytes found (Err fault) t) → HasHeard told bytes s start a → e ≤ f → Stops refusal fault a b f g k → Hears at_end told refusal bytes (Err k) t start b e g
+  stopped_heard at_end bytes (Rejected place kind) s t start a b e f g k tells h l r = refused_heard at_end bytes place kind s t start a b e f g k tells h l r
+  stopped_heard at_end bytes NoMemory s t start a b e f g k tells h l r = subst (λ z. Hears at_end told refusal bytes (Err z) t start b e g) (sym r) tt
 
 -- ---- the end of a run
 
-pub ends_fault : (w : Command) (bytes : List ℕ) (s : ByteStream) (start b : Option (List ℕ)) (f g : ℕ) (k : Status) → Hears true w bytes (Err k) s start b f g → EndsSo w bytes k start b f g
-ends_fault w bytes s start b f g statuses.Done h = absurd h
-ends_fault w bytes s start b f g statuses.Refused h = h
-ends_fault w bytes s start b f g statuses.Usage h = absurd h
-ends_fault w bytes s start b f g statuses.ReadFault h = absurd h
-ends_fault w bytes s start b f g statuses.WriteFault h = h
-ends_fault w bytes s start b f g statuses.NoMemory h = h
+module _ (told : Telling) (last : ℕ → ℕ → List ℕ) (refusal : ℕ → Kind → List ℕ) where
+  pub ends_fault : (bytes : List ℕ) (s : ByteStream) (start b : Option (List ℕ)) (f g : ℕ) (k : Status) → Hears true told refusal bytes (Err k) s start b f g → EndsSo told last refusal bytes k start b f g
+  ends_fault bytes s start b f g statuses.Done h = absurd h
+  ends_fault bytes s start b f g statuses.Refused h = h
+  ends_fault bytes s start b f g statuses.Usage h = absurd h
+  ends_fault bytes s start b f g statuses.ReadFault h = absurd h
+  ends_fault bytes s start b f g statuses.WriteFault h = h
+  ends_fault bytes s start b f g statuses.NoMemory h = h
 
-pub ends_unwritten : (w : Command) (bytes line : List ℕ) (start a b : Option (List ℕ)) (e f g : ℕ) (k : Status) → e ≤ f → WritesLine line a b f g (Err k) → EndsSo w bytes k start b e g
-ends_unwritten w bytes line start a b e f g statuses.Done l h = absurd h
-ends_unwritten w bytes line start a b e f g statuses.Refused l h = absurd h
-ends_unwritten w bytes line start a b e f g statuses.Usage l h = absurd h
-ends_unwritten w bytes line start a b e f g statuses.ReadFault l h = absurd h
-ends_unwritten w bytes line start a b e f g statuses.WriteFault l h = rose_after e f g l h
-ends_unwritten w bytes line start a b e f g statuses.NoMemory l h = tt
+  pub ends_unwritten : (bytes text : List ℕ) (start a b : Option (List ℕ)) (e f g : ℕ) (k : Status) → e ≤ f → WritesText text a b f g (Err k) → EndsSo told last refusal bytes k start b e g
+  ends_unwritten bytes text start a b e f g statuses.Done l h = absurd h
+  ends_unwritten bytes text start a b e f g statuses.Refused l h = absurd h
+  ends_unwritten bytes text start a b e f g statuses.Usage l h = absurd h
+  ends_unwritten bytes text start a b e f g statuses.ReadFault l h = absurd h
+  ends_unwritten bytes text start a b e f g statuses.WriteFault l h = rose_after e f g l h
+  ends_unwritten bytes text start a b e f g statuses.NoMemory l h = tt
 
-pub ends_done : (w : Command) (bytes : List ℕ) (s : ByteStream) (start a b : Option (List ℕ)) → (h : HasHeardAll w bytes s start a) → Appends a b (last_line w h.found (length (units_in bytes)))
-    → (found : List Found) × (input_of bytes ≡ whole found) × Appends start b (output_of w (length (units_in bytes)) (whole found))
-ends_done w bytes s start a b h e = (h.found, h.input, appends_both start a b (lines_of w h.found) (last_line w h.found (length (units_in bytes))) h.writes e)
+  pub ends_done : (bytes : List ℕ) (s : ByteStream) (start a b : Option (List ℕ)) (f g : ℕ) → (h : HasHeardAll told bytes s start a) → Appends a b (last (length h.heard.found) (length (units_in bytes))) → EndsSo told last refusal bytes statuses.Done start b f g
+  ends_done bytes s start a b f g h e = (h.heard.found, h.heard.text, h.input, h.heard.tells, appends_both start a b h.heard.text (last (length h.heard.found) (length (units_in bytes))) h.heard.writes e)
 
 -- what the end says of each status
-module _ (w : Command) (bytes : List ℕ) (start b : Option (List ℕ)) (f g : ℕ) (k : Status) (h : EndsSo w bytes k start b f g) where
-  ended_as : (j : Status) → k ≡ j → EndsSo w bytes j start b f g
-  ended_as j e = subst (λ z. EndsSo w bytes z start b f g) e h
+module _ (told : Telling) (last : ℕ → ℕ → List ℕ) (refusal : ℕ → Kind → List ℕ) (bytes : List ℕ) (start b : Option (List ℕ)) (f g : ℕ) (k : Status) (h : EndsSo told last refusal bytes k start b f g) where
+  ended_as : (j : Status) → k ≡ j → EndsSo told last refusal bytes j start b f g
+  ended_as j e = subst (λ z. EndsSo told last refusal bytes z start b f g) e h
 
-  pub ended_done : (x y : Option (List ℕ)) → ReadsAll x y bytes → k ≡ statuses.Done → IsDone w x y start b
-  ended_done x y r e = let p = ended_as statuses.Done e in record { bytes = bytes; found = p.0; reads = r; input = p.1; writes = p.2 }
+  pub ended_done : (x y : Option (List ℕ)) → ReadsAll x y bytes → k ≡ statuses.Done → IsDone told last x y start b
+  ended_done x y r e = let p = ended_as statuses.Done e in record { bytes = bytes; found = p.0; text = p.1; reads = r; input = p.2; tells = p.3; writes = p.4 }
 
-  pub ended_refused : (x y : Option (List ℕ)) → ReadsAll x y bytes → k ≡ statuses.Refused → IsRefused w x y start b
+  pub ended_refused : (x y : Option (List ℕ)) → ReadsAll x y bytes → k ≡ statuses.Refused → IsRefused told refusal x y start b
   ended_refused x y r e =
       let p = ended_as statuses.Refused e in
-      record { bytes = bytes; found = p.found; place = p.place; kind = p.kind; reads = inr r; input = p.input; writes = p.writes }
+      record { bytes = bytes; found = p.found; text = p.text; place = p.place; kind = p.kind; reads = inr r; input = p.input; tells = p.tells; writes = p.writes }
 
   pub ended_usage : k ≡ statuses.Usage → ⊥
   ended_usage e = ended_as statuses.Usage e
@@ -166,17 +174,17 @@ module _ (w : Command) (bytes : List ℕ) (start b : Option (List ℕ)) (f g : �
   ended_write_fault i l e = rose_after i f g l (ended_as statuses.WriteFault e)
 
 -- what a piece says of each status
-module _ (w : Command) (bytes : List ℕ) (s : ByteStream) (start b : Option (List ℕ)) (f g : ℕ) (k : Status) (h : Hears false w bytes (Err k) s start b f g) where
-  heard_as : (j : Status) → k ≡ j → Hears false w bytes (Err j) s start b f g
-  heard_as j e = subst (λ z. Hears false w bytes (Err z) s start b f g) e h
+module _ (told : Telling) (refusal : ℕ → Kind → List ℕ) (bytes : List ℕ) (s : ByteStream) (start b : Option (List ℕ)) (f g : ℕ) (k : Status) (h : Hears false told refusal bytes (Err k) s start b f g) where
+  heard_as : (j : Status) → k ≡ j → Hears false told refusal bytes (Err j) s start b f g
+  heard_as j e = subst (λ z. Hears false told refusal bytes (Err z) s start b f g) e h
 
   pub heard_done : k ≡ statuses.Done → ⊥
   heard_done e = heard_as statuses.Done e
 
-  pub heard_refused : (x y : Option (List ℕ)) → Reads x y bytes → k ≡ statuses.Refused → IsRefused w x y start b
+  pub heard_refused : (x y : Option (List ℕ)) → Reads x y bytes → k ≡ statuses.Refused → IsRefused told refusal x y start b
   heard_refused x y r e =
       let p = heard_as statuses.Refused e in
-      record { bytes = bytes; found = p.found; place = p.place; kind = p.kind; reads = inl (r, p.shows); input = p.input; writes = p.writes }
+      record { bytes = bytes; found = p.found; text = p.text; place = p.place; kind = p.kind; reads = inl (r, p.shows); input = p.input; tells = p.tells; writes = p.writes }
 
   pub heard_usage : k ≡ statuses.Usage → ⊥
   heard_usage e = heard_as statuses.Usage e

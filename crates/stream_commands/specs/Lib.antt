@@ -1,3 +1,4 @@
 pub mod Statuses
 pub mod Lines
+pub mod Listings
 pub mod Running

@@ -1,16 +1,14 @@
 //! Reading a stream to its end.
-ghost use Rattle.std.specs.Prelude.{◌≡◌, ◌≢◌, ◌≤◌, ◌<◌, ◌+◌, ◌^◌, ◌++◌, ℕ, [], false, List, Option, IfOk, length, string_bytes, vec_len};
+ghost use Rattle.std.specs.Prelude.{◌≡◌, ◌≢◌, ◌≤◌, ◌<◌, ◌+◌, ◌^◌, ◌++◌, ℕ, [], false, List, Option, IfOk, length, vec_len};
 ghost use Rattle.mos_fields.specs.Characters.{units_in};
 ghost use Rattle.mos_io.specs.Counts.{Rose};
 ghost use Rattle.mos_lexer.specs.Units.{Found as FoundOf};
 ghost use Rattle.mos_reader.specs.Answers.{fed};
-ghost use Rattle.mos_decoder.specs.Bytes.{HasHanded, OnFound, found_of};
-ghost use Rattle.stream_commands.specs.Lines.{refused_line as refused_line_of};
-ghost use Rattle.stream_commands.specs.Running.{EndsSo, HasHeard, Hears, IsBounded, IsDone, IsRefused, Refuses, Stops, TellsAt, WritesLine, last_line, line_of};
+ghost use Rattle.mos_decoder.specs.Bytes.{HandsValue, HasHanded, IsReadValue, OnFound, found_of};
+ghost use Rattle.stream_commands.specs.Running.{EndsSo, HasHeard, Hears, IsBounded, IsDone, IsRefused, Refuses, Stops, TellsAt, TellsMore, WritesText};
 
-use crate::command::Command;
-use crate::lines::{count_line, refused_line, shown_line};
 use crate::status::Status;
+use crate::teller::Teller;
 use mos_decoder::EventDecoder;
 use mos_fields::NoMemory;
 use mos_io::{Sink, SinkFault, Source};
@@ -28,55 +26,65 @@ fn room(alloc: Global) -> Result<Vec<u8>, NoMemory>
     Ok(vec![in alloc; 0u8; PIECE]?)
 }
 
-/// Writes a line, if there is memory for it.
-fn write_line<K: Sink>(line: Result<String, NoMemory>, sink: &mut K) -> Result<(), Status>
-    ensures written { (bytes : List ℕ) → IfOk line (λ text. string_bytes text ≡ bytes) → WritesLine bytes (K.written sink.old) (K.written sink.new) (K.faults sink.old) (K.faults sink.new) result }
+/// Writes a text, in one piece. Of an empty one nothing is written.
+fn write_text<K: Sink>(text: &[u8], sink: &mut K) -> Result<(), Status>
+    ensures written { WritesText text.now (K.written sink.old) (K.written sink.new) (K.faults sink.old) (K.faults sink.new) result }
     ensures rises { K.faults sink.old ≤ K.faults sink.new }
 {
-    match line {
-        Err(_) => Err(Status::NoMemory),
-        Ok(text) => match sink.write_piece(text.as_bytes()) {
-            Ok(()) => Ok(()),
-            Err(SinkFault::Failed) => Err(Status::WriteFault),
-            Err(SinkFault::NoMemory) => Err(Status::NoMemory),
-        },
+    if text.is_empty() {
+        return Ok(());
+    }
+    match sink.write_piece(text) {
+        Ok(()) => Ok(()),
+        Err(SinkFault::Failed) => Err(Status::WriteFault),
+        Err(SinkFault::NoMemory) => Err(Status::NoMemory),
     }
 }
 
-/// Writes what is to be written of a message.
-fn hear_message<K: Sink>(
+/// Writes what is told of a message.
+fn hear_message<T: Teller, K: Sink>(
     alloc: Global,
-    command: Command,
+    teller: &mut T,
     found: Found,
     sink: &mut K,
 ) -> Result<(), Status>
-    ensures written { WritesLine (line_of command (found_of found)) (K.written sink.old) (K.written sink.new) (K.faults sink.old) (K.faults sink.new) result }
+    requires { IsReadValue found.value }
+    ensures written { TellsMore (T.told teller.old) (T.told teller.new) (found_of found) (K.written sink.old) (K.written sink.new) (K.faults sink.old) (K.faults sink.new) result }
     ensures rises { K.faults sink.old ≤ K.faults sink.new }
 {
-    match command {
-        Command::Show => write_line(shown_line(alloc, found), sink),
-        Command::Check => Ok(()),
+    match teller.tell(alloc, found) {
+        Ok(text) => write_text(text.as_slice(), sink),
+        Err(_) => Err(Status::NoMemory),
     }
 }
 
-/// Writes the line of a rejection; the status of the run.
-fn refuse<K: Sink>(alloc: Global, place: usize, kind: Kind, sink: &mut K) -> Status
-    ensures written { Refuses (refused_line_of place kind) (K.written sink.old) (K.written sink.new) (K.faults sink.old) (K.faults sink.new) result }
+/// Writes what is told of a rejection; the status of the run.
+fn refuse<T: Teller, K: Sink>(
+    alloc: Global,
+    teller: &T,
+    place: usize,
+    kind: Kind,
+    sink: &mut K,
+) -> Status
+    ensures written { Refuses (T.refusal teller.now place kind) (K.written sink.old) (K.written sink.new) (K.faults sink.old) (K.faults sink.new) result }
     ensures rises { K.faults sink.old ≤ K.faults sink.new }
 {
-    match write_line(refused_line(alloc, place, kind), sink) {
-        Ok(()) => Status::Refused,
-        Err(status) => status,
+    match teller.tell_refusal(alloc, place, kind) {
+        Ok(text) => match write_text(text.as_slice(), sink) {
+            Ok(()) => Status::Refused,
+            Err(status) => status,
+        },
+        Err(_) => Status::NoMemory,
     }
 }
 
-/// The stream is read no further: writes the line of a rejection; the status of the run.
-fn stop<K: Sink>(alloc: Global, fault: ReadFault, sink: &mut K) -> Status
-    ensures written { Stops fault (K.written sink.old) (K.written sink.new) (K.faults sink.old) (K.faults sink.new) result }
+/// The stream is read no further: writes what is told of a rejection; the status of the run.
+fn stop<T: Teller, K: Sink>(alloc: Global, teller: &T, fault: ReadFault, sink: &mut K) -> Status
+    ensures written { Stops (T.refusal teller.now) fault (K.written sink.old) (K.written sink.new) (K.faults sink.old) (K.faults sink.new) result }
     ensures rises { K.faults sink.old ≤ K.faults sink.new }
 {
     match fault {
-        ReadFault::Rejected(place, kind) => refuse(alloc, place, kind, sink),
+        ReadFault::Rejected(place, kind) => refuse(alloc, teller, place, kind, sink),
         ReadFault::NoMemory => Status::NoMemory,
     }
 }
@@ -85,6 +93,7 @@ fn stop<K: Sink>(alloc: Global, fault: ReadFault, sink: &mut K) -> Status
 fn ask(decoder: &mut EventDecoder, at_end: bool) -> Result<Option<Found>, ReadFault>
     ensures tells { (bytes : List ℕ) (found : List FoundOf) → HasHanded decoder.old bytes found → TellsAt at_end bytes found result decoder.new }
     ensures shorter { OnFound result (length (decoder.new).stream.held < length (decoder.old).stream.held) }
+    ensures value { HandsValue result }
 {
     if at_end {
         decoder.end()
@@ -93,67 +102,75 @@ fn ask(decoder: &mut EventDecoder, at_end: bool) -> Result<Option<Found>, ReadFa
     }
 }
 
-/// Writes what is to be written of the messages that are whole, and of a rejection.
-fn hear_all<K: Sink>(
+/// Writes what is told of the messages that are whole, and of a rejection.
+fn hear_all<T: Teller, K: Sink>(
     alloc: Global,
     decoder: &mut EventDecoder,
     at_end: bool,
-    command: Command,
+    teller: &mut T,
     sink: &mut K,
 ) -> Result<(), Status>
-    ensures heard { (bytes : List ℕ) (start : Option (List ℕ)) → HasHeard command bytes decoder.old start (K.written sink.old) → Hears at_end command bytes result decoder.new start (K.written sink.new) (K.faults sink.old) (K.faults sink.new) }
+    ensures heard { (bytes : List ℕ) (start : Option (List ℕ)) → HasHeard (T.told teller.old) bytes decoder.old start (K.written sink.old) → Hears at_end (T.told teller.new) (T.refusal teller.new) bytes result decoder.new start (K.written sink.new) (K.faults sink.old) (K.faults sink.new) }
     ensures rises { K.faults sink.old ≤ K.faults sink.new }
 {
     'message: loop {
         match ask(decoder, at_end) {
-            Ok(Some(found)) => hear_message(alloc, command, found, sink)?,
+            Ok(Some(found)) => match hear_message(alloc, teller, found, sink) {
+                Ok(()) => {}
+                Err(status) => return Err(status),
+            },
             Ok(None) => return Ok(()),
-            Err(fault) => return Err(stop(alloc, fault, sink)),
+            Err(fault) => return Err(stop(alloc, teller, fault, sink)),
         }
     }
 }
 
-/// Feeds bytes, and writes what is to be written of the messages that are whole, and of a rejection.
-fn hear_piece<K: Sink>(
+/// Feeds bytes, and writes what is told of the messages that are whole, and of a rejection.
+fn hear_piece<T: Teller, K: Sink>(
     alloc: Global,
     decoder: &mut EventDecoder,
     bytes: &[u8],
-    command: Command,
+    teller: &mut T,
     sink: &mut K,
 ) -> Result<(), Status>
     requires room { fed (decoder.old).stream + length bytes.now < 2 ^ 64 }
-    ensures heard { (before : List ℕ) (start : Option (List ℕ)) → HasHeard command before decoder.old start (K.written sink.old) → Hears false command (before ++ bytes.now) result decoder.new start (K.written sink.new) (K.faults sink.old) (K.faults sink.new) }
+    ensures heard { (before : List ℕ) (start : Option (List ℕ)) → HasHeard (T.told teller.old) before decoder.old start (K.written sink.old) → Hears false (T.told teller.new) (T.refusal teller.new) (before ++ bytes.now) result decoder.new start (K.written sink.new) (K.faults sink.old) (K.faults sink.new) }
     ensures rises { K.faults sink.old ≤ K.faults sink.new }
 {
     match decoder.feed(bytes) {
         Err(_) => Err(Status::NoMemory),
-        Ok(()) => hear_all(alloc, decoder, false, command, sink),
+        Ok(()) => hear_all(alloc, decoder, false, teller, sink),
     }
 }
 
-/// Writes what is to be written behind the last message.
-fn write_last<K: Sink>(
+/// Writes what is told behind the last message.
+fn write_last<T: Teller, K: Sink>(
     alloc: Global,
     decoder: &EventDecoder,
-    command: Command,
+    teller: &T,
     sink: &mut K,
 ) -> Result<(), Status>
-    ensures written { (bytes : List ℕ) (found : List FoundOf) → HasHanded decoder.now bytes found → WritesLine (last_line command found (length (units_in bytes))) (K.written sink.old) (K.written sink.new) (K.faults sink.old) (K.faults sink.new) result }
+    ensures written { (bytes : List ℕ) (found : List FoundOf) → HasHanded decoder.now bytes found → WritesText (T.last teller.now (length found) (length (units_in bytes))) (K.written sink.old) (K.written sink.new) (K.faults sink.old) (K.faults sink.new) result }
     ensures rises { K.faults sink.old ≤ K.faults sink.new }
 {
-    match command {
-        Command::Show => Ok(()),
-        Command::Check => write_line(count_line(alloc, decoder.count(), decoder.place()), sink),
+    match teller.tell_last(alloc, decoder.count(), decoder.place()) {
+        Ok(text) => write_text(text.as_slice(), sink),
+        Err(_) => Err(Status::NoMemory),
     }
 }
 
 /// The input ended: the status of the run.
-fn end<K: Sink>(alloc: Global, decoder: &mut EventDecoder, command: Command, sink: &mut K) -> Status
-    ensures ended { (bytes : List ℕ) (start : Option (List ℕ)) → HasHeard command bytes decoder.old start (K.written sink.old) → EndsSo command bytes result start (K.written sink.new) (K.faults sink.old) (K.faults sink.new) }
+fn end<T: Teller, K: Sink>(
+    alloc: Global,
+    decoder: &mut EventDecoder,
+    teller: &mut T,
+    sink: &mut K,
+) -> Status
+    ensures ended { (bytes : List ℕ) (start : Option (List ℕ)) → HasHeard (T.told teller.old) bytes decoder.old start (K.written sink.old) → EndsSo (T.told teller.new) (T.last teller.new) (T.refusal teller.new) bytes result start (K.written sink.new) (K.faults sink.old) (K.faults sink.new) }
 {
-    match hear_all(alloc, decoder, true, command, sink) {
+    match hear_all(alloc, decoder, true, teller, sink) {
         Err(status) => status,
-        Ok(()) => match write_last(alloc, decoder, command, sink) {
+        Ok(()) => match write_last(alloc, decoder, teller, sink) {
             Ok(()) => Status::Done,
             Err(status) => status,
         },
@@ -161,9 +178,9 @@ fn end<K: Sink>(alloc: Global, decoder: &mut EventDecoder, command: Command, sin
 }
 
 /// Reads a stream to its end, in pieces, with a decoder to which nothing was fed.
-fn read_all<S: Source, K: Sink>(
+fn read_all<T: Teller, S: Source, K: Sink>(
     alloc: Global,
-    command: Command,
+    teller: &mut T,
     source: &mut S,
     piece: &mut [u8],
     decoder: &mut EventDecoder,
@@ -172,8 +189,9 @@ fn read_all<S: Source, K: Sink>(
     requires bounded { IsBounded (S.bound source.old) }
     requires full { 0 < length piece.old }
     requires nothing { HasHanded decoder.old [] [] }
-    ensures done { result ≡ Status.Done → IsDone command (S.left source.old) (S.left source.new) (K.written sink.old) (K.written sink.new) }
-    ensures refused { result ≡ Status.Refused → IsRefused command (S.left source.old) (S.left source.new) (K.written sink.old) (K.written sink.new) }
+    requires told { T.told teller.old [] [] }
+    ensures done { result ≡ Status.Done → IsDone (T.told teller.new) (T.last teller.new) (S.left source.old) (S.left source.new) (K.written sink.old) (K.written sink.new) }
+    ensures refused { result ≡ Status.Refused → IsRefused (T.told teller.new) (T.refusal teller.new) (S.left source.old) (S.left source.new) (K.written sink.old) (K.written sink.new) }
     ensures usage { result ≢ Status.Usage }
     ensures read_fault { result ≡ Status.ReadFault → Rose (S.faults source.old) (S.faults source.new) }
     ensures write_fault { result ≡ Status.WriteFault → Rose (K.faults sink.old) (K.faults sink.new) }
@@ -181,8 +199,8 @@ fn read_all<S: Source, K: Sink>(
     'piece: loop {
         match source.read(piece) {
             Err(_) => return Status::ReadFault,
-            Ok(0) => return end(alloc, decoder, command, sink),
-            Ok(count) => match hear_piece(alloc, decoder, &piece[..count], command, sink) {
+            Ok(0) => return end(alloc, decoder, teller, sink),
+            Ok(count) => match hear_piece(alloc, decoder, &piece[..count], teller, sink) {
                 Ok(()) => {}
                 Err(status) => return status,
             },
@@ -190,26 +208,25 @@ fn read_all<S: Source, K: Sink>(
     }
 }
 
-/// Reads a stream of messages from `source`, and writes to `sink` what the command says of it.
+/// Reads a stream of messages from `source` to its end, and writes to `sink` what the teller tells of it.
 ///
-/// `Show` writes one line in UTF-8 for each message, as soon as it is whole: the code unit that its `<mos` begins with,
-/// its name, mosID, ncsID, and its roID or objID, or `-` where it has none or an empty one. `Check` writes one line
-/// behind the last message: how many messages and code units there are. A rejection ends the output with a line of its
-/// place, in code units from the beginning, and its kind.
+/// What is told of a message is written as soon as the message is whole, in one piece. A rejection ends the output with
+/// what is told of its place, in code units from the beginning, and its kind.
 ///
 /// `Done` comes where the input was read to its end and is a stream of messages with nothing but white space and U+FEFF
 /// behind the last one; `Refused` where the bytes read show a rejection, or the input ends inside a message;
 /// `ReadFault` and `WriteFault` only where the source's or the sink's count of faults rose; `Usage` never. The source
-/// tells a bound below 2^64 on the bytes that it may still give.
-pub fn run_stream<S: Source, K: Sink>(
+/// tells a bound below 2^64 on the bytes that it may still give; the teller has told nothing yet.
+pub fn run_stream<T: Teller, S: Source, K: Sink>(
     alloc: Global,
-    command: Command,
+    teller: &mut T,
     source: &mut S,
     sink: &mut K,
 ) -> Status
-    requires { IsBounded (S.bound source.old) }
-    ensures done { result ≡ Status.Done → IsDone command (S.left source.old) (S.left source.new) (K.written sink.old) (K.written sink.new) }
-    ensures refused { result ≡ Status.Refused → IsRefused command (S.left source.old) (S.left source.new) (K.written sink.old) (K.written sink.new) }
+    requires bounded { IsBounded (S.bound source.old) }
+    requires told { T.told teller.old [] [] }
+    ensures done { result ≡ Status.Done → IsDone (T.told teller.new) (T.last teller.new) (S.left source.old) (S.left source.new) (K.written sink.old) (K.written sink.new) }
+    ensures refused { result ≡ Status.Refused → IsRefused (T.told teller.new) (T.refusal teller.new) (S.left source.old) (S.left source.new) (K.written sink.old) (K.written sink.new) }
     ensures usage { result ≢ Status.Usage }
     ensures read_fault { result ≡ Status.ReadFault → Rose (S.faults source.old) (S.faults source.new) }
     ensures write_fault { result ≡ Status.WriteFault → Rose (K.faults sink.old) (K.faults sink.new) }
@@ -218,7 +235,7 @@ pub fn run_stream<S: Source, K: Sink>(
         Err(_) => Status::NoMemory,
         Ok(mut piece) => {
             let mut decoder = EventDecoder::new(alloc);
-            read_all(alloc, command, source, &mut piece, &mut decoder, sink)
+            read_all(alloc, teller, source, &mut piece, &mut decoder, sink)
         }
     }
 }

@@ -1,7 +1,14 @@
 //! Runs over inputs and outputs in memory.
-use crate::{Command, Status, run_stream};
+use crate::{Counter, Lister, Status, run_stream};
 use mos_io::{MemSink, MemSource};
 use std::test::Fail;
+
+/// What is told of a stream.
+#[derive(Clone, Copy, Debug, PartialEq, Eq)]
+enum Command {
+    Show,
+    Check,
+}
 
 /// 129 code units
 const HEARTBEAT: &str =
@@ -35,7 +42,10 @@ fn run(
         Vec::new(alloc),
     );
     let mut sink = MemSink::new(alloc, Vec::new(alloc));
-    let status = run_stream(alloc, command, &mut source, &mut sink);
+    let status = match command {
+        Command::Show => run_stream(alloc, &mut Lister, &mut source, &mut sink),
+        Command::Check => run_stream(alloc, &mut Counter, &mut source, &mut sink),
+    };
     Ok((status, sink.bytes() == wanted.as_bytes()))
 }
 
@@ -199,7 +209,7 @@ fn failing(rt: &HostRuntime, reads: &[u64], writes: &[u64]) -> Result<(Status, u
         Vec::from_slice(alloc, reads)?,
     );
     let mut sink = MemSink::new(alloc, Vec::from_slice(alloc, writes)?);
-    let status = run_stream(alloc, Command::Show, &mut source, &mut sink);
+    let status = run_stream(alloc, &mut Lister, &mut source, &mut sink);
     Ok((status, sink.bytes().len()))
 }
 

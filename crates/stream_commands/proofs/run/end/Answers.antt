@@ -1,22 +1,29 @@
 use Rattle.std.proofs.Common.{length}
 use Rattle.mos_fields.specs.Characters.{units_in}
-use Rattle.stream_commands.specs.Running.{last_line}
 use Rattle.stream_commands.proofs.RunLemmas.{ends_fault, ends_unwritten, ends_done}
 use Rattle.stream_commands.proofs.run.end.Goals as goal
 
 pub returns-in-Err : goal.returns-in-Err
-returns-in-Err g c = record { ended = λ bytes start h. ends_fault c.args.command bytes _ start _ _ _ c.in-Err.status (c.in-Err.ensures.heard bytes start h) }
+returns-in-Err g c = record {
+  ended = λ bytes start h.
+      let t = c.hear_all.new.teller in
+      ends_fault (g.T.Teller.told t) (g.T.Teller.last t) (g.T.Teller.refusal t) bytes _ start _ _ _ c.in-Err.status (c.in-Err.ensures.heard bytes start h);
+}
 
 pub returns-in-Ok-write_last : goal.returns-in-Ok-write_last
 returns-in-Ok-write_last g c = record {
   ended = λ bytes start h.
+      let t = c.hear_all.new.teller in
       let x = c.in-Ok.ensures.heard bytes start h in
-      ends_done c.args.command bytes _ start _ _ x (c.in-Ok-write_last.ensures.written bytes x.found x.handed);
+      ends_done (g.T.Teller.told t) (g.T.Teller.last t) (g.T.Teller.refusal t) bytes _ start (g.K.Sink.written c.hear_all.new.sink) (g.K.Sink.written c.write_last.new.sink) (g.K.Sink.faults c.args.sink.now) (g.K.Sink.faults c.write_last.new.sink) x
+      (c.in-Ok-write_last.ensures.written bytes x.heard.found x.heard.handed);
 }
 
 pub returns-in-Err-write_last : goal.returns-in-Err-write_last
 returns-in-Err-write_last g c = record {
   ended = λ bytes start h.
+      let t = c.hear_all.new.teller in
       let x = c.in-Ok.ensures.heard bytes start h in
-      ends_unwritten c.args.command bytes (last_line c.args.command x.found (length (units_in bytes))) start (g.K.Sink.written c.hear_all.new.sink) _ _ _ _ c.in-Err-write_last.status c.hear_all.ensures.rises (c.in-Err-write_last.ensures.written bytes x.found x.handed);
+      ends_unwritten (g.T.Teller.told t) (g.T.Teller.last t) (g.T.Teller.refusal t) bytes (g.T.Teller.last t (length x.heard.found) (length (units_in bytes))) start (g.K.Sink.written c.hear_all.new.sink) (g.K.Sink.written c.write_last.new.sink)
+      (g.K.Sink.faults c.args.sink.now) (g.K.Sink.faults c.hear_all.new.sink) (g.K.Sink.faults c.write_last.new.sink) c.in-Err-write_last.status c.hear_all.ensures.rises (c.in-Err-write_last.ensures.written bytes x.heard.found x.heard.handed);
 }

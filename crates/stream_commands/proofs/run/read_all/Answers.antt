@@ -9,23 +9,23 @@ returns-in-Ok-eq0-clause-done g c = λ e.
     let i = c.piece.invariant in
     let z = c.in-Ok-eq0.field-0-test in
     let x = c.in-Ok-eq0.ensures in
-    ended_done c.args.command i.bytes _ _ _ _ c.end.result (c.end.ensures.ended i.bytes _ i.heard) _ _ (reads_all _ _ _ i.bytes c.read.new.buf c.in-Ok-eq0.field-0 z i.reads (x.ended z) x.taken) e
+    ended_done (g.T.Teller.told c.end.new.teller) (g.T.Teller.last c.end.new.teller) (g.T.Teller.refusal c.end.new.teller) i.bytes _ _ _ _ c.end.result (c.end.ensures.ended i.bytes _ i.heard) _ _ (reads_all _ _ _ i.bytes c.read.new.buf c.in-Ok-eq0.field-0 z i.reads (x.ended z) x.taken) e
 
 pub returns-in-Ok-eq0-clause-refused : goal.returns-in-Ok-eq0-clause-refused
 returns-in-Ok-eq0-clause-refused g c = λ e.
     let i = c.piece.invariant in
     let z = c.in-Ok-eq0.field-0-test in
     let x = c.in-Ok-eq0.ensures in
-    ended_refused c.args.command i.bytes _ _ _ _ c.end.result (c.end.ensures.ended i.bytes _ i.heard) _ _ (reads_all _ _ _ i.bytes c.read.new.buf c.in-Ok-eq0.field-0 z i.reads (x.ended z) x.taken) e
+    ended_refused (g.T.Teller.told c.end.new.teller) (g.T.Teller.last c.end.new.teller) (g.T.Teller.refusal c.end.new.teller) i.bytes _ _ _ _ c.end.result (c.end.ensures.ended i.bytes _ i.heard) _ _ (reads_all _ _ _ i.bytes c.read.new.buf c.in-Ok-eq0.field-0 z i.reads (x.ended z) x.taken) e
 
 pub returns-in-Ok-eq0-clause-usage : goal.returns-in-Ok-eq0-clause-usage
-returns-in-Ok-eq0-clause-usage g c = λ e. let i = c.piece.invariant in ended_usage c.args.command i.bytes _ _ _ _ c.end.result (c.end.ensures.ended i.bytes _ i.heard) e
+returns-in-Ok-eq0-clause-usage g c = λ e. let i = c.piece.invariant in ended_usage (g.T.Teller.told c.end.new.teller) (g.T.Teller.last c.end.new.teller) (g.T.Teller.refusal c.end.new.teller) i.bytes _ _ _ _ c.end.result (c.end.ensures.ended i.bytes _ i.heard) e
 
 pub returns-in-Ok-eq0-clause-read_fault : goal.returns-in-Ok-eq0-clause-read_fault
-returns-in-Ok-eq0-clause-read_fault g c = λ e. let i = c.piece.invariant in absurd (ended_read_fault c.args.command i.bytes _ _ _ _ c.end.result (c.end.ensures.ended i.bytes _ i.heard) e)
+returns-in-Ok-eq0-clause-read_fault g c = λ e. let i = c.piece.invariant in absurd (ended_read_fault (g.T.Teller.told c.end.new.teller) (g.T.Teller.last c.end.new.teller) (g.T.Teller.refusal c.end.new.teller) i.bytes _ _ _ _ c.end.result (c.end.ensures.ended i.bytes _ i.heard) e)
 
 pub returns-in-Ok-eq0-clause-write_fault : goal.returns-in-Ok-eq0-clause-write_fault
-returns-in-Ok-eq0-clause-write_fault g c = λ e. let i = c.piece.invariant in ended_write_fault c.args.command i.bytes _ _ _ _ c.end.result (c.end.ensures.ended i.bytes _ i.heard) _ i.sink_rises e
+returns-in-Ok-eq0-clause-write_fault g c = λ e. let i = c.piece.invariant in ended_write_fault (g.T.Teller.told c.end.new.teller) (g.T.Teller.last c.end.new.teller) (g.T.Teller.refusal c.end.new.teller) i.bytes _ _ _ _ c.end.result (c.end.ensures.ended i.bytes _ i.heard) _ i.sink_rises e
 
 pub hear_piece-requires : goal.hear_piece-requires
 hear_piece-requires g c =
@@ -60,19 +60,19 @@ piece-preserved g c =
     }
 
 pub returns-in-Err-hear_piece-clause-done : goal.returns-in-Err-hear_piece-clause-done
-returns-in-Err-hear_piece-clause-done g c = λ e. let i = c.piece.invariant in absurd (heard_done c.args.command (i.bytes ++ take c.in-Ok.count c.read.new.buf) _ _ _ _ _ c.in-Err-hear_piece.status (c.in-Err-hear_piece.ensures.heard i.bytes _ i.heard) e)
+returns-in-Err-hear_piece-clause-done g c = λ e. let i = c.piece.invariant in absurd (heard_done (g.T.Teller.told c.hear_piece.new.teller) (g.T.Teller.refusal c.hear_piece.new.teller) (i.bytes ++ take c.in-Ok.count c.read.new.buf) _ _ _ _ _ c.in-Err-hear_piece.status (c.in-Err-hear_piece.ensures.heard i.bytes _ i.heard) e)
 
 pub returns-in-Err-hear_piece-clause-refused : goal.returns-in-Err-hear_piece-clause-refused
 returns-in-Err-hear_piece-clause-refused g c = λ e.
     let i = c.piece.invariant in
-    heard_refused c.args.command (i.bytes ++ take c.in-Ok.count c.read.new.buf) _ _ _ _ _ c.in-Err-hear_piece.status (c.in-Err-hear_piece.ensures.heard i.bytes _ i.heard) _ _
+    heard_refused (g.T.Teller.told c.hear_piece.new.teller) (g.T.Teller.refusal c.hear_piece.new.teller) (i.bytes ++ take c.in-Ok.count c.read.new.buf) _ _ _ _ _ c.in-Err-hear_piece.status (c.in-Err-hear_piece.ensures.heard i.bytes _ i.heard) _ _
     (reads_more _ _ _ i.bytes (take c.in-Ok.count c.read.new.buf) i.reads c.in-Ok.ensures.taken) e
 
 pub returns-in-Err-hear_piece-clause-usage : goal.returns-in-Err-hear_piece-clause-usage
-returns-in-Err-hear_piece-clause-usage g c = λ e. let i = c.piece.invariant in heard_usage c.args.command (i.bytes ++ take c.in-Ok.count c.read.new.buf) _ _ _ _ _ c.in-Err-hear_piece.status (c.in-Err-hear_piece.ensures.heard i.bytes _ i.heard) e
+returns-in-Err-hear_piece-clause-usage g c = λ e. let i = c.piece.invariant in heard_usage (g.T.Teller.told c.hear_piece.new.teller) (g.T.Teller.refusal c.hear_piece.new.teller) (i.bytes ++ take c.in-Ok.count c.read.new.buf) _ _ _ _ _ c.in-Err-hear_piece.status (c.in-Err-hear_piece.ensures.heard i.bytes _ i.heard) e
 
 pub returns-in-Err-hear_piece-clause-read_fault : goal.returns-in-Err-hear_piece-clause-read_fault
-returns-in-Err-hear_piece-clause-read_fault g c = λ e. let i = c.piece.invariant in absurd (heard_read_fault c.args.command (i.bytes ++ take c.in-Ok.count c.read.new.buf) _ _ _ _ _ c.in-Err-hear_piece.status (c.in-Err-hear_piece.ensures.heard i.bytes _ i.heard) e)
+returns-in-Err-hear_piece-clause-read_fault g c = λ e. let i = c.piece.invariant in absurd (heard_read_fault (g.T.Teller.told c.hear_piece.new.teller) (g.T.Teller.refusal c.hear_piece.new.teller) (i.bytes ++ take c.in-Ok.count c.read.new.buf) _ _ _ _ _ c.in-Err-hear_piece.status (c.in-Err-hear_piece.ensures.heard i.bytes _ i.heard) e)
 
 pub returns-in-Err-hear_piece-clause-write_fault : goal.returns-in-Err-hear_piece-clause-write_fault
-returns-in-Err-hear_piece-clause-write_fault g c = λ e. let i = c.piece.invariant in heard_write_fault c.args.command (i.bytes ++ take c.in-Ok.count c.read.new.buf) _ _ _ _ _ c.in-Err-hear_piece.status (c.in-Err-hear_piece.ensures.heard i.bytes _ i.heard) _ i.sink_rises e
+returns-in-Err-hear_piece-clause-write_fault g c = λ e. let i = c.piece.invariant in heard_write_fault (g.T.Teller.told c.hear_piece.new.teller) (g.T.Teller.refusal c.hear_piece.new.teller) (i.bytes ++ take c.in-Ok.count c.read.new.buf) _ _ _ _ _ c.in-Err-hear_piece.status (c.in-Err-hear_piece.ensures.heard i.bytes _ i.heard) _ i.sink_rises e

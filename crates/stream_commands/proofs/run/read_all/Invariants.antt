@@ -10,7 +10,7 @@ invariant-piece g l = record {
   sink_rises : g.K.Sink.faults l.initial.sink ≤ g.K.Sink.faults l.sink;
   bytes : List ℕ;
   reads : Reads (g.S.Source.left l.initial.source) (g.S.Source.left l.source) bytes;
-  heard : HasHeard l.command bytes l.decoder (g.K.Sink.written l.initial.sink) (g.K.Sink.written l.sink);
+  heard : HasHeard (g.T.Teller.told l.teller) bytes l.decoder (g.K.Sink.written l.initial.sink) (g.K.Sink.written l.sink);
   spent : unwrap_or (g.S.Source.bound l.initial.source) 0 ≡ unwrap_or (g.S.Source.bound l.source) 0 + length bytes;
 }
 

@@ -1,5 +1,5 @@
 use Rattle.std.proofs.Common.{◌<◌, length, Ok, subst}
-use Rattle.mos_decoder.specs.Bytes.{OnFound, Tells}
+use Rattle.mos_decoder.specs.Bytes.{HandsValue, OnFound, Tells}
 use Rattle.mos_decoder.proofs.TellingLemmas.{told_ended, ended_odd}
 use Rattle.mos_decoder.proofs.decoder.EventDecoder.end_in_a_unit.Goals as goal
 
@@ -14,3 +14,6 @@ returns-in-Err-clause-tells c = λ bytes found h. told_ended bytes found c.in-Er
 
 pub returns-in-Ok-Some-clause-shorter : goal.returns-in-Ok-Some-clause-shorter
 returns-in-Ok-Some-clause-shorter c = subst (λ z. OnFound (Ok z) (length c.next.new.self.stream.held < length c.args.self.now.stream.held)) c.in-Ok-Some.field-0-is c.in-Ok-Some.ensures.shorter
+
+pub returns-in-Ok-Some-clause-value : goal.returns-in-Ok-Some-clause-value
+returns-in-Ok-Some-clause-value c = subst (λ z. HandsValue (Ok z)) c.in-Ok-Some.field-0-is c.in-Ok-Some.ensures.value

@@ -2,7 +2,7 @@ use Rattle.std.proofs.Common.{◌≡◌, ◌+◌, ◌<◌, ◌∙◌, length, Ok
 use Rattle.std.specs.Prelude.{Some, None, false, true}
 use Rattle.mos_reader.specs.Answers.{Answers}
 use Rattle.mos_decoder.specs.Bytes.{HasHanded}
-use Rattle.mos_decoder.proofs.TellingLemmas.{tells_next, found_grows}
+use Rattle.mos_decoder.proofs.TellingLemmas.{tells_next, found_grows, found_value}
 use Rattle.mos_decoder.proofs.decoder.EventDecoder.next.Goals as goal
 
 pub overflow_add-self : goal.overflow_add-self
@@ -31,3 +31,6 @@ pub returns-in-Ok-Some-clause-shorter : goal.returns-in-Ok-Some-clause-shorter
 returns-in-Ok-Some-clause-shorter c =
     subst (λ z. length c.next.new.self.held < length z.stream.held) c.self.view_is
     (found_grows false _ c.self.inside.reader c.next.new.self c.in-Ok-Some.found (subst (λ z. Answers false c.self.inside.reader.fault c.self.inside.reader (Ok z) c.next.new.self) c.in-Ok-Some.field-0-is c.in-Ok-Some.ensures.answer)).shorter
+
+pub returns-in-Ok-Some-clause-value : goal.returns-in-Ok-Some-clause-value
+returns-in-Ok-Some-clause-value c = found_value false _ c.self.inside.reader c.next.new.self c.in-Ok-Some.found (subst (λ z. Answers false c.self.inside.reader.fault c.self.inside.reader (Ok z) c.next.new.self) c.in-Ok-Some.field-0-is c.in-Ok-Some.ensures.answer)

@@ -1,3 +1,0 @@
-pub mod Encodings
-pub mod Taking
-pub mod Making

@@ -1,0 +1,146 @@
+//! A device that answers.
+ghost use Rattle.std.specs.Prelude.{◌≡◌, [], IfOk};
+ghost use Rattle.mos_machines.specs.Device.{gate_read};
+ghost use Rattle.mos_machines.specs.Tables.{gate_of};
+ghost use Rattle.mos_machines.specs.Values.{seen, message_of};
+ghost use Rattle.mos_values.specs.declared.message.Envelope.{Envelope as Enveloped};
+ghost use Rattle.mos_values.specs.declared.message.Message.{Message as Carried};
+ghost use Rattle.device_answers.specs.Taking.{IsAnswered, answer_to, device_after, encoding, no_decks, with_message};
+
+use crate::wide::wide;
+use gateway_core::{DeckState, Gate};
+use machine_answers::Heard;
+use mos_fields::NoMemory;
+use mos_lexer::Kind;
+use mos_message_reading::{envelope_of, read_message};
+use mos_messages::encode;
+use mos_reader::Found;
+use mos_values::{Envelope, Message};
+use std::alloc::Global;
+use std::marker::Model;
+use std::mem::replace;
+use stream_commands::{Teller, refused_line};
+
+/// The connection that the device accepted.
+const LINK: u64 = 1;
+
+/// No decks were handed in.
+const NO_DECKS: DeckState = DeckState {
+    handed: false,
+    left: 0,
+};
+
+/// A device without decks that accepted one connection. It tells its answers to the messages that come there, each in its
+/// canonical encoding, and of a rejection the line `REFUSED`, place and kind, in UCS-2, high byte first.
+#[derive(Drop)]
+pub struct Device {
+    gate: Gate,
+}
+
+impl Model for Device {
+    ghost use Rattle.std.specs.Prelude.{◌≡◌, Some};
+    ghost use Rattle.mos_machines.specs.Tables.{GateTables, gate_of};
+
+    ghost Value = { GateTables };
+
+    ghost view = { λ d. d.gate };
+
+    ghost invariant = { λ d. (gate_of d.gate).upper ≡ Some 1 };
+}
+
+// Lets a value go. What is let go here is dropped by a function of its type, and not variant by variant on each path.
+fn let_go<T: Drop>(_value: T) {}
+
+/// The envelope with another message.
+fn exchanged(envelope: Envelope, message: Message) -> Envelope
+    ensures { result ≡ with_message envelope message }
+{
+    let mut envelope = envelope;
+    let former = replace(&mut envelope.message, message);
+    let_go(former);
+    envelope
+}
+
+/// The canonical encoding of an envelope, which is let go.
+fn encoded(alloc: Global, envelope: Envelope) -> Result<Vec<u8>, NoMemory>
+    ensures { IfOk result (λ bytes. bytes.items ≡ encoding envelope) }
+{
+    let bytes = encode(alloc, &envelope);
+    let_go(envelope);
+    bytes
+}
+
+impl Device {
+    /// A device to which nothing was sent yet. It takes no memory; what it keeps grows in this allocator.
+    pub fn new(alloc: Global) -> Self
+        ensures { IsAnswered (gate_of result) [] [] }
+    {
+        let mut gate = Gate::new(alloc);
+        gate.upper_accepted(LINK);
+        Device { gate }
+    }
+
+    /// Reads a message, and says what answers it.
+    fn read(&mut self, message: &Message) -> Result<Message, NoMemory>
+        ensures { IfOk result (λ a. (a ≡ message_of (gate_read (gate_of self.old) no_decks (seen message.now)).1) × (gate_of self.new ≡ (gate_read (gate_of self.old) no_decks (seen message.now)).0)) }
+    {
+        match self.gate.read_upper(LINK, message, NO_DECKS) {
+            Ok(Heard::Say(answer)) => Ok(answer),
+            Ok(Heard::Stale) => unreachable!(),
+            Err(_) => Err(NoMemory),
+        }
+    }
+
+    /// The answer to a message, in the message's names and with its messageID.
+    fn answer(&mut self, envelope: Envelope) -> Result<Envelope, NoMemory>
+        ensures { IfOk result (λ a. (a ≡ answer_to (gate_of self.old) envelope) × (gate_of self.new ≡ device_after (gate_of self.old) envelope)) }
+    {
+        match self.read(&envelope.message) {
+            Ok(answer) => Ok(exchanged(envelope, answer)),
+            Err(_) => {
+                let_go(envelope);
+                Err(NoMemory)
+            }
+        }
+    }
+
+    /// The encoding of that answer.
+    fn answer_encoded(&mut self, alloc: Global, envelope: Envelope) -> Result<Vec<u8>, NoMemory>
+        ensures { IfOk result (λ bytes. (bytes.items ≡ encoding (answer_to (gate_of self.old) envelope)) × (gate_of self.new ≡ device_after (gate_of self.old) envelope)) }
+    {
+        let answer = self.answer(envelope)?;
+        encoded(alloc, answer)
+    }
+}
+
+impl Teller for Device {
+    ghost use Rattle.std.specs.Prelude.{[]};
+    ghost use Rattle.mos_machines.specs.Tables.{gate_of};
+    ghost use Rattle.device_answers.specs.Taking.{IsAnswered, refused_text};
+
+    ghost told = { λ d. IsAnswered (gate_of d) };
+
+    ghost last = { λ d messages units. [] };
+
+    ghost refusal = { λ d. refused_text };
+
+    fn tell(&mut self, alloc: Global, found: Found) -> Result<Vec<u8>, NoMemory> {
+        read_message();
+        let envelope = envelope_of(alloc, found.value)?;
+        self.answer_encoded(alloc, envelope)
+    }
+
+    fn tell_last(
+        &self,
+        alloc: Global,
+        _messages: usize,
+        _units: usize,
+    ) -> Result<Vec<u8>, NoMemory> {
+        Ok(Vec::new(alloc))
+    }
+
+    fn tell_refusal(&self, alloc: Global, place: usize, kind: Kind) -> Result<Vec<u8>, NoMemory> {
+        let line = refused_line(alloc, place, kind)?;
+        wide(alloc, line.as_str())
+    }
+}
