@@ -8,3 +8,4 @@ pub mod FormLemmas
 pub mod EditLemmas
 pub mod LoopLemmas
 pub mod ItemSteps
+pub mod LawLemmas

@@ -38,7 +38,7 @@ module _ {X : Type 0} (key : X → Text) where
   find_put [] s ps xs h = find_right s xs ps h
   find_put (c ∷ cs) s ps xs h = find_put_at (c ∷ cs) s ps xs h
 
-  without_append : (gone : List Text) (xs ys : List X) → without key gone (xs ++ ys) ≡ without key gone xs ++ without key gone ys
+  pub without_append : (gone : List Text) (xs ys : List X) → without key gone (xs ++ ys) ≡ without key gone xs ++ without key gone ys
   without_append gone [] ys = refl
   without_append gone (x ∷ xs) ys = go (has_id (key x) gone) (without_append gone xs ys)
     where
@@ -76,7 +76,7 @@ module _ {X : Type 0} (key : X → Text) where
       go true r h = absurd (cc)
       go false r h = ap (λ l. x ∷ l) (r h)
 
-  put_at_behind : (t : Text) (new ps xs : List X) → has_id t (ids key ps) ≡ false → put_at key t new (ps ++ xs) ≡ ps ++ put_at key t new xs
+  pub put_at_behind : (t : Text) (new ps xs : List X) → has_id t (ids key ps) ≡ false → put_at key t new (ps ++ xs) ≡ ps ++ put_at key t new xs
   put_at_behind t new [] xs h = refl
   put_at_behind t new (p ∷ ps) xs h = go (same_id t (key p)) (put_at_behind t new ps xs) h
     where
@@ -135,7 +135,7 @@ module _ {X : Type 0} (key : X → Text) where
       go false e true f r = rw f refl
       go false e false f r = rw f r
 
-  picked_without : (ss gone : List Text) (xs : List X) → AreDisjoint ss gone → picked key ss (without key gone xs) ≡ picked key ss xs
+  pub picked_without : (ss gone : List Text) (xs : List X) → AreDisjoint ss gone → picked key ss (without key gone xs) ≡ picked key ss xs
   picked_without [] gone xs d = refl
   picked_without (s ∷ ss) gone xs d =
       let here : has_id s gone ≡ false = d s (grind (arith, same-self s)) in

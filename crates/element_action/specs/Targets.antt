@@ -1,5 +1,5 @@
 -- Places of targets, and moves before a target.
-use Rattle.std.specs.Prelude.{ℕ, ◌-◌, List, [], ◌∷◌, Option, Some, None, nat_lt, if◌then◌else◌}
+use Rattle.std.specs.Prelude.{◌≡◌, ◌≢◌, ℕ, ◌-◌, List, [], ◌∷◌, Option, Some, None, nat_lt, if◌then◌else◌}
 use Rattle.mos_edits.specs.Texts.{Text}
 use Rattle.mos_edits.specs.KeyedLists.{find, with_found, without, put_before}
 use Rattle.running_order.specs.Places.{place_of}
@@ -8,6 +8,11 @@ use Rattle.running_order.specs.Places.{place_of}
 abbrev pub target_place_of : Text → List Text → Option ℕ
 target_place_of [] ids = None
 target_place_of (c ∷ cs) ids = place_of (c ∷ cs) ids
+
+-- the target that names the first of these, or the end where there is none
+abbrev pub StandsFirst : Text → List Text → Type 0
+StandsFirst target [] = target ≡ []
+StandsFirst target (x ∷ xs) = (target ≡ x) × (target ≢ [])
 
 -- where something is put in: before the target, or at the end
 abbrev pub place_in : ℕ → Option ℕ → ℕ

@@ -2,3 +2,4 @@ pub mod Lists
 pub mod Keys
 pub mod Ids
 pub mod Entries
+pub mod SizeLemmas

@@ -5,32 +5,44 @@ ghost use Rattle.indexmap.specs.IndexMap.{move_index};
 ghost use Rattle.mos_edits.specs.Orders.{patched};
 ghost use Rattle.mos_values.specs.Distinct.{AreDistinct, item_ids, story_ids};
 ghost use Rattle.mos_values.specs.Units.{capped, list_events, units_in};
+ghost use Rattle.mos_values.specs.Views.{header_events};
 ghost use Rattle.running_order.specs.Places.{place_of, put_in, put_over, items_at, edit_items, item_place_of};
 
 use crate::header::put_patch;
-use crate::sizes::order_units;
+use crate::sizes::{list_size, plus, size_after};
 use crate::story_table::{StoryTable, table_of};
 use mos_fields::{NoMemory, OptId};
-use mos_values::{Header, HeaderPatch, Items, OrderBody, Stories, Story};
+use mos_values::{
+    Header, HeaderPatch, Items, OrderBody, Stories, Story, header_units, items_units,
+};
 use std::alloc::Global;
 use std::marker::Model;
 
 /// A running order: a header, and stories with distinct storyIDs, each with items of distinct itemIDs.
 ///
 /// Contracts see it as its body: the header, and the list of the stories. Stories and items are found by their IDs
-/// in tables, so a look-up doesn't walk the order and takes no memory. Places count from 0.
+/// in tables, so a look-up doesn't walk the order and takes no memory. Places count from 0. The size is kept, and each
+/// edit changes it by what it touches.
 #[derive(Drop)]
 pub struct Order {
     header: Header,
     stories: StoryTable,
+    header_units: u64,
+    stories_units: u64,
 }
 
 impl Model for Order {
+    ghost use Rattle.std.specs.Prelude.{◌≡◌};
     ghost use Rattle.mos_values.specs.OrderValue.{OrderBody as Value_};
+    ghost use Rattle.mos_values.specs.Units.{capped, units_in};
+    ghost use Rattle.mos_values.specs.Views.{header_events};
+    ghost use Rattle.running_order.specs.Sizes.{stories_size};
 
     ghost Value = { Value_ };
 
     ghost view = { λ o. record { header = o.header; stories = o.stories } };
+
+    ghost invariant = { λ o. (o.header_units ≡ capped (units_in (header_events o.header))) × (o.stories_units ≡ capped (stories_size o.stories)) };
 }
 
 impl Order {
@@ -41,7 +53,14 @@ impl Order {
         b.has_distinct_stories();
         let stories = table_of(alloc, &b.stories)?;
         let header = b.header.try_clone()?;
-        Ok(Order { header, stories })
+        let header_units = header_units(&header);
+        let stories_units = stories.units();
+        Ok(Order {
+            header,
+            stories,
+            header_units,
+            stories_units,
+        })
     }
 
     /// The order as a body, in memory of its own. The only error is that memory runs out.
@@ -69,6 +88,7 @@ impl Order {
     {
         let patch = p.try_clone()?;
         put_patch(&mut self.header, patch);
+        self.header_units = header_units(&self.header);
         Ok(())
     }
 
@@ -115,7 +135,7 @@ impl Order {
     pub fn size_units(&self) -> u64
         ensures { result ≡ capped (units_in (list_events self.now)) }
     {
-        order_units(&self.header, &self.stories)
+        list_size(self.header_units, self.stories_units)
     }
 
     /// Puts copies of stories in before a place, which may be the end. Where memory runs out, the order stays as it was.
@@ -126,7 +146,9 @@ impl Order {
         ensures err { OnErr result (self.new ≡ self.old) }
     {
         let new = table_of(self.stories.allocator(), s)?;
+        let come = new.units();
         self.stories.insert_all(at, new)?;
+        self.stories_units = plus(self.stories_units, come);
         Ok(())
     }
 
@@ -138,7 +160,10 @@ impl Order {
         ensures err { OnErr result (self.new ≡ self.old) }
     {
         let new = table_of(self.stories.allocator(), s)?;
+        let come = new.units();
+        let gone = self.stories.story_units(at);
         self.stories.replace(at, new)?;
+        self.stories_units = size_after(self.stories_units, gone, come, &self.stories);
         Ok(())
     }
 
@@ -156,7 +181,9 @@ impl Order {
         requires { at < length self.old.stories }
         ensures { self.new ≡ record self.old { stories = remove self.old.stories at } }
     {
+        let gone = self.stories.story_units(at);
         self.stories.remove(at);
+        self.stories_units = size_after(self.stories_units, gone, 0, &self.stories);
     }
 
     /// Exchanges two stories. Takes no memory.
@@ -178,6 +205,7 @@ impl Order {
         ensures err { OnErr result (self.new ≡ self.old) }
     {
         self.stories.insert_items(story, at, i)?;
+        self.stories_units = plus(self.stories_units, items_units(i.as_slice()));
         Ok(())
     }
 
@@ -190,7 +218,10 @@ impl Order {
         ensures ok { OnOk result (self.new ≡ record self.old { stories = edit_items self.old.stories story (λ old. put_over old at i.now) }) }
         ensures err { OnErr result (self.new ≡ self.old) }
     {
+        let gone = self.stories.item_units(story, at);
+        let come = items_units(i.as_slice());
         self.stories.replace_item(story, at, i)?;
+        self.stories_units = size_after(self.stories_units, gone, come, &self.stories);
         Ok(())
     }
 
@@ -211,7 +242,9 @@ impl Order {
         requires within { at < length (items_at self.old.stories story) }
         ensures { self.new ≡ record self.old { stories = edit_items self.old.stories story (λ old. remove old at) } }
     {
+        let gone = self.stories.item_units(story, at);
         self.stories.remove_item(story, at);
+        self.stories_units = size_after(self.stories_units, gone, 0, &self.stories);
     }
 
     /// Exchanges two items of the story at the place `story`. Takes no memory.

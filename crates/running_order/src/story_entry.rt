@@ -2,12 +2,14 @@
 ghost use Rattle.std.specs.Prelude.{◌≡◌, ◌<◌, ◌≤◌, ◌+◌, ◌++◌, [], length, remove, swap, vec_len, IfOk, OnOk, OnErr, IfSome};
 ghost use Rattle.indexmap.specs.IndexMap.{move_index};
 ghost use Rattle.mos_values.specs.Distinct.{AreDistinct, item_ids};
+ghost use Rattle.mos_values.specs.Units.{capped};
 ghost use Rattle.running_order.specs.Places.{place_of, put_in, put_over};
+ghost use Rattle.running_order.specs.Sizes.{item_size, size_at};
 
 use crate::id_table::IdTable;
 use crate::splice::put_in_room;
 use mos_fields::{NoMemory, OptId, Text};
-use mos_values::{Item, Items, Story};
+use mos_values::{Item, Items, Story, item_units};
 use std::alloc::Global;
 use std::marker::Model;
 use std::mem::replace;
@@ -54,6 +56,14 @@ impl StoryEntry {
         ensures within { IfSome result (λ i. i < length self.now.items) }
     {
         self.places.place(item)
+    }
+
+    /// The code units of the element of the item at a place, 2^64 - 1 where that is smaller.
+    pub fn item_units(&self, at: usize) -> u64
+        requires { at < length self.now.items }
+        ensures { result ≡ capped (size_at item_size self.now.items at) }
+    {
+        item_units(&self.story.items.as_slice()[at])
     }
 
     /// No two items have the same itemID.

@@ -6,6 +6,7 @@ ghost use Rattle.mos_values.specs.Distinct.{AreDistinct, item_ids, story_ids};
 ghost use Rattle.mos_values.specs.Units.{capped, units_in};
 ghost use Rattle.mos_values.specs.Views.{stories_events};
 ghost use Rattle.running_order.specs.Places.{place_of, put_in, put_over, items_at, edit_items};
+ghost use Rattle.running_order.specs.Sizes.{item_size, size_at, story_size};
 
 use crate::sizes::plus;
 use crate::story_entry::StoryEntry;
@@ -87,6 +88,23 @@ impl StoryTable {
             count = plus(count, story_units(self.table[i].story()));
         }
         count
+    }
+
+    /// The code units of the element of the story at a place, 2^64 - 1 where that is smaller.
+    pub fn story_units(&self, at: usize) -> u64
+        requires { at < length self.now }
+        ensures { result ≡ capped (size_at story_size self.now at) }
+    {
+        story_units(self.table[at].story())
+    }
+
+    /// The code units of the element of an item of a story, 2^64 - 1 where that is smaller.
+    pub fn item_units(&self, story: usize, at: usize) -> u64
+        requires story { story < length self.now }
+        requires within { at < length (items_at self.now story) }
+        ensures { result ≡ capped (size_at item_size (items_at self.now story) at) }
+    {
+        self.table[story].item_units(at)
     }
 
     /// Copies of the stories, in order. The only error is that memory runs out.
