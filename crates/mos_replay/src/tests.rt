@@ -196,7 +196,7 @@ fn ready_is_taken_in_step_alone(rt: HostRuntime) -> Result<(), Fail> {
 <extra/>";
     let answers =
         "R1 NOT IN STEP\nR1 OK\nR1 NOT IN STEP\nR1 OK\nR1 OK\nR1 OK\nR1 OK\nR1 MISSING R1\nR1 NOT SUPPORTED\n";
-    let nameless = "<roAck><roID/><roStatus>NOT SUPPORTED</roStatus></roAck>\n";
+    let nameless = "<roAck><roID></roID><roStatus>NOT SUPPORTED</roStatus></roAck>\n";
     let mut wanted = acks(&rt, answers)?;
     wanted.push_str(nameless)?;
     wanted.push_str(nameless)?;
