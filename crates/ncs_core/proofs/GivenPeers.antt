@@ -28,9 +28,9 @@ none-reserved whole r peers = record { room = λ e h. absurd (omega (arith, h));
 -- a device's table written anew, with the same state
 pub same-set : (first peers : List PeerTables) (d : ℕ) (x y : PeerTables) → d < length peers → x ≡ get_or peers d x → peer_of y ≡ peer_of x → ((e : ℕ) → states peers e ≡ states first e) → (e : ℕ) → states (set peers d y) e ≡ states first e
 same-set first peers d x y h x_is p s e = elim (cases_eq e d) [
-    | inl i ↦ ap (λ (k : ℕ). states (set peers d y) k) i ∙ (ap peer_of (get_or-set_same peers d y no_peer_tables h) ∙ (p ∙ (ap peer_of (table-is peers d x h x_is) ∙ (s d ∙ ap (states first) (sym i)))))
-    | inr i ↦ ap peer_of (get_or-set_other peers d e y no_peer_tables i) ∙ s e
-  ]
+  | inl i ↦ ap (λ (k : ℕ). states (set peers d y) k) i ∙ (ap peer_of (get_or-set_same peers d y no_peer_tables h) ∙ (p ∙ (ap peer_of (table-is peers d x h x_is) ∙ (s d ∙ ap (states first) (sym i)))))
+  | inr i ↦ ap peer_of (get_or-set_other peers d e y no_peer_tables i) ∙ s e
+]
 
 pub one-reserved : (whole : Bool) (r : Text) (first peers : List PeerTables) (d : ℕ) (x y : PeerTables) → d < length peers → x ≡ get_or peers d x → peer_of y ≡ peer_of x → IsRoomFor whole r y → IsReserved whole r first peers d → IsReserved whole r first (set peers d y) (d + 1)
 one-reserved whole r first peers d x y h x_is p q i = record { room = room; same = same-set first peers d x y h x_is p i.same }
@@ -90,8 +90,8 @@ all-given r whole k first peers n h i = λ j. λ e. at e j
     at e = elim (cases_lt e n) [
       | inl l ↦ i.given e l
       | inr l ↦
-        let none : get_or first e no_peer_tables ≡ no_peer_tables = beyond first e (omega (arith, h, l)) in
-        ap peer_of (i.left e l) ∙ (ap peer_of none ∙ (sym (not-given r whole k) ∙ ap (λ (t : PeerTables). given_by r whole k (peer_of t)) (sym none)))
+          let none : get_or first e no_peer_tables ≡ no_peer_tables = beyond first e (omega (arith, h, l)) in
+          ap peer_of (i.left e l) ∙ (ap peer_of none ∙ (sym (not-given r whole k) ∙ ap (λ (t : PeerTables). given_by r whole k (peer_of t)) (sym none)))
     ]
 
 -- ---- devices without connections

@@ -16,6 +16,7 @@ use std::alloc::Global;
 
 // The limits, in code units: of the list of one order, and of that of all.
 const LIST_LIMIT: u64 = 8_000_000;
+
 const LIST_ALL_LIMIT: u64 = 8_100_000;
 
 // A number of samples fits into 32 bits. Each call whose name has `small_numbers` promises that of a

@@ -186,9 +186,15 @@ fn commands_change_orders_and_name_what_is_missing(rt: HostRuntime) -> Result<()
     assert_eq!(rt; word(&server.command(&insert(alloc, 'R', 'B')?)), "OK");
     assert_eq!(rt; word(&server.command(&insert(alloc, 'R', 'C')?)), "OK");
     assert_eq!(rt; word(&server.command(&swap(alloc, 'R', 'A', 'B')?)), "OK");
-    assert_eq!(rt; stories_of_r(alloc, &server)?.as_slice(), ['B', 'A', 'C'].as_slice());
+    assert_eq!(rt;
+        stories_of_r(alloc, &server)?.as_slice(),
+        ['B', 'A', 'C'].as_slice()
+    );
     assert_eq!(rt; word(&server.command(&move_last(alloc, 'R', 'B')?)), "OK");
-    assert_eq!(rt; stories_of_r(alloc, &server)?.as_slice(), ['A', 'C', 'B'].as_slice());
+    assert_eq!(rt;
+        stories_of_r(alloc, &server)?.as_slice(),
+        ['A', 'C', 'B'].as_slice()
+    );
     assert_eq!(rt; server.entries(&id(alloc, 'R')?), 5);
     Ok(())
 }
@@ -221,9 +227,18 @@ fn failed_server(alloc: Global, rt: &impl Abort) -> Result<Ncs<MemKeeper>, Fail>
     assert_eq!(rt; word(&server.command(&create_with(alloc, 'R', 'A')?)), "OK");
     assert_eq!(rt; word(&server.command(&insert(alloc, 'R', 'B')?)), "OK");
     server.fail_next_append();
-    assert_eq!(rt; word(&server.command(&insert(alloc, 'R', 'C')?)), "STORE FAULT");
-    assert_eq!(rt; word(&server.command(&swap(alloc, 'R', 'A', 'B')?)), "STOPPED");
-    assert_eq!(rt; stories_of_r(alloc, &server)?.as_slice(), ['A', 'B'].as_slice());
+    assert_eq!(rt;
+        word(&server.command(&insert(alloc, 'R', 'C')?)),
+        "STORE FAULT"
+    );
+    assert_eq!(rt;
+        word(&server.command(&swap(alloc, 'R', 'A', 'B')?)),
+        "STOPPED"
+    );
+    assert_eq!(rt;
+        stories_of_r(alloc, &server)?.as_slice(),
+        ['A', 'B'].as_slice()
+    );
     Ok(server)
 }
 
@@ -234,7 +249,10 @@ fn a_failed_append_may_stand_after_a_restart(rt: HostRuntime) -> Result<(), Fail
     server.settle(true)?;
     let mut server = restarted(server).expect(&rt, "a start");
     assert_eq!(rt; word(&server.command(&swap(alloc, 'R', 'A', 'B')?)), "OK");
-    assert_eq!(rt; stories_of_r(alloc, &server)?.as_slice(), ['B', 'A', 'C'].as_slice());
+    assert_eq!(rt;
+        stories_of_r(alloc, &server)?.as_slice(),
+        ['B', 'A', 'C'].as_slice()
+    );
     Ok(())
 }
 
@@ -245,7 +263,10 @@ fn a_failed_append_may_be_lost_in_a_restart(rt: HostRuntime) -> Result<(), Fail>
     server.settle(false)?;
     let mut server = restarted(server).expect(&rt, "a start");
     assert_eq!(rt; word(&server.command(&swap(alloc, 'R', 'A', 'B')?)), "OK");
-    assert_eq!(rt; stories_of_r(alloc, &server)?.as_slice(), ['B', 'A'].as_slice());
+    assert_eq!(rt;
+        stories_of_r(alloc, &server)?.as_slice(),
+        ['B', 'A'].as_slice()
+    );
     Ok(())
 }
 
@@ -264,6 +285,9 @@ fn a_start_refuses_an_entry_that_isnt_accepted(rt: HostRuntime) -> Result<(), Fa
     let mut journal = Journal::new(alloc);
     journal.keep(&mut keeper, &create(alloc, 'R', None)?)?;
     journal.keep(&mut keeper, &ready(alloc, 'S')?)?;
-    assert_eq!(rt; start_cause(alloc, keeper), Some(StartCause::BadEntry { number: 1 }));
+    assert_eq!(rt;
+        start_cause(alloc, keeper),
+        Some(StartCause::BadEntry { number: 1 })
+    );
     Ok(())
 }

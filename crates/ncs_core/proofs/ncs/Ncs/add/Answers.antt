@@ -26,9 +26,11 @@ undo-requires g c =
 
 pub invariant_of-self-in-Err-add : goal.invariant_of-self-in-Err-add
 invariant_of-self-in-Err-add g c =
-    let is : entry_of c.edit.result.now ≡ c.args.entry.now = entry-is c.args.entry.now c.edit.result.now c.has_ro_of_edit.ensures c.edit.ensures in
-    (orders-undone c.self.inside.journal c.add.new.self (entry_of c.edit.result.now) c.self.inside.orders c.accept_edit.new.orders c.undo.new.orders c.ro.result.now c.in-Ok.order c.self.invariant.0 c.in-Ok.ensures.rows (c.ro.ensures ∙ ap (λ (x : Entry). x.ro) (sym is)) c.in-Ok.ensures.order
-    c.undo.ensures c.in-Err-add.ensures.err, c.self.invariant.1)
+    let is : entry_of c.edit.result.now ≡ c.args.entry.now = entry-is c.args.entry.now c.edit.result.now c.has_ro_of_edit.ensures c.edit.ensures in (
+      orders-undone c.self.inside.journal c.add.new.self (entry_of c.edit.result.now) c.self.inside.orders c.accept_edit.new.orders c.undo.new.orders c.ro.result.now c.in-Ok.order c.self.invariant.0 c.in-Ok.ensures.rows (c.ro.ensures ∙ ap (λ (x : Entry). x.ro) (sym is)) c.in-Ok.ensures.order
+          c.undo.ensures c.in-Err-add.ensures.err,
+      c.self.invariant.1,
+    )
 
 pub returns-in-Ok-add-clause-accepted : goal.returns-in-Ok-add-clause-accepted
 returns-in-Ok-add-clause-accepted g c =

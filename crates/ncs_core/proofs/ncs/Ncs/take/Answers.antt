@@ -26,9 +26,11 @@ pub invariant_of-self-in-Err-keep_and_give : goal.invariant_of-self-in-Err-keep_
 invariant_of-self-in-Err-keep_and_give g c =
     let whole : (with_items c.self.inside.peers c.keep_and_give.new.peers).items ≡ c.keep_and_give.new.peers = with_items_is c.self.inside.peers c.keep_and_give.new.peers (c.keep_and_give.auto.peers ∙ c.deref_mut.ensures.len) in
     let count : length (with_items c.self.inside.peers c.keep_and_give.new.peers).items ≡ length c.self.inside.peers.items = ap length whole ∙ (c.keep_and_give.auto.peers ∙ ap length c.deref_mut.ensures.value) in
-    let few : length (with_items c.self.inside.peers c.keep_and_give.new.peers).items ≤ 64 = subst (λ (n : ℕ). n ≤ 64) (sym count) c.self.invariant.1 in
-    (orders-undone c.self.inside.journal c.keep_and_give.new.journal (entry_of c.args.edit.now) c.self.inside.orders c.accept_edit.new.orders c.undo.new.orders c.edit_ro.result.now c.in-Ok.order c.self.invariant.0 c.in-Ok.ensures.rows c.edit_ro.ensures c.in-Ok.ensures.order
-    c.undo.ensures c.in-Err-keep_and_give.ensures.journal_err, few)
+    let few : length (with_items c.self.inside.peers c.keep_and_give.new.peers).items ≤ 64 = subst (λ (n : ℕ). n ≤ 64) (sym count) c.self.invariant.1 in (
+      orders-undone c.self.inside.journal c.keep_and_give.new.journal (entry_of c.args.edit.now) c.self.inside.orders c.accept_edit.new.orders c.undo.new.orders c.edit_ro.result.now c.in-Ok.order c.self.invariant.0 c.in-Ok.ensures.rows c.edit_ro.ensures c.in-Ok.ensures.order
+          c.undo.ensures c.in-Err-keep_and_give.ensures.journal_err,
+      few,
+    )
 
 pub returns-in-Err-clause-step : goal.returns-in-Err-clause-step
 returns-in-Err-clause-step g c =
