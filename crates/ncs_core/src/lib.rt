@@ -15,8 +15,6 @@ mod ncs;
 mod orders;
 mod reading;
 mod starting;
-#[cfg(test)]
-mod tests;
 
 pub use fault::{CommandFault, StartCause, StartFault};
 pub use ncs::Ncs;
