@@ -47,7 +47,7 @@ on-ok (Ok x) a f = f a
 on-ok (Err y) a f = a
 
 -- the device at a place, whatever stands for one that isn't there
-any-default : {X : Type 0} (xs : List X) (d : ℕ) (a b : X) → d < length xs → get_or xs d a ≡ get_or xs d b
+pub any-default : {X : Type 0} (xs : List X) (d : ℕ) (a b : X) → d < length xs → get_or xs d a ≡ get_or xs d b
 any-default [] d a b h = absurd (omega (arith, h))
 any-default (x ∷ xs) zero a b h = refl
 any-default (x ∷ xs) (suc d) a b h = any-default xs d a b (omega (arith, h))

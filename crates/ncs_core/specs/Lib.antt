@@ -1,2 +1,5 @@
 pub mod State
 pub mod Answers
+pub mod Accepting
+pub mod Commands
+pub mod Starting

@@ -1,5 +1,5 @@
 //! The server's machine.
-ghost use Rattle.std.specs.Prelude.{◌≡◌, ◌<◌};
+ghost use Rattle.std.specs.Prelude.{◌≡◌, ◌<◌, ◌≤◌};
 ghost use Rattle.std.specs.Option.{option_copied};
 ghost use Rattle.mos_edits.specs.Entries.{entry_count, order_now};
 ghost use Rattle.server_peer.specs.Parts.{upper_of, view_of};
@@ -30,9 +30,9 @@ impl<K: Keeper> Model for Ncs<K> {
     ghost use Rattle.std.specs.Prelude.{◌≤◌, length};
     ghost use Rattle.ncs_core.specs.State.{NcsTables, AreOrders};
 
-    ghost Value = { NcsTables };
+    ghost Value = { NcsTables K };
 
-    ghost view = { λ n. record { server = record { journal = n.journal; stopped = n.stopped; faults = K.faults n.keeper; peers = n.peers.items }; kept = K.kept n.keeper } };
+    ghost view = { λ n. record { server = record { journal = n.journal; stopped = n.stopped; faults = K.faults n.keeper; peers = n.peers.items }; keeper = n.keeper; kept = K.kept n.keeper } };
 
     ghost invariant = { λ n. AreOrders n.journal n.orders × (length n.peers.items ≤ 64) };
 }
@@ -43,9 +43,19 @@ impl<K: Keeper> Ncs<K> {
         self.journal.allocator()
     }
 
+    /// The keeper. It takes no memory.
+    pub fn keeper(&self) -> &K
+        ensures keeper { result.now ≡ self.now.keeper }
+        ensures kept { K.kept result.now ≡ self.now.kept }
+        ensures faults { K.faults result.now ≡ self.now.server.faults }
+    {
+        &self.keeper
+    }
+
     /// How many devices there are, 1 to 64. It takes no memory.
     pub fn devices(&self) -> u32
-        ensures { result ≡ devices_of self.now }
+        ensures number { result ≡ devices_of self.now }
+        ensures most { result ≤ 64 }
     {
         self.peers.len() as u32
     }

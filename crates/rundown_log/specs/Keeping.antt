@@ -14,7 +14,7 @@ Keeps (Some kept) after e = after ≡ Some (kept ++ e ∷ [])
 abbrev pub Appends : Option (List Entry) → Option (List Entry) → ℕ → ℕ → Entry → Result (Unit {0}) KeepFault → Type 0
 Appends before after faults_before faults_after e (Ok done) = Keeps before after e
 Appends before after faults_before faults_after e (Err Failed) = ((after ≡ before) ⊎ Keeps before after e) × Rose faults_before faults_after
-Appends before after faults_before faults_after e (Err NoMemory) = after ≡ before
+Appends before after faults_before faults_after e (Err NoMemory) = (after ≡ before) × (faults_after ≡ faults_before)
 
 -- these are the entries that are kept
 abbrev pub AreKept : Option (List Entry) → List Entry → Type 0

@@ -88,6 +88,19 @@ fn append_in<K: Keeper>(
     }
 }
 
+// Puts a copy of an entry and its place at the ends. Without memory both lists stay as they were.
+fn add_in(entries: &mut Vec<Entry>, places: &mut Vec<usize>, entry: &Entry) -> Result<(), NoMemory>
+    ensures entries { OnOk result (entries.new.items ≡ entries.old.items ++ entry.now ∷ []) }
+    ensures places { OnOk result (places.new.items ≡ places.old.items ++ length entries.old.items ∷ []) }
+    ensures entries_err { OnErr result (entries.new.items ≡ entries.old.items) }
+    ensures places_err { OnErr result (places.new.items ≡ places.old.items) }
+{
+    reserve(entries, places)?;
+    let copy = entry.try_clone()?;
+    push(entries, places, copy);
+    Ok(())
+}
+
 // The entry of an edit, in memory of its own.
 fn entry_of_edit(edit: &Edit) -> Result<Entry, NoMemory>
     ensures { IfOk result (λ e. e ≡ entry_of edit.now) }
@@ -169,9 +182,25 @@ impl Journal {
         find_in(&self.places, ro, k)
     }
 
+    /// Puts a copy of an entry at the end that stands with a keeper already. The only error is that memory runs out; the
+    /// journal is then as it was.
+    pub fn add(&mut self, entry: &Entry) -> Result<(), NoMemory>
+        ensures ok { OnOk result (self.new ≡ self.old ++ entry.now ∷ []) }
+        ensures err { OnErr result (self.new ≡ self.old) }
+    {
+        let ro = entry.ro().try_clone()?;
+        know(&mut self.places, &ro)?;
+        let mut places = Places::new(self.places.allocator());
+        self.places.exchange(&ro, &mut places);
+        let added = add_in(&mut self.entries, &mut places.items, entry);
+        self.places.exchange(&ro, &mut places);
+        added
+    }
+
     /// Puts the entry of an edit at the end, once the keeper has it.
     ///
-    /// `Failed` comes only where the keeper failed. After each error the journal is as it was.
+    /// `Failed` comes only where the keeper failed; with `NoMemory` it neither keeps nor counts anything. After each error
+    /// the journal is as it was.
     pub fn keep<K: Keeper>(&mut self, keeper: &mut K, edit: &Edit) -> Result<(), KeepFault>
         requires { IsSound (edit_message edit.now) }
         ensures appends { Appends (K.kept keeper.old) (K.kept keeper.new) (K.faults keeper.old) (K.faults keeper.new) (entry_of edit.now) result }

@@ -17,7 +17,7 @@ pub type Entries = Sequence<Entry>;
 pub enum KeepFault {
     /// The keeper failed, and counted that. The entry may stand there.
     Failed,
-    /// Out of memory. Nothing was kept.
+    /// Out of memory. Nothing was kept or counted.
     NoMemory,
 }
 
@@ -41,7 +41,7 @@ pub trait Keeper {
 
     ghost faults: { Self → ℕ };
 
-    /// Keeps one more entry, at the end. After `Failed` it stands there or doesn't; `NoMemory` keeps nothing.
+    /// Keeps one more entry, at the end. After `Failed` it stands there or doesn't; `NoMemory` keeps and counts nothing.
     fn append(&mut self, e: &Entry) -> Result<(), KeepFault>
         requires { IsSound (edit_message e.now.edit) }
         ensures appends { Appends (kept self.old) (kept self.new) (faults self.old) (faults self.new) e.now result }

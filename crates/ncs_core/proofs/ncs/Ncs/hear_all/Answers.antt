@@ -14,14 +14,14 @@ use Rattle.ncs_core.proofs.ncs.Ncs.hear_all.Goals as goal
 pub returns-clause-answer : goal.returns-clause-answer
 returns-clause-answer g c =
     ap (λ (hs : List HeaderPatch). heard.Say (carried.RoListAll hs))
-    (c.in_ok-headers.ensures ∙ (ap row_headers c.rows.ensures ∙ (rows-headers c.self.inside.journal c.self.inside.orders c.self.invariant.0 c.has_ascending_ids.ensures ∙ ap (λ (n : NcsTables). headers n.server.journal) c.self.view_is)))
+    (c.in_ok-headers.ensures ∙ (ap row_headers c.rows.ensures ∙ (rows-headers c.self.inside.journal c.self.inside.orders c.self.invariant.0 c.has_ascending_ids.ensures ∙ ap (λ (n : NcsTables _). headers n.server.journal) c.self.view_is)))
 
 pub returns-clause-step : goal.returns-clause-step
 returns-clause-step g c =
-    let t : NcsTables = c.args.self.now in
+    let t : NcsTables _ = c.args.self.now in
     let d = c.args.d in
-    let same : c.self.inside.peers.items ≡ t.server.peers = ap (λ (n : NcsTables). n.server.peers) c.self.view_is in
-    let journal : c.self.inside.journal ≡ t.server.journal = ap (λ (n : NcsTables). n.server.journal) c.self.view_is in
+    let same : c.self.inside.peers.items ≡ t.server.peers = ap (λ (n : NcsTables _). n.server.peers) c.self.view_is in
+    let journal : c.self.inside.journal ≡ t.server.journal = ap (λ (n : NcsTables _). n.server.journal) c.self.view_is in
     let here = peer-here c.self.inside.peers.items t.server.peers d c.index_mut.result.now same c.requires c.index_mut.ensures.value in
-    ap (λ (n : NcsTables). server_state (record n.server { peers = set n.server.peers d c.settle.new.self })) c.self.view_is
+    ap (λ (n : NcsTables _). server_state (record n.server { peers = set n.server.peers d c.settle.new.self })) c.self.view_is
     ∙ (set-peer t.server d c.settle.new.self c.requires ∙ ap (with_peer (ncs_of t) d) (c.settle.ensures.step ∙ (λ i. peer_settled (journal i) false (here i))))

@@ -10,12 +10,12 @@ use Rattle.ncs_core.proofs.ncs.Ncs.hear_current.Goals as goal
 
 pub returns-in-Heartbeat-clause-step : goal.returns-in-Heartbeat-clause-step
 returns-in-Heartbeat-clause-step g c =
-    let t : NcsTables = c.args.self.now in
+    let t : NcsTables _ = c.args.self.now in
     let d = c.args.d in
-    let same : c.self.inside.peers.items ≡ t.server.peers = ap (λ (n : NcsTables). n.server.peers) c.self.view_is in
-    let journal : c.self.inside.journal ≡ t.server.journal = ap (λ (n : NcsTables). n.server.journal) c.self.view_is in
+    let same : c.self.inside.peers.items ≡ t.server.peers = ap (λ (n : NcsTables _). n.server.peers) c.self.view_is in
+    let journal : c.self.inside.journal ≡ t.server.journal = ap (λ (n : NcsTables _). n.server.journal) c.self.view_is in
     let here = peer-here c.self.inside.peers.items t.server.peers d c.index_mut.result.now same c.requires c.index_mut.ensures.value in
-    ap (λ (n : NcsTables). server_state (record n.server { peers = set n.server.peers d c.settle.new.self })) c.self.view_is
+    ap (λ (n : NcsTables _). server_state (record n.server { peers = set n.server.peers d c.settle.new.self })) c.self.view_is
     ∙ (set-peer t.server d c.settle.new.self c.requires
     ∙ (ap (with_peer (ncs_of t) d) (c.settle.ensures.step ∙ (λ i. peer_settled (journal i) true (here i)))
     ∙ ap (λ (m : values.Message). with_peer (ncs_of t) d (peer_hear t.server.journal ((ncs_of t).peers d) (seen m)).0) (sym c.in-Heartbeat.is)))

@@ -9,16 +9,16 @@ use Rattle.ncs_core.proofs.ncs.Ncs.set_listed.Goals as goal
 
 pub listed-requires : goal.listed-requires
 listed-requires g c =
-    let t : NcsTables = c.args.self.now in
-    let same : c.self.inside.peers.items ≡ t.server.peers = ap (λ (n : NcsTables). n.server.peers) c.self.view_is in
+    let t : NcsTables _ = c.args.self.now in
+    let same : c.self.inside.peers.items ≡ t.server.peers = ap (λ (n : NcsTables _). n.server.peers) c.self.view_is in
     subst (λ (p : PeerTables). IsSome (find_row c.args.ro.now p.views)) (sym (table-here c.self.inside.peers.items t.server.peers c.args.d c.index_mut.result.now same c.requires.within c.index_mut.ensures.value)) c.requires.there
 
 pub returns-clause-step : goal.returns-clause-step
 returns-clause-step g c =
-    let t : NcsTables = c.args.self.now in
+    let t : NcsTables _ = c.args.self.now in
     let d = c.args.d in
-    let same : c.self.inside.peers.items ≡ t.server.peers = ap (λ (n : NcsTables). n.server.peers) c.self.view_is in
-    let journal : c.self.inside.journal ≡ t.server.journal = ap (λ (n : NcsTables). n.server.journal) c.self.view_is in
+    let same : c.self.inside.peers.items ≡ t.server.peers = ap (λ (n : NcsTables _). n.server.peers) c.self.view_is in
+    let journal : c.self.inside.journal ≡ t.server.journal = ap (λ (n : NcsTables _). n.server.journal) c.self.view_is in
     let here = peer-here c.self.inside.peers.items t.server.peers d c.index_mut.result.now same c.requires.within c.index_mut.ensures.value in
-    ap (λ (n : NcsTables). server_state (record n.server { peers = set n.server.peers d c.listed.new.self })) c.self.view_is
+    ap (λ (n : NcsTables _). server_state (record n.server { peers = set n.server.peers d c.listed.new.self })) c.self.view_is
     ∙ (set-peer t.server d c.listed.new.self c.requires.within ∙ ap (with_peer (ncs_of t) d) (c.listed.ensures ∙ (λ i. peer_listed (journal i) c.args.ro.now (here i))))

@@ -1,0 +1,11 @@
+use Rattle.std.proofs.Common.{◌≡◌, ◌≤◌, ◌-◌, [], length, take}
+use Rattle.mos_edits.specs.Entries.{IsAccepted}
+use Rattle.ncs_core.specs.State.{with_journal}
+use Rattle.ncs_core.proofs.ncs.Ncs.add_all.Given as goal
+
+abbrev pub invariant-entries : goal.invariant-entries
+invariant-entries g l =
+    (l.self ≡ with_journal l.initial.self (take l.number l.entries)) × IsAccepted [] (take l.number l.entries) × (l.number ≤ length l.entries)
+
+abbrev pub decreases-entries : goal.decreases-entries
+decreases-entries g l = length l.entries - l.number

@@ -1,0 +1,104 @@
+use Rattle.std.proofs.Common.{◌≡◌, ◌≤◌, ℕ, length, Option, refl, sym, ap, ◌∙◌, subst}
+use Rattle.std.proofs.lemmas.List.{with_items_is}
+use Rattle.std.specs.Vec.{with_items}
+use Rattle.mos_edits.specs.Entries.{Refusal, entry_of, entry_count, acceptance}
+use Rattle.mos_machines.specs.Server.{peer_given}
+use Rattle.ncs_core.specs.Accepting.{IsRefusal}
+use Rattle.ncs_core.specs.State.{NcsTables, states}
+use Rattle.ncs_core.proofs.AcceptedRows.{orders-same, acceptance-here, orders-added, edited-there, orders-undone}
+use Rattle.ncs_core.proofs.CommandSteps.{refused-tables, taken-tables, unkept-tables}
+use Rattle.ncs_core.proofs.ncs.Ncs.take.Goals as goal
+
+pub invariant_of-self : goal.invariant_of-self
+invariant_of-self g c = (orders-same c.self.inside.journal c.self.inside.orders c.accept_edit.new.orders c.self.invariant.0 c.in-Err.ensures.err, c.self.invariant.1)
+
+pub invariant_of-self-in-Ok-keep_and_give : goal.invariant_of-self-in-Ok-keep_and_give
+invariant_of-self-in-Ok-keep_and_give g c =
+    let whole : (with_items c.self.inside.peers c.keep_and_give.new.peers).items ≡ c.keep_and_give.new.peers = with_items_is c.self.inside.peers c.keep_and_give.new.peers (c.keep_and_give.auto.peers ∙ c.deref_mut.ensures.len) in
+    let count : length (with_items c.self.inside.peers c.keep_and_give.new.peers).items ≡ length c.self.inside.peers.items = ap length whole ∙ (c.keep_and_give.auto.peers ∙ ap length c.deref_mut.ensures.value) in
+    let few : length (with_items c.self.inside.peers c.keep_and_give.new.peers).items ≤ 64 = subst (λ (n : ℕ). n ≤ 64) (sym count) c.self.invariant.1 in
+    (orders-added c.self.inside.journal c.keep_and_give.new.journal (entry_of c.args.edit.now) (entry_of c.args.edit.now) c.self.inside.orders c.accept_edit.new.orders c.self.invariant.0 refl c.in-Ok.ensures.rows c.in-Ok-keep_and_give.ensures.journal, few)
+
+pub undo-requires : goal.undo-requires
+undo-requires g c = edited-there c.self.inside.orders c.accept_edit.new.orders (entry_of c.args.edit.now) c.edit_ro.result.now c.in-Ok.ensures.rows c.edit_ro.ensures
+
+pub invariant_of-self-in-Err-keep_and_give : goal.invariant_of-self-in-Err-keep_and_give
+invariant_of-self-in-Err-keep_and_give g c =
+    let whole : (with_items c.self.inside.peers c.keep_and_give.new.peers).items ≡ c.keep_and_give.new.peers = with_items_is c.self.inside.peers c.keep_and_give.new.peers (c.keep_and_give.auto.peers ∙ c.deref_mut.ensures.len) in
+    let count : length (with_items c.self.inside.peers c.keep_and_give.new.peers).items ≡ length c.self.inside.peers.items = ap length whole ∙ (c.keep_and_give.auto.peers ∙ ap length c.deref_mut.ensures.value) in
+    let few : length (with_items c.self.inside.peers c.keep_and_give.new.peers).items ≤ 64 = subst (λ (n : ℕ). n ≤ 64) (sym count) c.self.invariant.1 in (
+      orders-undone c.self.inside.journal c.keep_and_give.new.journal (entry_of c.args.edit.now) c.self.inside.orders c.accept_edit.new.orders c.undo.new.orders c.edit_ro.result.now c.in-Ok.order c.self.invariant.0 c.in-Ok.ensures.rows c.edit_ro.ensures c.in-Ok.ensures.order
+          c.undo.ensures c.in-Err-keep_and_give.ensures.journal_err,
+      few,
+    )
+
+pub returns-in-Err-clause-step : goal.returns-in-Err-clause-step
+returns-in-Err-clause-step g c =
+    let e = entry_of c.args.edit.now in
+    let journal : c.self.inside.journal ≡ c.args.self.now.server.journal = ap (λ (n : NcsTables _). n.server.journal) c.self.view_is in
+    let same = acceptance-here c.self.inside.journal c.args.self.now.server.journal e e c.self.inside.orders c.self.invariant.0 c.has_ascending_ids.ensures refl journal in
+    let refused : IsRefusal (acceptance c.args.self.now.server.journal e) c.in-Err.fault = subst (λ (why : Option Refusal). IsRefusal why c.in-Err.fault) same c.in-Err.ensures.fault in
+    (refused-tables c.args.self.now _ e c.in-Err.fault c.self.view_is c.requires.running refused).step
+
+pub returns-in-Err-clause-cause : goal.returns-in-Err-clause-cause
+returns-in-Err-clause-cause g c =
+    let e = entry_of c.args.edit.now in
+    let journal : c.self.inside.journal ≡ c.args.self.now.server.journal = ap (λ (n : NcsTables _). n.server.journal) c.self.view_is in
+    let same = acceptance-here c.self.inside.journal c.args.self.now.server.journal e e c.self.inside.orders c.self.invariant.0 c.has_ascending_ids.ensures refl journal in
+    let refused : IsRefusal (acceptance c.args.self.now.server.journal e) c.in-Err.fault = subst (λ (why : Option Refusal). IsRefusal why c.in-Err.fault) same c.in-Err.ensures.fault in
+    (refused-tables c.args.self.now _ e c.in-Err.fault c.self.view_is c.requires.running refused).cause
+
+pub returns-in-Ok-keep_and_give-clause-step : goal.returns-in-Ok-keep_and_give-clause-step
+returns-in-Ok-keep_and_give-clause-step g c =
+    let e = entry_of c.args.edit.now in
+    let journal : c.self.inside.journal ≡ c.args.self.now.server.journal = ap (λ (n : NcsTables _). n.server.journal) c.self.view_is in
+    let same = acceptance-here c.self.inside.journal c.args.self.now.server.journal e e c.self.inside.orders c.self.invariant.0 c.has_ascending_ids.ensures refl journal in
+    let peers : (with_items c.self.inside.peers c.keep_and_give.new.peers).items ≡ c.keep_and_give.new.peers = with_items_is c.self.inside.peers c.keep_and_give.new.peers (c.keep_and_give.auto.peers ∙ c.deref_mut.ensures.len) in
+    let begun : states c.deref_mut.result.now ≡ states c.self.inside.peers.items = ap states c.deref_mut.ensures.value in
+    let u : NcsTables _ = record { server = record { journal = c.keep_and_give.new.journal; stopped = c.self.inside.stopped; faults = g.K.Keeper.faults c.keep_and_give.new.keeper; peers = (with_items c.self.inside.peers c.keep_and_give.new.peers).items }; keeper = c.keep_and_give.new.keeper; kept = g.K.Keeper.kept c.keep_and_give.new.keeper } in
+    (taken-tables c.args.self.now _ e u c.self.view_is c.requires.running (sym same ∙ c.in-Ok.ensures.accepted) c.in-Ok-keep_and_give.ensures.journal refl
+    (ap states peers ∙ (c.in-Ok-keep_and_give.ensures.peers ∙ (λ i. λ d. peer_given e (entry_count c.self.inside.journal e.ro) (begun i d)))) c.keep_and_give.ensures.rises c.in-Ok-keep_and_give.ensures.appends).step
+
+pub returns-in-Ok-keep_and_give-clause-cause : goal.returns-in-Ok-keep_and_give-clause-cause
+returns-in-Ok-keep_and_give-clause-cause g c =
+    let e = entry_of c.args.edit.now in
+    let journal : c.self.inside.journal ≡ c.args.self.now.server.journal = ap (λ (n : NcsTables _). n.server.journal) c.self.view_is in
+    let same = acceptance-here c.self.inside.journal c.args.self.now.server.journal e e c.self.inside.orders c.self.invariant.0 c.has_ascending_ids.ensures refl journal in
+    let peers : (with_items c.self.inside.peers c.keep_and_give.new.peers).items ≡ c.keep_and_give.new.peers = with_items_is c.self.inside.peers c.keep_and_give.new.peers (c.keep_and_give.auto.peers ∙ c.deref_mut.ensures.len) in
+    let begun : states c.deref_mut.result.now ≡ states c.self.inside.peers.items = ap states c.deref_mut.ensures.value in
+    let u : NcsTables _ = record { server = record { journal = c.keep_and_give.new.journal; stopped = c.self.inside.stopped; faults = g.K.Keeper.faults c.keep_and_give.new.keeper; peers = (with_items c.self.inside.peers c.keep_and_give.new.peers).items }; keeper = c.keep_and_give.new.keeper; kept = g.K.Keeper.kept c.keep_and_give.new.keeper } in
+    (taken-tables c.args.self.now _ e u c.self.view_is c.requires.running (sym same ∙ c.in-Ok.ensures.accepted) c.in-Ok-keep_and_give.ensures.journal refl
+    (ap states peers ∙ (c.in-Ok-keep_and_give.ensures.peers ∙ (λ i. λ d. peer_given e (entry_count c.self.inside.journal e.ro) (begun i d)))) c.keep_and_give.ensures.rises c.in-Ok-keep_and_give.ensures.appends).cause
+
+pub returns-in-Err-keep_and_give-clause-step : goal.returns-in-Err-keep_and_give-clause-step
+returns-in-Err-keep_and_give-clause-step g c =
+    let e = entry_of c.args.edit.now in
+    let journal : c.self.inside.journal ≡ c.args.self.now.server.journal = ap (λ (n : NcsTables _). n.server.journal) c.self.view_is in
+    let same = acceptance-here c.self.inside.journal c.args.self.now.server.journal e e c.self.inside.orders c.self.invariant.0 c.has_ascending_ids.ensures refl journal in
+    let peers : (with_items c.self.inside.peers c.keep_and_give.new.peers).items ≡ c.keep_and_give.new.peers = with_items_is c.self.inside.peers c.keep_and_give.new.peers (c.keep_and_give.auto.peers ∙ c.deref_mut.ensures.len) in
+    let begun : states c.deref_mut.result.now ≡ states c.self.inside.peers.items = ap states c.deref_mut.ensures.value in
+    let u : NcsTables _ = record { server = record { journal = c.keep_and_give.new.journal; stopped = c.is_failed-self-inside.result; faults = g.K.Keeper.faults c.keep_and_give.new.keeper; peers = (with_items c.self.inside.peers c.keep_and_give.new.peers).items }; keeper = c.keep_and_give.new.keeper; kept = g.K.Keeper.kept c.keep_and_give.new.keeper } in
+    (unkept-tables c.args.self.now _ e u c.in-Err-keep_and_give.fault c.command_fault.result c.command_fault.ensures c.self.view_is c.requires.running (sym same ∙ c.in-Ok.ensures.accepted) c.in-Err-keep_and_give.ensures.journal_err c.is_failed-self-inside.ensures
+    (ap states peers ∙ (c.in-Err-keep_and_give.ensures.peers_err ∙ begun)) c.keep_and_give.ensures.rises c.in-Err-keep_and_give.ensures.appends).step
+
+pub returns-in-Err-keep_and_give-clause-cause : goal.returns-in-Err-keep_and_give-clause-cause
+returns-in-Err-keep_and_give-clause-cause g c =
+    let e = entry_of c.args.edit.now in
+    let journal : c.self.inside.journal ≡ c.args.self.now.server.journal = ap (λ (n : NcsTables _). n.server.journal) c.self.view_is in
+    let same = acceptance-here c.self.inside.journal c.args.self.now.server.journal e e c.self.inside.orders c.self.invariant.0 c.has_ascending_ids.ensures refl journal in
+    let peers : (with_items c.self.inside.peers c.keep_and_give.new.peers).items ≡ c.keep_and_give.new.peers = with_items_is c.self.inside.peers c.keep_and_give.new.peers (c.keep_and_give.auto.peers ∙ c.deref_mut.ensures.len) in
+    let begun : states c.deref_mut.result.now ≡ states c.self.inside.peers.items = ap states c.deref_mut.ensures.value in
+    let u : NcsTables _ = record { server = record { journal = c.keep_and_give.new.journal; stopped = c.is_failed-self-inside.result; faults = g.K.Keeper.faults c.keep_and_give.new.keeper; peers = (with_items c.self.inside.peers c.keep_and_give.new.peers).items }; keeper = c.keep_and_give.new.keeper; kept = g.K.Keeper.kept c.keep_and_give.new.keeper } in
+    (unkept-tables c.args.self.now _ e u c.in-Err-keep_and_give.fault c.command_fault.result c.command_fault.ensures c.self.view_is c.requires.running (sym same ∙ c.in-Ok.ensures.accepted) c.in-Err-keep_and_give.ensures.journal_err c.is_failed-self-inside.ensures
+    (ap states peers ∙ (c.in-Err-keep_and_give.ensures.peers_err ∙ begun)) c.keep_and_give.ensures.rises c.in-Err-keep_and_give.ensures.appends).cause
+
+pub returns-in-Err-keep_and_give-clause-leaves : goal.returns-in-Err-keep_and_give-clause-leaves
+returns-in-Err-keep_and_give-clause-leaves g c =
+    let e = entry_of c.args.edit.now in
+    let journal : c.self.inside.journal ≡ c.args.self.now.server.journal = ap (λ (n : NcsTables _). n.server.journal) c.self.view_is in
+    let same = acceptance-here c.self.inside.journal c.args.self.now.server.journal e e c.self.inside.orders c.self.invariant.0 c.has_ascending_ids.ensures refl journal in
+    let peers : (with_items c.self.inside.peers c.keep_and_give.new.peers).items ≡ c.keep_and_give.new.peers = with_items_is c.self.inside.peers c.keep_and_give.new.peers (c.keep_and_give.auto.peers ∙ c.deref_mut.ensures.len) in
+    let begun : states c.deref_mut.result.now ≡ states c.self.inside.peers.items = ap states c.deref_mut.ensures.value in
+    let u : NcsTables _ = record { server = record { journal = c.keep_and_give.new.journal; stopped = c.is_failed-self-inside.result; faults = g.K.Keeper.faults c.keep_and_give.new.keeper; peers = (with_items c.self.inside.peers c.keep_and_give.new.peers).items }; keeper = c.keep_and_give.new.keeper; kept = g.K.Keeper.kept c.keep_and_give.new.keeper } in
+    (unkept-tables c.args.self.now _ e u c.in-Err-keep_and_give.fault c.command_fault.result c.command_fault.ensures c.self.view_is c.requires.running (sym same ∙ c.in-Ok.ensures.accepted) c.in-Err-keep_and_give.ensures.journal_err c.is_failed-self-inside.ensures
+    (ap states peers ∙ (c.in-Err-keep_and_give.ensures.peers_err ∙ begun)) c.keep_and_give.ensures.rises c.in-Err-keep_and_give.ensures.appends).leaves

@@ -1,0 +1,39 @@
+-- Whether an edit is accepted, by the table of orders.
+use Rattle.std.specs.Prelude.{◌≡◌, ℕ, List, Option, Some, None}
+use Rattle.mos_edits.specs.Texts.{Text}
+use Rattle.mos_edits.specs.KeyedLists.{Applied, ActFault}
+use Rattle.mos_edits.specs.Orders.{Order, apply}
+use Rattle.mos_edits.specs.Entries.{Entry, Refusal, refusal, result_or, over_list, over}
+use Rattle.mos_edits.specs.Sizes.{list_all_limit, list_all_units}
+use Rattle.mos_machines.specs.Tables.{look, put_row}
+use Rattle.ncs_core.specs.State.{row_headers}
+use Rattle.ncs_core.specs.declared.fault.CommandFault.{CommandFault}
+use Rattle.ncs_core.specs.declared.fault.CommandFault.TheVariants.{Stopped, Missing, AlreadyThere, Full, StoreFault, NoMemory}
+
+-- the code units with which all orders pass their limit, and those of one order or else of all
+abbrev pub all_over : List (Text × Option Order) → Option ℕ
+all_over rows = over list_all_limit (list_all_units (row_headers rows)) None
+
+abbrev pub rows_over : List (Text × Option Order) → Text → Option ℕ
+rows_over rows r = over_list (look None rows r) (all_over rows)
+
+-- what an edit makes of its order
+abbrev pub applied_to : List (Text × Option Order) → Entry → Applied (Option Order)
+applied_to rows e = apply e.ro (look None rows e.ro) e.edit
+
+-- the orders after it; they are as before where it has a fault
+abbrev pub rows_after : List (Text × Option Order) → Entry → List (Text × Option Order)
+rows_after rows e = put_row e.ro (result_or (look None rows e.ro) (applied_to rows e)) rows
+
+-- why the edit isn't accepted, where these are the orders
+abbrev pub rows_acceptance : List (Text × Option Order) → Entry → Option Refusal
+rows_acceptance rows e = refusal (applied_to rows e) (rows_over (rows_after rows e) e.ro)
+
+-- the answer says why the edit isn't accepted, or that memory ran out
+abbrev pub IsRefusal : Option Refusal → CommandFault → Type 0
+IsRefusal why Stopped = ⊥
+IsRefusal why (Missing id) = why ≡ Some (Refusal.Faulty (ActFault.Missing id))
+IsRefusal why (AlreadyThere id) = why ≡ Some (Refusal.Faulty (ActFault.AlreadyThere id))
+IsRefusal why (Full units) = why ≡ Some (Refusal.Full units)
+IsRefusal why StoreFault = ⊥
+IsRefusal why NoMemory = Unit {0}

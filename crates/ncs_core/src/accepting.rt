@@ -1,0 +1,172 @@
+//! Edits on the table of orders.
+ghost use Rattle.std.specs.Prelude.{◌≡◌, ℕ, Bool, Option, IsSome, None, OnOk, OnErr, IfOk, IfErr};
+ghost use Rattle.std.specs.Option.{option_copied};
+ghost use Rattle.element_action.specs.Answers.{IsCause};
+ghost use Rattle.mos_edits.specs.Entries.{entry_of, refusal};
+ghost use Rattle.mos_edits.specs.KeyedLists.{Applied};
+ghost use Rattle.mos_edits.specs.KeyedLists.Applied.{Done};
+ghost use Rattle.mos_edits.specs.Orders.{Order as Made, edit_ro as edit_ro_of};
+ghost use Rattle.mos_machines.specs.Tables.{look, put_row};
+ghost use Rattle.order_table.specs.Rows.{find_row};
+ghost use Rattle.ncs_core.specs.Accepting.{applied_to, rows_over, rows_after, rows_acceptance, IsRefusal};
+
+use crate::fault::CommandFault;
+use crate::limits::overrun;
+use crate::orders::{Orders, order_in};
+use element_action::{ActFault, apply};
+use mos_fields::{Id, NoMemory};
+use mos_values::{Edit, OrderBody};
+use rundown_log::edit_ro;
+use running_order::Order;
+use std::alloc::Global;
+
+// Lets a value go. What is let go here is dropped by a function of its type, and not variant by variant on each path.
+pub fn let_go<T: Drop>(_value: T) {}
+
+// The order of a body. The body is let go.
+fn order_of(alloc: Global, body: OrderBody) -> Result<Order, NoMemory>
+    ensures { IfOk result (λ o. o ≡ body) }
+{
+    let made = Order::from_body(alloc, &body);
+    let_go(body);
+    made
+}
+
+// The same order again.
+fn copied_order(alloc: Global, order: &Order) -> Result<Order, NoMemory>
+    ensures { IfOk result (λ o. o ≡ order.now) }
+{
+    order_of(alloc, order.to_body()?)
+}
+
+// The same order again, where there is one.
+fn copied(alloc: Global, order: Option<&Order>) -> Result<Option<Order>, NoMemory>
+    ensures { IfOk result (λ o. o ≡ option_copied order.entry) }
+{
+    match order {
+        Some(order) => Ok(Some(copied_order(alloc, order)?)),
+        None => Ok(None),
+    }
+}
+
+// A fault of an edit, as a command tells it.
+fn told(fault: ActFault) -> CommandFault
+    ensures { (takes : Bool) → (defined : Applied (Option Made)) → (units : Option ℕ) → IsCause takes defined fault → IsRefusal (refusal defined units) result }
+{
+    match fault {
+        ActFault::Missing { id } => CommandFault::Missing { id },
+        ActFault::AlreadyThere { id } => CommandFault::AlreadyThere { id },
+        ActFault::NoMemory => CommandFault::NoMemory,
+    }
+}
+
+// What an edit makes of its order.
+fn edited(alloc: Global, orders: &Orders, edit: &Edit) -> Result<Option<Order>, CommandFault>
+    ensures made { IfOk result (λ o. applied_to orders.now (entry_of edit.now) ≡ Done o) }
+    ensures fault { IfErr result (λ f. (units : Option ℕ) → IsRefusal (refusal (applied_to orders.now (entry_of edit.now)) units) f) }
+{
+    let mut order = copied(alloc, order_in(orders, edit_ro(edit)))?;
+    match apply(alloc, &mut order, edit) {
+        Ok(()) => Ok(order),
+        Err(fault) => {
+            let_go(order);
+            Err(told(fault))
+        }
+    }
+}
+
+// Gives an order a row, where it has none. Only that takes memory.
+fn know(orders: &mut Orders, ro: &Id) -> Result<(), NoMemory>
+    ensures there { OnOk result (IsSome (find_row ro.now orders.new)) }
+    ensures rows { OnOk result ((order : Option Made) → put_row ro.now order orders.new ≡ put_row ro.now order orders.old) }
+    ensures same { look None orders.new ≡ look None orders.old }
+{
+    match orders.find(ro) {
+        Some(_) => Ok(()),
+        None => orders.put(ro, None),
+    }
+}
+
+// Whether no limit is passed.
+fn within(alloc: Global, orders: &Orders, ro: &Id) -> Result<(), CommandFault>
+    ensures within { OnOk result (rows_over orders.now ro.now ≡ None) }
+    ensures full { IfErr result (λ f. (order : Option Made) → IsRefusal (refusal (Done order) (rows_over orders.now ro.now)) f) }
+{
+    match overrun(alloc, orders, ro)? {
+        Some(units) => Err(CommandFault::Full { units }),
+        None => Ok(()),
+    }
+}
+
+// Exchanges an order for another, where the orders then pass no limit; where they would, or without memory, all orders
+// stay as they were.
+fn exchange_within(
+    alloc: Global,
+    orders: &mut Orders,
+    ro: &Id,
+    order: &mut Option<Order>,
+) -> Result<(), CommandFault>
+    requires { IsSome (find_row ro.now orders.old) }
+    ensures order { OnOk result (order.new ≡ look None orders.old ro.now) }
+    ensures rows { OnOk result (orders.new ≡ put_row ro.now order.old orders.old) }
+    ensures within { OnOk result (rows_over (put_row ro.now order.old orders.old) ro.now ≡ None) }
+    ensures fault { IfErr result (λ f. IsRefusal (refusal (Done order.old) (rows_over (put_row ro.now order.old orders.old) ro.now)) f) }
+    ensures err { OnErr result (look None orders.new ≡ look None orders.old) }
+{
+    orders.exchange(ro, order);
+    match within(alloc, orders, ro) {
+        Ok(()) => Ok(()),
+        Err(fault) => {
+            orders.exchange(ro, order);
+            Err(fault)
+        }
+    }
+}
+
+/// Puts what an edit makes of its order in its row, where the edit is accepted, and gives what was there.
+///
+/// After each error all orders are as they were.
+pub fn accept_edit(
+    alloc: Global,
+    orders: &mut Orders,
+    edit: &Edit,
+) -> Result<Option<Order>, CommandFault>
+    ensures order { IfOk result (λ o. o ≡ look None orders.old (edit_ro_of edit.now)) }
+    ensures rows { OnOk result (orders.new ≡ rows_after orders.old (entry_of edit.now)) }
+    ensures accepted { OnOk result (rows_acceptance orders.old (entry_of edit.now) ≡ None) }
+    ensures fault { IfErr result (λ f. IsRefusal (rows_acceptance orders.old (entry_of edit.now)) f) }
+    ensures err { OnErr result (look None orders.new ≡ look None orders.old) }
+{
+    match edited(alloc, orders, edit) {
+        Ok(order) => put_within(alloc, orders, edit_ro(edit), order),
+        Err(fault) => Err(fault),
+    }
+}
+
+// Puts an order in its row, where the orders then pass no limit, and gives what was there.
+fn put_within(
+    alloc: Global,
+    orders: &mut Orders,
+    ro: &Id,
+    order: Option<Order>,
+) -> Result<Option<Order>, CommandFault>
+    ensures order { IfOk result (λ o. o ≡ look None orders.old ro.now) }
+    ensures rows { OnOk result (orders.new ≡ put_row ro.now order orders.old) }
+    ensures within { OnOk result (rows_over (put_row ro.now order orders.old) ro.now ≡ None) }
+    ensures fault { IfErr result (λ f. IsRefusal (refusal (Done order) (rows_over (put_row ro.now order orders.old) ro.now)) f) }
+    ensures err { OnErr result (look None orders.new ≡ look None orders.old) }
+{
+    know(orders, ro)?;
+    let mut held = order;
+    exchange_within(alloc, orders, ro, &mut held)?;
+    Ok(held)
+}
+
+/// Puts back what was there before an edit. It takes no memory.
+pub fn undo(orders: &mut Orders, ro: &Id, order: Option<Order>)
+    requires { IsSome (find_row ro.now orders.old) }
+    ensures { orders.new ≡ put_row ro.now order orders.old }
+{
+    let mut held = order;
+    orders.exchange(ro, &mut held);
+}

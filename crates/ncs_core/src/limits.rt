@@ -1,0 +1,128 @@
+//! The limits of lists.
+ghost use Rattle.std.specs.Prelude.{◌≡◌, ◌<◌, ℕ, length, slice_get, Some, None, IfOk};
+ghost use Rattle.std.specs.Option.{option_copied};
+ghost use Rattle.mos_edits.specs.Entries.{over as over_of, over_list};
+ghost use Rattle.mos_edits.specs.Sizes.{list_units, list_all_units as list_all_units_of, at_most_64_bits};
+ghost use Rattle.size_laws.specs.Small.{IsSmall, IsSmallItem, AreSmallItems, IsSmallOrder};
+ghost use Rattle.ncs_core.specs.Accepting.{all_over, rows_over};
+ghost use Rattle.ncs_core.specs.State.{row_headers};
+
+use crate::orders::{Orders, headers_in, order_in};
+use mos_fields::{Id, NoMemory, Samples};
+use mos_values::{Item, Story, list_all_units};
+use running_order::Order;
+use size_laws::limits_count_canonical_encodings;
+use std::alloc::Global;
+
+// The limits, in code units: of the list of one order, and of that of all.
+const LIST_LIMIT: u64 = 8_000_000;
+
+const LIST_ALL_LIMIT: u64 = 8_100_000;
+
+// A number of samples fits into 32 bits. Each call whose name has `small_numbers` promises that of a
+// value, and does nothing.
+fn has_small_number(number: Option<Samples>)
+    ensures { IsSmall number }
+{
+    match number {
+        Some(number) => {
+            let _count = number.count();
+        }
+        None => {}
+    }
+}
+
+fn has_small_numbers(item: &Item)
+    ensures { IsSmallItem item.now }
+{
+    has_small_number(item.ed_start);
+    has_small_number(item.ed_dur);
+    has_small_number(item.user_timing_dur);
+}
+
+fn have_small_numbers(items: &[Item])
+    ensures { AreSmallItems items.now }
+{
+    'items: for item in items {
+        has_small_numbers(item);
+    }
+}
+
+fn story_has_small_numbers(story: &Story)
+    ensures { AreSmallItems story.now.items }
+{
+    have_small_numbers(story.items.as_slice());
+}
+
+// The story at a place.
+fn story_at(order: &Order, place: usize) -> &Story
+    requires { place < length order.now.stories }
+    ensures { slice_get order.now.stories place ≡ Some result.now }
+{
+    match order.story(place) {
+        Some(story) => story,
+        None => unreachable!(),
+    }
+}
+
+fn order_has_small_numbers(order: &Order)
+    ensures { IsSmallOrder order.now }
+{
+    'stories: for place in 0..order.len() {
+        story_has_small_numbers(story_at(order, place));
+    }
+}
+
+// The code units of the list of an order.
+fn order_units(order: &Order) -> u64
+    ensures { result ≡ at_most_64_bits (list_units order.now) }
+{
+    limits_count_canonical_encodings();
+    order_has_small_numbers(order);
+    order.size_units()
+}
+
+// The code units of the list of all orders.
+fn all_units(alloc: Global, orders: &Orders) -> Result<u64, NoMemory>
+    ensures { IfOk result (λ units. units ≡ at_most_64_bits (list_all_units_of (row_headers orders.now))) }
+{
+    limits_count_canonical_encodings();
+    let headers = headers_in(alloc, orders.rows())?;
+    Ok(list_all_units(&headers))
+}
+
+// The code units, where they pass a limit.
+fn past(limit: u64, units: u64) -> Option<u64>
+    requires { limit < 18446744073709551615 }
+    ensures { (n : ℕ) → units ≡ at_most_64_bits n → result ≡ over_of limit n None }
+{
+    if limit < units { Some(units) } else { None }
+}
+
+// The code units with which the list of an order passes its limit.
+fn order_overrun(order: Option<&Order>) -> Option<u64>
+    ensures { result ≡ over_list (option_copied order.entry) None }
+{
+    match order {
+        Some(order) => past(LIST_LIMIT, order_units(order)),
+        None => None,
+    }
+}
+
+// The code units with which the list of all orders passes its limit.
+fn all_overrun(alloc: Global, orders: &Orders) -> Result<Option<u64>, NoMemory>
+    ensures { IfOk result (λ units. units ≡ all_over orders.now) }
+{
+    let units = all_units(alloc, orders)?;
+    Ok(past(LIST_ALL_LIMIT, units))
+}
+
+/// The code units with which the list of an order passes its limit, or else that of all orders.
+pub fn overrun(alloc: Global, orders: &Orders, ro: &Id) -> Result<Option<u64>, NoMemory>
+    ensures { IfOk result (λ units. units ≡ rows_over orders.now ro.now) }
+{
+    match order_overrun(order_in(orders, ro)) {
+        Some(units) => Ok(Some(units)),
+        None => all_overrun(alloc, orders),
+    }
+}
