@@ -1,0 +1,4 @@
+mod Examples
+pub mod MadeLemmas
+pub mod ReadBack
+pub mod SoundLemmas

@@ -1,0 +1,5 @@
+pub mod Events
+pub mod Scripts
+pub mod Made
+pub mod Printed
+pub mod Listing
