@@ -1,8 +1,9 @@
 //! Lines of worked scripts, and made events.
 
 use crate::{Generator, read_devices, read_event};
-use mos_fields::Air;
+use mos_fields::{Air, NoMemory};
 use mos_values::{Action, Edit};
+use std::alloc::Global;
 use std::test::Fail;
 use world_events::{PairingEvent, WorldEvent};
 
@@ -71,6 +72,18 @@ fn word_of(event: &Option<WorldEvent>) -> &'static str {
     }
 }
 
+/// What a line is read as.
+fn line_word(alloc: Global, line: &str) -> Result<&'static str, NoMemory> {
+    let event = read_event(alloc, line.as_bytes())?;
+    Ok(word_of(&event))
+}
+
+/// What the next event is.
+fn next_word(alloc: Global, generator: &mut Generator) -> Result<&'static str, NoMemory> {
+    let event = generator.next(alloc)?;
+    Ok(word_of(&event))
+}
+
 /// Lines, and what each is.
 const LINES: &str = "\
 cmd create r A B C = roCreate
@@ -127,8 +140,8 @@ fn lines_are_read(rt: HostRuntime) -> Result<(), Fail> {
     let mut rows = 0u64;
     for row in LINES.lines() {
         if let Some((line, word)) = row.split_once(" = ") {
-            let event = read_event(rt.alloc(), line.as_bytes())?;
-            assert_eq!(rt; word_of(&event), word, "{line}");
+            let read = line_word(rt.alloc(), line)?;
+            assert_eq!(rt; read, word, "{line}");
             rows = rows.saturating_add(1);
         }
     }
@@ -189,11 +202,11 @@ fn events_are_made(rt: HostRuntime) -> Result<(), Fail> {
     for count in [1, 2, 30] {
         let mut generator = Generator::new(count);
         for _ in 0..count {
-            let event = generator.next(rt.alloc())?;
-            assert_eq!(rt; word_of(&event), words.next().unwrap_or("none left"));
+            let made = next_word(rt.alloc(), &mut generator)?;
+            assert_eq!(rt; made, words.next().unwrap_or("none left"));
         }
-        let event = generator.next(rt.alloc())?;
-        assert_eq!(rt; word_of(&event), "none");
+        let made = next_word(rt.alloc(), &mut generator)?;
+        assert_eq!(rt; made, "none");
     }
     Ok(())
 }
