@@ -72,16 +72,23 @@ fn word_of(event: &Option<WorldEvent>) -> &'static str {
     }
 }
 
+/// Drops a value.
+fn let_go<T: Drop>(_value: T) {}
+
 /// What a line is read as.
 fn line_word(alloc: Global, line: &str) -> Result<&'static str, NoMemory> {
     let event = read_event(alloc, line.as_bytes())?;
-    Ok(word_of(&event))
+    let word = word_of(&event);
+    let_go(event);
+    Ok(word)
 }
 
 /// What the next event is.
 fn next_word(alloc: Global, generator: &mut Generator) -> Result<&'static str, NoMemory> {
     let event = generator.next(alloc)?;
-    Ok(word_of(&event))
+    let word = word_of(&event);
+    let_go(event);
+    Ok(word)
 }
 
 /// Lines, and what each is.
