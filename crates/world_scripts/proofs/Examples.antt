@@ -1,5 +1,13 @@
 -- Worked lines and made events, by computation.
 use Rattle.std.proofs.Common.{◌≡◌, List, [], ◌∷◌, Some, None, codes, refl}
+use Rattle.std.specs.Fmt.{digits}
+use Rattle.mos_edits.specs.Entries.{Entry, entry_of}
+use Rattle.mos_edits.specs.Orders.{apply}
+use Rattle.mos_edits.specs.Texts.{same_id}
+use Rattle.world_laws.specs.World.{World, opening}
+use Rattle.world_laws.specs.Outcomes.{Outcome}
+use Rattle.world_scripts.specs.Listing.{state_lines}
+use Rattle.world_scripts.specs.Results.{listing, summary}
 use Rattle.mos_values.specs.declared.action.Action.TheVariants as actions
 use Rattle.mos_values.specs.declared.edit.Edit.TheVariants as edits
 use Rattle.world_laws.specs.World.{PairingEvent, WorldEvent, Direction}
@@ -8,7 +16,7 @@ use Rattle.script_edits.specs.Stories.{story_named, story_of, order_named, item_
 use Rattle.script_edits.specs.Edits.{edit_of, edit_verb_of}
 use Rattle.world_scripts.specs.Events.{event_in, verb_of}
 use Rattle.world_scripts.specs.Scripts.{devices_in, script_of, Script}
-use Rattle.world_scripts.specs.Made.{made_from, made_events, made_order, made_id, commands}
+use Rattle.world_scripts.specs.Made.{made_from, made_events, made_order, commands}
 
 -- ---- events
 
@@ -84,6 +92,21 @@ made_one : made_events 1 ≡ WorldEvent.AtDevice 2 PairingEvent.Ask ∷ []
 unfolding made_from
 made_one = refl
 
-made_two : made_events 2 ≡ commands (edits.Act made_order (actions.DeleteStories (made_id 19 ∷ []))) ∷ WorldEvent.AtDevice 2 PairingEvent.Got ∷ []
-unfolding made_from
+made_two : made_events 2 ≡ commands (edits.Act made_order (actions.DeleteStories (codes "S19" ∷ []))) ∷ WorldEvent.AtDevice 2 PairingEvent.Got ∷ []
+unfolding made_from digits
 made_two = refl
+
+-- ---- what is written
+
+-- nothing was played
+made_none : summary [] (state_lines (opening 2) (λ d. [])) ≡ codes "events 0\naccepted 0\nrefused 0\nimpossible 0\nserver 1 down\ndevice 1 upper - dial - idle\nserver 2 down\ndevice 2 upper - dial - idle\n"
+unfolding digits
+made_none = refl
+
+-- a world with an order of one entry
+one_order : World
+one_order = record (opening 1) { journal = entry_of (edits.Create (order_named (codes "r") (story_named (codes "A") (item_named (codes "x") ∷ []) ∷ story_named (codes "B") [] ∷ []))) ∷ [] }
+
+order_lines : listing (Outcome.Command (codes "OK") ∷ []) (state_lines one_order (λ d. codes "r" ∷ [])) ≡ codes "1 OK\norder r 1 A:x B\nserver 1 down\nview 1 r out\ndevice 1 upper - dial - idle\n"
+unfolding one_order digits apply same_id lib.Utf8.encode
+order_lines = refl

@@ -2,4 +2,6 @@ pub mod Events
 pub mod Scripts
 pub mod Made
 pub mod Printed
+pub mod PrintedCommands
 pub mod Listing
+pub mod Results

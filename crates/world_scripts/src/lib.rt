@@ -14,7 +14,7 @@ mod verb;
 
 pub use events::{read_devices, read_event};
 pub use generator::Generator;
-pub use laws::lines_are_read_as_written;
+pub use laws::{commands_are_read_as_written, lines_are_read_as_written};
 
 #[cfg(test)]
 mod tests;
