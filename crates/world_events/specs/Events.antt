@@ -1,5 +1,5 @@
 -- Events in memory, as the world's definitions see them.
-use Rattle.std.specs.Prelude.{ℕ, List, map}
+use Rattle.std.specs.Prelude.{List, map}
 use Rattle.mos_edits.specs.Entries.{entry_of}
 use Rattle.mos_machines.specs.Values.{edit_message}
 use Rattle.mos_values.specs.Sound.{IsSound}

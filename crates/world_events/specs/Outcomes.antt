@@ -1,5 +1,4 @@
 -- Outcomes in memory, as the world's definitions see them.
-use Rattle.std.specs.Prelude.{ℕ, List, map}
 use Rattle.world_laws.specs.Outcomes.{Outcome as outcomes}
 use Rattle.world_events.specs.declared.outcome.Outcome.{Outcome}
 use Rattle.world_events.specs.declared.outcome.Outcome.TheVariants as held
