@@ -1,5 +1,5 @@
 -- The edits of a script, row by row.
-use Rattle.std.specs.Prelude.{ℕ, Bool, List, [], ◌∷◌, map, Option, Some, None, if◌then◌else◌, codes}
+use Rattle.std.specs.Prelude.{List, [], ◌∷◌, Option, Some, None, if◌then◌else◌, codes}
 use Rattle.std.specs.Option.{option_map}
 use Rattle.mos_fields.specs.Characters.{Text}
 use Rattle.mos_fields.specs.Values.{word_of}

@@ -1,5 +1,5 @@
 -- Story words, and the items and stories that a script's words make.
-use Rattle.std.specs.Prelude.{ℕ, Bool, List, [], ◌∷◌, map, Option, Some, None, if◌then◌else◌, ◌==◌, ◌&&◌, codes}
+use Rattle.std.specs.Prelude.{List, [], ◌∷◌, map, Option, Some, None, if◌then◌else◌, ◌==◌, ◌&&◌, codes}
 use Rattle.std.specs.List.{slice_split}
 use Rattle.mos_fields.specs.Characters.{Text}
 use Rattle.mos_values.specs.declared.header.Header.{Header}
@@ -8,7 +8,7 @@ use Rattle.mos_values.specs.declared.item.Item.{Item}
 use Rattle.mos_values.specs.Distinct.{story_ids}
 use Rattle.mos_values.specs.OrderValue.{OrderBody}
 use Rattle.mos_values.specs.StoryValue.{Story}
-use Rattle.script_edits.specs.Words.{Word, is_name, are_names, are_distinct, both, at_least_one}
+use Rattle.script_edits.specs.Words.{Word, is_name, are_names, are_distinct, both}
 
 -- ---- values that have IDs and little else
 

@@ -1,4 +1,4 @@
-use Rattle.std.proofs.Common.{◌≡◌, List, true, sym, ap, ◌∙◌}
+use Rattle.std.proofs.Common.{◌≡◌, List, sym, ap, ◌∙◌}
 use Rattle.mos_values.specs.StoryValue.{Story}
 use Rattle.mos_values.specs.Distinct.{story_ids}
 use Rattle.script_edits.specs.Words.{are_distinct}
