@@ -1,0 +1,112 @@
+-- Worked lines and made events, by computation.
+use Rattle.std.proofs.Common.{◌≡◌, List, [], ◌∷◌, Some, None, codes, refl}
+use Rattle.std.specs.Fmt.{digits}
+use Rattle.mos_edits.specs.Entries.{Entry, entry_of}
+use Rattle.mos_edits.specs.Orders.{apply}
+use Rattle.mos_edits.specs.Texts.{same_id}
+use Rattle.world_laws.specs.World.{World, opening}
+use Rattle.world_laws.specs.Outcomes.{Outcome}
+use Rattle.world_scripts.specs.Listing.{state_lines}
+use Rattle.world_scripts.specs.Results.{listing, summary}
+use Rattle.mos_values.specs.declared.action.Action.TheVariants as actions
+use Rattle.mos_values.specs.declared.edit.Edit.TheVariants as edits
+use Rattle.world_laws.specs.World.{PairingEvent, WorldEvent, Direction}
+use Rattle.script_edits.specs.Words.{is_name, is_number}
+use Rattle.script_edits.specs.Stories.{story_named, story_of, order_named, item_named}
+use Rattle.script_edits.specs.Edits.{edit_of, edit_verb_of}
+use Rattle.world_scripts.specs.Events.{event_in, verb_of}
+use Rattle.world_scripts.specs.Scripts.{devices_in, script_of, Script}
+use Rattle.world_scripts.specs.Made.{made_from, made_events, made_order, commands}
+
+-- ---- events
+
+open_first : event_in (codes "open 1") ≡ Some (WorldEvent.AtDevice 1 PairingEvent.OpenTo)
+unfolding event_in verb_of is_number
+open_first = refl
+
+-- a device that no world has is read
+open_none : event_in (codes "open 0") ≡ Some (WorldEvent.AtDevice 0 PairingEvent.OpenTo)
+unfolding event_in verb_of is_number
+open_none = refl
+
+lose_two : event_in (codes "lose 12 d 0") ≡ Some (WorldEvent.Lose 12 Direction.ToDevice 0)
+unfolding event_in verb_of is_number
+lose_two = refl
+
+leading_zero : event_in (codes "open 01") ≡ None
+unfolding event_in verb_of is_number
+leading_zero = refl
+
+two_spaces : event_in (codes "open  1") ≡ None
+unfolding event_in verb_of is_number
+two_spaces = refl
+
+unknown : event_in (codes "cmd fly r") ≡ None
+unfolding event_in verb_of edit_of edit_verb_of is_name
+unknown = refl
+
+create_three : event_in (codes "cmd create r A:x,y B") ≡ Some (commands (edits.Create (order_named (codes "r") (story_named (codes "A") (item_named (codes "x") ∷ item_named (codes "y") ∷ []) ∷ story_named (codes "B") [] ∷ []))))
+unfolding event_in verb_of edit_of edit_verb_of is_name story_of
+create_three = refl
+
+twice : event_in (codes "cmd create r A A") ≡ None
+unfolding event_in verb_of edit_of edit_verb_of is_name story_of
+twice = refl
+
+item_twice : event_in (codes "cmd insert r - A:x,x") ≡ None
+unfolding event_in verb_of edit_of edit_verb_of is_name story_of
+item_twice = refl
+
+swap_items : event_in (codes "cmd iswap r A x z") ≡ Some (commands (edits.Act (codes "r") (actions.SwapItems (codes "A") (codes "x") (codes "z"))))
+unfolding event_in verb_of edit_of edit_verb_of is_name
+swap_items = refl
+
+-- ---- scripts
+
+two_devices : devices_in (codes "devices 2") ≡ Some 2
+unfolding is_number
+two_devices = refl
+
+ten_devices : devices_in (codes "devices 10") ≡ None
+unfolding is_number
+ten_devices = refl
+
+whole : script_of (codes "devices 1\nfault\n") ≡ Script.Plays 1 (WorldEvent.FailNext ∷ [])
+unfolding event_in verb_of is_number
+whole = refl
+
+unended : script_of (codes "devices 1\nfault") ≡ Script.RefusedAt 2
+unfolding event_in verb_of is_number
+unended = refl
+
+nothing : script_of [] ≡ Script.RefusedAt 1
+nothing = refl
+
+second_line : script_of (codes "devices 1\ncmd fly r\n") ≡ Script.RefusedAt 2
+unfolding event_in verb_of edit_of edit_verb_of is_name is_number
+second_line = refl
+
+-- ---- made events
+
+made_one : made_events 1 ≡ WorldEvent.AtDevice 2 PairingEvent.Ask ∷ []
+unfolding made_from
+made_one = refl
+
+made_two : made_events 2 ≡ commands (edits.Act made_order (actions.DeleteStories (codes "S19" ∷ []))) ∷ WorldEvent.AtDevice 2 PairingEvent.Got ∷ []
+unfolding made_from digits
+made_two = refl
+
+-- ---- what is written
+
+-- nothing was played
+made_none : summary [] (state_lines (opening 2) (λ d. [])) ≡ codes "events 0\naccepted 0\nrefused 0\nimpossible 0\nserver 1 down\ndevice 1 upper - dial - idle\nserver 2 down\ndevice 2 upper - dial - idle\n"
+unfolding digits
+made_none = refl
+
+-- a world with an order of one entry
+one_order : World
+one_order = record (opening 1) { journal = entry_of (edits.Create (order_named (codes "r") (story_named (codes "A") (item_named (codes "x") ∷ []) ∷ story_named (codes "B") [] ∷ []))) ∷ [] }
+
+order_lines : listing (Outcome.Command (codes "OK") ∷ []) (state_lines one_order (λ d. codes "r" ∷ [])) ≡ codes "1 OK\norder r 1 A:x B\nserver 1 down\nview 1 r out\ndevice 1 upper - dial - idle\n"
+unfolding one_order digits apply same_id lib.Utf8.encode
+order_lines = refl

@@ -1,0 +1,5 @@
+mod Examples
+pub mod MadeLemmas
+pub mod CommandsBack
+pub mod ReadBack
+pub mod SoundLemmas
