@@ -52,14 +52,9 @@ are_distinct (x ∷ xs) = not (stands_in x xs) && are_distinct xs
 
 -- ---- numbers
 
--- more than one digit, the first of them a 0
-abbrev pub has_leading_zero : Word → Bool
-has_leading_zero (c ∷ d ∷ ds) = c == 48
-has_leading_zero w = false
-
--- 1 to 9 digits, without a leading zero
+-- 1 to 9 digits
 unfoldable pub is_number : Word → Bool
-is_number w = nat_le 1 (length w) && nat_le (length w) 9 && list_all is_digit w && not (has_leading_zero w)
+is_number w = nat_le 1 (length w) && nat_le (length w) 9 && list_all is_digit w
 
 -- the number that digits write behind one that was read
 abbrev pub value_after : ℕ → Word → ℕ

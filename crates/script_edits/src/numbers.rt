@@ -1,7 +1,7 @@
 //! Numbers of a script.
 ghost use Rattle.std.specs.Prelude.{◌≡◌, ◌≤◌, ◌+◌, ◌-◌, ◌*◌, ◌^◌, length, true};
 ghost use Rattle.std.specs.List.{list_all};
-ghost use Rattle.script_edits.specs.Words.{has_leading_zero as has_leading_zero_of, is_digit as is_digit_of, is_number as is_number_of, number_of, value_after as value_after_of};
+ghost use Rattle.script_edits.specs.Words.{is_digit as is_digit_of, is_number as is_number_of, number_of, value_after as value_after_of};
 
 fn is_digit(c: u8) -> bool
     ensures { result ≡ is_digit_of c }
@@ -18,22 +18,12 @@ fn are_digits(word: &[u8]) -> bool
     }
 }
 
-/// Whether a word has more than one byte, and a 0 in front.
-fn has_leading_zero(word: &[u8]) -> bool
-    ensures { result ≡ has_leading_zero_of word.now }
-{
-    match word {
-        [c, _, ..] => *c == b'0',
-        _ => false,
-    }
-}
-
-/// Whether a word is a number: 1 to 9 digits, without a leading zero.
+/// Whether a word is a number: 1 to 9 digits, of which the first may be zeros.
 #[tactic(auto, unfolding(crate::specs::Words::is_number))]
 fn is_number(word: &[u8]) -> bool
     ensures { result ≡ is_number_of word.now }
 {
-    word.len() >= 1 && word.len() <= 9 && are_digits(word) && !has_leading_zero(word)
+    word.len() >= 1 && word.len() <= 9 && are_digits(word)
 }
 
 /// The value of a digit.
@@ -58,7 +48,7 @@ fn value_after(n: u32, digits: &[u8]) -> u32
     }
 }
 
-/// The number that a word is: 1 to 9 digits, without a leading zero. `None` comes exactly where it is none.
+/// The number that a word is: 1 to 9 digits, of which the first may be zeros. `None` comes exactly where it is none.
 #[tactic(auto, using(crate::proofs::NumberLemmas::number_digits, crate::proofs::NumberLemmas::number_room))]
 pub fn number(word: &[u8]) -> Option<u32>
     ensures { result ≡ number_of word.now }

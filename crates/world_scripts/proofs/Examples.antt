@@ -33,7 +33,7 @@ lose_two : event_in (codes "lose 12 d 0") ≡ Some (WorldEvent.Lose 12 Direction
 unfolding event_in verb_of is_number
 lose_two = refl
 
-leading_zero : event_in (codes "open 01") ≡ None
+leading_zero : event_in (codes "open 01") ≡ Some (WorldEvent.AtDevice 1 PairingEvent.OpenTo)
 unfolding event_in verb_of is_number
 leading_zero = refl
 

@@ -8,7 +8,7 @@ use Rattle.std.proofs.lemmas.List.{length-append}
 use Rattle.std.proofs.lemmas.List.Splits.{slice_split-cons_no}
 use Rattle.std.proofs.lemmas.Str.Parse.{IsNumeralModel, numerals_by_fold}
 use Rattle.world_laws.specs.World.{Direction, PairingEvent, WorldEvent}
-use Rattle.script_edits.specs.Words.{Word, both, is_digit, is_name, is_name_char, is_number, has_leading_zero, value_after, number_of, name_of, words_of}
+use Rattle.script_edits.specs.Words.{Word, both, is_digit, is_name, is_name_char, is_number, value_after, number_of, name_of, words_of}
 use Rattle.world_scripts.specs.Events.{event_of, event_in, verb_of, at_number, event_with, line_limit}
 use Rattle.world_scripts.specs.Printed.{pairing_words, event_words, line_of, direction_word, IsShort, IsSayable, IsSayableAt}
 
@@ -17,43 +17,21 @@ use Rattle.world_scripts.specs.Printed.{pairing_words, event_words, line_of, dir
 own : IsNumeralModel (λ ds. list_all is_digit ds ≡ true) (value_after 0)
 own = numerals_by_fold _ (search rules) value_after (search rules)
 
-leads : Word → Bool
-leads [] = false
-leads (c ∷ cs) = c == 48
+-- a number has a digit
+HasDigit : ℕ → Word → Type 0
+HasDigit n ds = 1 ≤ length ds
 
--- a number's digits: the first is a 0 of no number but 0
-record AreDigits (n : ℕ) (ds : Word) : Type 0 where
-  some : 1 ≤ length ds
-  first : 1 ≤ n → leads ds ≡ false
-  single : has_leading_zero ds ≡ false
+one_digit : (n : ℕ) → n < 10 → HasDigit n ((48 + n) ∷ [])
+unfolding HasDigit
+one_digit n h = omega arith
 
-one_digit : (n : ℕ) → n < 10 → AreDigits n ((48 + n) ∷ [])
-unfolding leads
-one_digit n h = record { some = omega arith; first = λ k. grind (arith, nat_tests); single = refl }
+digit_more : (n : ℕ) (ds : Word) → 10 ≤ n → HasDigit (n / 10) ds → HasDigit n (ds ++ ((48 + n % 10) ∷ []))
+unfolding HasDigit
+digit_more n ds h some = let l = length-append ds ((48 + n % 10) ∷ []) in omega (arith, l, some)
 
-leads_more : (ds : Word) (c : ℕ) → 1 ≤ length ds → leads (ds ++ c ∷ []) ≡ leads ds
-unfolding leads
-leads_more [] c h = absurd (omega arith)
-leads_more (d ∷ ds) c h = refl
-
-single_more : (ds : Word) (c : ℕ) → 1 ≤ length ds → has_leading_zero (ds ++ c ∷ []) ≡ leads ds
-unfolding leads
-single_more [] c h = absurd (omega arith)
-single_more (d ∷ []) c h = refl
-single_more (d ∷ e ∷ ds) c h = refl
-
-digit_more : (n : ℕ) (ds : Word) → 10 ≤ n → AreDigits (n / 10) ds → AreDigits n (ds ++ ((48 + n % 10) ∷ []))
-digit_more n ds h a =
-    let f : leads ds ≡ false = a.first (omega arith) in
-    let l = length-append ds ((48 + n % 10) ∷ []) in
-    record {
-      some = let s = a.some in omega (arith, l, s);
-      first = λ k. leads_more ds (48 + n % 10) a.some ∙ f;
-      single = single_more ds (48 + n % 10) a.some ∙ f;
-    }
-
-are_digits : (n : ℕ) → n < 1000000000 → AreDigits n (decimal n)
-are_digits n h = decimal_by_steps AreDigits one_digit digit_more n (omega arith)
+some_digit : (n : ℕ) → n < 1000000000 → 1 ≤ length (decimal n)
+unfolding HasDigit
+some_digit n h = decimal_by_steps HasDigit one_digit digit_more n (omega arith)
 
 short_digits : (n : ℕ) → n < 1000000000 → length (decimal n) ≤ 9
 short_digits n h = length-decimal-le 9 n (omega arith) (omega arith) (omega arith)
@@ -65,10 +43,8 @@ is_number_decimal : (n : ℕ) → n < 1000000000 → is_number (decimal n) ≡ t
 unfolding is_number
 is_number_decimal n h =
     let d = plain_digits n h in
-    let a = are_digits n h in
-    let some = a.some in
-    let single = a.single in
-    let short = short_digits n h in grind (arith, nat_tests, d, some, single, short)
+    let some = some_digit n h in
+    let short = short_digits n h in grind (arith, nat_tests, d, some, short)
 
 number_back : (n : ℕ) → n < 1000000000 → number_of (decimal n) ≡ Some n
 number_back n h = rw (is_number_decimal n h) (ap Some (digits_value-decimal own n (omega arith)))
