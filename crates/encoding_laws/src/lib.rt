@@ -1,0 +1,2 @@
+//! Laws of canonical encodings.
+#![tactic(auto)]
