@@ -1,3 +1,6 @@
 pub mod Written
 pub mod Admitted
 pub mod Pieces
+pub mod Lean
+pub mod Arranged
+pub mod Found

@@ -94,21 +94,21 @@ pub record Canonical (t : Table) (taken : List Text) (es : List Event) : Type 0 
   pub written : WritesFront tokens (canonical es)
   pub value : arranged t children ≡ es
 
+opens_canonical : (n : Text) (g : List Attribute) (x : List Event) → canonical (opens n g ∷ x) ≡ start_text n g ++ canonical x
+unfolding canonical
+opens_canonical n g x = refl
+
+closes_canonical : (n : Text) → canonical (closes n ∷ []) ≡ end_text n
+unfolding canonical
+closes_canonical n = append-nil (end_text n)
+
 nested_front : (n : Text) (g : List Attribute) (es : List Event) (ts : List Token) → named [] n ≡ true → AllByRecursion IsNamedAttribute g → WritesFront ts (canonical es)
     → WritesFront (open_tag n g (start_text n g) ∷ (ts ++ close_tag n ∷ [])) (canonical (opens n g ∷ (es ++ closes n ∷ [])))
 nested_front n g es ts m a w =
     let rest : WritesFront (ts ++ close_tag n ∷ []) (canonical es ++ end_text n) = both_fronts ts (close_tag n ∷ []) (canonical es) (end_text n) w (end_front n m) in
     let whole : WritesFront (open_tag n g (start_text n g) ∷ (ts ++ close_tag n ∷ [])) (start_text n g ++ (canonical es ++ end_text n)) =
     both_fronts (open_tag n g (start_text n g) ∷ []) (ts ++ close_tag n ∷ []) (start_text n g) (canonical es ++ end_text n) (start_front n g m a) rest in
-    subst (WritesFront (open_tag n g (start_text n g) ∷ (ts ++ close_tag n ∷ []))) (sym (written_so (es ++ closes n ∷ []) ∙ ap (λ (z : List ℕ). start_text n g ++ z) (canonical_append es (closes n ∷ []) ∙ ap (λ (z : List ℕ). canonical es ++ z) ended))) whole
-  where
-    written_so : (x : List Event) → canonical (opens n g ∷ x) ≡ start_text n g ++ canonical x
-    unfolding canonical
-    written_so x = refl
-
-    ended : canonical (closes n ∷ []) ≡ end_text n
-    unfolding canonical
-    ended = append-nil (end_text n)
+    subst (WritesFront (open_tag n g (start_text n g) ∷ (ts ++ close_tag n ∷ []))) (sym (opens_canonical n g (es ++ closes n ∷ []) ∙ ap (λ (z : List ℕ). start_text n g ++ z) (canonical_append es (closes n ∷ []) ∙ ap (λ (z : List ℕ). canonical es ++ z) (closes_canonical n)))) whole
 
 pub record_piece : (t : Table) (taken : List Text) (p : List Child) (n : Text) (f : Field) (u : Table) (g : List Attribute) (inner : List Child)
     → ((b : List Child) → aim_of b ≡ aim_of p → Opens t b n → admission t b n g ≡ admitted_record f u g) → Canonical u (keys t p) (arranged u inner) → named [] n ≡ true → AllByRecursion IsNamedAttribute g
