@@ -81,6 +81,10 @@ unseen_none f (c ∷ p) e = go (same_field f c.0) e (λ k. unseen_none f p k)
     go true e ih = let k : nat_lt 0 (times f (fields_of p) + 1) ≡ true = lt-ltb 0 (times f (fields_of p) + 1) (omega arith) in let z : true ≡ false = sym k ∙ e in absurd cc
     go false e ih = ih e
 
+pub same_has : (ds : List Column) (f g : Field) → same_field f g ≡ true → has ds g ≡ has ds f
+same_has [] f g q = refl
+same_has (d ∷ ds) f g q = rw (same_field-other f g d.field q, same_has ds f g q) refl
+
 -- ---- by columns
 
 -- the children of a column, and behind mosExternalMetadata these
@@ -91,7 +95,7 @@ abbrev pub by_columns : List Child → List Column → List Child → List Child
 by_columns k cs p = flat_map (of_column k p) cs
 
 -- a child of none of the columns changes nothing
-columns_other : (k : List Child) (cs : List Column) (p : List Child) (c : Child) → has cs c.0 ≡ false → by_columns k cs (p ++ c ∷ []) ≡ by_columns k cs p
+pub columns_other : (k : List Child) (cs : List Column) (p : List Child) (c : Child) → has cs c.0 ≡ false → by_columns k cs (p ++ c ∷ []) ≡ by_columns k cs p
 columns_other k [] p c h = refl
 columns_other k (d ∷ cs) p c h =
     let q = or_false (same_field d.field c.0) (has cs c.0) h in
@@ -159,24 +163,38 @@ without k (c ∷ cs) p h =
     let q = or_false (same_field c.field fields.Metadata) (has cs fields.Metadata) h in
     rw q.0 (ap (λ (z : List Child). select c.field p ++ [] ++ z) (without k cs p q.1))
 
--- these are put in behind all, where no column behind mosExternalMetadata was seen
-pub columns_put : (k : List Child) (cs : List Column) (p : List Child) → distinct cs ≡ true → any_seen (behind_metadata cs) (fields_of p) ≡ false → by_columns k cs p ≡ by_columns [] cs p ++ cond (has cs fields.Metadata) k []
+-- these are put in behind all, where no column behind mosExternalMetadata has children
+pub columns_put : (k : List Child) (cs : List Column) (p : List Child) → distinct cs ≡ true → by_columns [] (behind_metadata cs) p ≡ [] → by_columns k cs p ≡ by_columns [] cs p ++ cond (has cs fields.Metadata) k []
 columns_put k [] p d h = refl
 columns_put k (c ∷ cs) p d h =
     let u = no_true (has cs c.field) (distinct cs) d in
     go (same_field c.field fields.Metadata) refl h (λ e. columns_put k cs p u.1 e) u.0
   where
-    go : (b : Bool) → same_field c.field fields.Metadata ≡ b → any_seen (cond b cs (behind_metadata cs)) (fields_of p) ≡ false → (any_seen (behind_metadata cs) (fields_of p) ≡ false → by_columns k cs p ≡ by_columns [] cs p ++ cond (has cs fields.Metadata) k [])
+    go : (b : Bool) → same_field c.field fields.Metadata ≡ b → by_columns [] (cond b cs (behind_metadata cs)) p ≡ [] → (by_columns [] (behind_metadata cs) p ≡ [] → by_columns k cs p ≡ by_columns [] cs p ++ cond (has cs fields.Metadata) k [])
         → has cs c.field ≡ false → select c.field p ++ cond b k [] ++ by_columns k cs p ≡ (select c.field p ++ cond b [] [] ++ by_columns [] cs p) ++ cond (cond b true (has cs fields.Metadata)) k []
     go true e h ih u =
         let n : has cs fields.Metadata ≡ false = same_has cs c.field fields.Metadata e ∙ u in
-        let none : by_columns k cs p ≡ [] = columns_unseen k cs p h (λ w. absurd (let z : true ≡ false = sym w ∙ n in cc)) in
-        let none2 : by_columns [] cs p ≡ [] = columns_unseen [] cs p h (λ w. refl) in
+        let none : by_columns k cs p ≡ [] = without k cs p n ∙ h in
         ap (λ (z : List Child). select c.field p ++ k ++ z) none ∙ append-nil (select c.field p ++ k)
-        ∙ sym (ap (λ (z : List Child). (select c.field p ++ [] ++ z) ++ k) none2 ∙ ap (λ (z : List Child). z ++ k) (append-nil (select c.field p ++ [])) ∙ ap (λ (z : List Child). z ++ k) (append-nil (select c.field p)))
-      where
-        same_has : (ds : List Column) (f g : Field) → same_field f g ≡ true → has ds g ≡ has ds f
-        same_has [] f g q = refl
-        same_has (d ∷ ds) f g q = rw (same_field-other f g d.field q, same_has ds f g q) refl
+        ∙ sym (ap (λ (z : List Child). (select c.field p ++ [] ++ z) ++ k) h ∙ ap (λ (z : List Child). z ++ k) (append-nil (select c.field p ++ [])) ∙ ap (λ (z : List Child). z ++ k) (append-nil (select c.field p)))
     go false e h ih u =
         ap (λ (z : List Child). select c.field p ++ [] ++ z) (ih h) ∙ sym (append_assoc (select c.field p ++ []) (by_columns [] cs p) (cond (has cs fields.Metadata) k []))
+
+-- a child that adds nothing changes nothing
+pub columns_nothing : (k : List Child) (cs : List Column) (p : List Child) (f : Field) → by_columns k cs (p ++ (f, []) ∷ []) ≡ by_columns k cs p
+columns_nothing k [] p f = refl
+columns_nothing k (d ∷ cs) p f =
+    ap (λ (z : List Child). z ++ cond (same_field d.field fields.Metadata) k [] ++ by_columns k cs (p ++ (f, []) ∷ [])) (select_append d.field p ((f, []) ∷ []) ∙ ap (λ (z : List Child). select d.field p ++ z) (go (same_field d.field f)) ∙ append-nil (select d.field p))
+    ∙ ap (λ (z : List Child). select d.field p ++ cond (same_field d.field fields.Metadata) k [] ++ z) (columns_nothing k cs p f)
+  where
+    go : (b : Bool) → cond {A = List Child} b (put (f, []) []) [] ≡ []
+    go true = refl
+    go false = refl
+
+pub columns_none : (cs : List Column) → by_columns [] cs [] ≡ []
+columns_none [] = refl
+columns_none (d ∷ cs) = ap (λ (z : List Child). z ++ by_columns [] cs []) (go (same_field d.field fields.Metadata)) ∙ columns_none cs
+  where
+    go : (b : Bool) → cond {A = List Child} b [] [] ≡ []
+    go true = refl
+    go false = refl

@@ -14,7 +14,7 @@ use Rattle.mos_grammar.specs.Records.{Child, flat, found, column_events, arrange
 use Rattle.mos_grammar.proofs.Seen.{or_false, no_true, has, distinct}
 use Rattle.mos_grammar.proofs.Complete.{table_facts}
 use Rattle.mos_cursor.proofs.Columns.{same_field-same, same_field-sym, same_field-first, same_field-other}
-use Rattle.encoding_laws.proofs.Arranged.{put, select, select_flat, written_children, written_flat, of_column, by_columns}
+use Rattle.encoding_laws.proofs.Arranged.{put, select, select_flat, written_children, written_flat, by_columns, same_has}
 use Rattle.encoding_laws.proofs.Lean.{IsApart}
 
 found_append : (f : Field) (xs ys : List Child) → found f (xs ++ ys) ≡ found f xs ++ found f ys
@@ -103,10 +103,6 @@ found_absent g k p (c ∷ cs) h e =
     ∙ ap (λ (z : List Event). (z ++ found g (cond (same_field c.field fields.Metadata) k [])) ++ found g (by_columns k cs p)) (found_other g c.field p (false_sym c.field g q.0))
     ∙ ap (λ (z : List Event). z ++ found g (by_columns k cs p)) (cond_found g (same_field c.field fields.Metadata) k e)
     ∙ found_absent g k p cs q.1 e
-
-same_has : (ds : List Column) (f g : Field) → same_field f g ≡ true → has ds g ≡ has ds f
-same_has [] f g q = refl
-same_has (d ∷ ds) f g q = rw (same_field-other f g d.field q, same_has ds f g q) refl
 
 -- a field of one of them
 found_present : (g : Field) (k p : List Child) (cs : List Column) → has cs g ≡ true → distinct cs ≡ true → found g k ≡ [] → found g (by_columns k cs p) ≡ found g p

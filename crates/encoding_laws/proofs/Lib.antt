@@ -4,3 +4,4 @@ pub mod Pieces
 pub mod Lean
 pub mod Arranged
 pub mod Found
+pub mod Ordered
