@@ -153,7 +153,7 @@ pub record Opens (t : Table) (b : List Child) (n : Text) : Type 0 where
   pub outside : outside_fault t b n ≡ None
   pub room : HasRoom (seen_of t b) (column_of (columns t) n)
 
-role_of_column : (t : Table) (b : List Child) (n : Text) (g : List Attribute) (c : Column) → column_of (columns t) n ≡ Some c → Opens t b n → role t b n g ≡ role_at b n g c c.shape
+pub role_of_column : (t : Table) (b : List Child) (n : Text) (g : List Attribute) (c : Column) → column_of (columns t) n ≡ Some c → Opens t b n → role t b n g ≡ role_at b n g c c.shape
 unfolding role
 role_of_column t b n g c e h =
     let r : is_full c.often (times c.field (seen_of t b)) ≡ false = subst (HasRoom (seen_of t b)) e h.room in
@@ -238,7 +238,7 @@ aim_same : (b p : List Child) (v : Table) → aim_of b ≡ aim_of p → with_aim
 aim_same b p (tables.Source o a) e = ap (tables.Source o) e
 aim_same b p v e = refl
 
-aim_attribute : (p : List Child) (v : Table) → attribute_of_table (with_aim p v) ≡ attribute_of_table v
+pub aim_attribute : (p : List Child) (v : Table) → attribute_of_table (with_aim p v) ≡ attribute_of_table v
 aim_attribute p (tables.Source o a) = refl
 aim_attribute p v = refl
 

@@ -5,3 +5,4 @@ pub mod Lean
 pub mod Arranged
 pub mod Found
 pub mod Ordered
+pub mod Collected

@@ -66,14 +66,14 @@ abbrev pub AllPieces : Table → List Text → List Child → List Child → Typ
 AllPieces t taken p [] = Unit {0}
 AllPieces t taken p (c ∷ cs) = ChildPiece t taken p c × AllPieces t taken (p ++ c ∷ []) cs
 
-and_false : (b : Bool) → (b && false) ≡ false
+pub and_false : (b : Bool) → (b && false) ≡ false
 and_false true = refl
 and_false false = refl
 
 kept_quiet : (t : Table) (x : Text) → IsQuiet t (fields.Kept, raw fields.Kept x ∷ [])
 kept_quiet t x = record { no_group_end = and_false (is_ack t); no_target = refl; no_key = refl }
 
-no_kept : (t : Table) → AllByRecursion (IsApart fields.Kept) (columns t)
+pub no_kept : (t : Table) → AllByRecursion (IsApart fields.Kept) (columns t)
 no_kept t = apart_of fields.Kept (columns t) (table_facts t).3
 
 other_opens : (t : Table) (b : List Child) (n : Text) → column_of (columns t) n ≡ None → Opens t b n
