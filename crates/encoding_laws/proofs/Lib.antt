@@ -6,3 +6,4 @@ pub mod Arranged
 pub mod Found
 pub mod Ordered
 pub mod Collected
+pub mod Again

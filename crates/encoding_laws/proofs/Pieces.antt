@@ -102,7 +102,7 @@ closes_canonical : (n : Text) → canonical (closes n ∷ []) ≡ end_text n
 unfolding canonical
 closes_canonical n = append-nil (end_text n)
 
-nested_front : (n : Text) (g : List Attribute) (es : List Event) (ts : List Token) → named [] n ≡ true → AllByRecursion IsNamedAttribute g → WritesFront ts (canonical es)
+pub nested_front : (n : Text) (g : List Attribute) (es : List Event) (ts : List Token) → named [] n ≡ true → AllByRecursion IsNamedAttribute g → WritesFront ts (canonical es)
     → WritesFront (open_tag n g (start_text n g) ∷ (ts ++ close_tag n ∷ [])) (canonical (opens n g ∷ (es ++ closes n ∷ [])))
 nested_front n g es ts m a w =
     let rest : WritesFront (ts ++ close_tag n ∷ []) (canonical es ++ end_text n) = both_fronts ts (close_tag n ∷ []) (canonical es) (end_text n) w (end_front n m) in

@@ -1,0 +1,47 @@
+-- The canonical encoding of a message's value is an encoding of it.
+use Rattle.std.proofs.Common.{◌≡◌, ℕ, true, List, [], ◌∷◌, ◌++◌, length, ◌≤◌, refl, sym, ap, subst, ◌∙◌}
+use Rattle.std.proofs.lemmas.List.{append-nil}
+use Rattle.mos_fields.specs.Characters.{Text, are_allowed, units_of}
+use Rattle.mos_fields.specs.Names.{may_grow, named}
+use Rattle.mos_tables.specs.declared.table.Table.TheVariants.{Envelope}
+use Rattle.mos_tables.specs.Events.{Event, opens, closes}
+use Rattle.mos_tables.specs.Canonical.{start_text, canonical}
+use Rattle.mos_grammar.specs.Tokens.{Token, open_tag, close_tag}
+use Rattle.mos_grammar.specs.Records.{arranged, nested, IsRecord}
+use Rattle.mos_grammar.specs.Streams.{mos_name, before_prolog, IsMessage, element}
+use Rattle.mos_lexer.specs.Lexing.{WritesTokens}
+use Rattle.mos_lexer.specs.Encodings.{EncodesChars, Encodes}
+use Rattle.mos_lexer.specs.Units.{message_limit}
+use Rattle.mos_cursor.specs.Accepted.{IsWhole}
+use Rattle.encoding_laws.specs.Laws.{IsEncodedCanonically, ReadIsReadAgain}
+use Rattle.encoding_laws.proofs.Written.{WritesFront}
+use Rattle.encoding_laws.proofs.Pieces.{Canonical, nested_front}
+use Rattle.encoding_laws.proofs.Ordered.{canonical_of}
+use Rattle.encoding_laws.proofs.Collected.{collect}
+
+mos_named : named [] mos_name ≡ true
+unfolding may_grow
+mos_named = refl
+
+record_again : (es : List Event) (c : Canonical Envelope [] es) → IsRecord Envelope mos_name (opens mos_name [] ∷ (es ++ closes mos_name ∷ [])) (c.tokens ++ close_tag mos_name ∷ [])
+unfolding nested
+record_again es c = (c.children, c.tokens, c.content, refl, ap (λ (z : List Event). opens mos_name [] ∷ (z ++ closes mos_name ∷ [])) (sym c.value))
+
+pub message_again : (es : List Event) → Canonical Envelope [] es → EncodesChars (opens mos_name [] ∷ (es ++ closes mos_name ∷ [])) (canonical (opens mos_name [] ∷ (es ++ closes mos_name ∷ [])))
+message_again es c =
+    let v : List Event = opens mos_name [] ∷ (es ++ closes mos_name ∷ []) in
+    let tag : Text = start_text mos_name [] in
+    let r : List Token = c.tokens ++ close_tag mos_name ∷ [] in
+    let f : WritesFront (open_tag mos_name [] tag ∷ r) (canonical v) = nested_front mos_name [] es c.tokens mos_named tt c.written in
+    let w : WritesTokens (open_tag mos_name [] tag ∷ (r ++ [])) (canonical v ++ []) = f.before [] [] refl in
+    let w2 : WritesTokens (open_tag mos_name [] tag ∷ r) (canonical v) = subst (λ (z : List Token). WritesTokens (open_tag mos_name [] tag ∷ z) (canonical v)) (append-nil r) (subst (WritesTokens (open_tag mos_name [] tag ∷ (r ++ []))) (append-nil (canonical v)) w) in
+    (open_tag mos_name [] tag ∷ r, w2, element (record_again es c))
+
+pub encoded : (v : List Event) → EncodesChars v (canonical v) → IsEncodedCanonically v
+encoded v e a l = record { chars = canonical v; allowed = a; units = refl; encodes = e; short = l }
+
+pub read_again : ReadIsReadAgain
+read_again v w =
+    let q = collect w.accepted.content w.accepted.written tt in
+    let c : Canonical Envelope [] w.inner = subst (Canonical Envelope []) (sym w.accepted.value) (canonical_of Envelope [] w.accepted.all q.0 q.1) in
+    subst IsEncodedCanonically (sym w.whole) (encoded (opens mos_name [] ∷ (w.inner ++ closes mos_name ∷ [])) (message_again w.inner c))

@@ -1,0 +1,19 @@
+-- What holds of the canonical encodings of messages.
+use Rattle.std.specs.Prelude.{◌≡◌, true, List, length, ◌≤◌}
+use Rattle.mos_fields.specs.Characters.{are_allowed, units_of}
+use Rattle.mos_tables.specs.Events.{Event}
+use Rattle.mos_tables.specs.Canonical.{canonical}
+use Rattle.mos_tables.specs.declared.table.Table.TheVariants.{Envelope}
+use Rattle.mos_grammar.specs.Streams.{mos_name}
+use Rattle.mos_lexer.specs.Encodings.{Encodes}
+use Rattle.mos_lexer.specs.Units.{message_limit}
+use Rattle.mos_cursor.specs.Accepted.{IsWhole}
+
+-- The canonical encoding of the message with this value is an encoding of it, where its characters are allowed and it is
+-- not too long.
+abbrev pub IsEncodedCanonically : List Event → Type 0
+IsEncodedCanonically v = are_allowed (canonical v) ≡ true → length (units_of (canonical v)) ≤ message_limit → Encodes v (units_of (canonical v))
+
+-- What was read is read again: the canonical encoding of a message's value is an encoding of it.
+abbrev pub ReadIsReadAgain : Type 0
+ReadIsReadAgain = (v : List Event) → IsWhole Envelope mos_name v → IsEncodedCanonically v
