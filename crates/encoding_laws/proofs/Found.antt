@@ -17,10 +17,10 @@ use Rattle.mos_cursor.proofs.Columns.{same_field-same, same_field-sym, same_fiel
 use Rattle.encoding_laws.proofs.Arranged.{put, select, select_flat, written_children, written_flat, by_columns, same_has}
 use Rattle.encoding_laws.proofs.Lean.{IsApart}
 
-found_append : (f : Field) (xs ys : List Child) → found f (xs ++ ys) ≡ found f xs ++ found f ys
+pub found_append : (f : Field) (xs ys : List Child) → found f (xs ++ ys) ≡ found f xs ++ found f ys
 found_append f xs ys = flat_map-append (λ (c : Child). cond (same_field f c.0) c.1 []) xs ys
 
-flat_append : (xs ys : List Child) → flat (xs ++ ys) ≡ flat xs ++ flat ys
+pub flat_append : (xs ys : List Child) → flat (xs ++ ys) ≡ flat xs ++ flat ys
 flat_append xs ys = flat_map-append (λ (c : Child). c.1) xs ys
 
 -- ---- in order

@@ -7,3 +7,4 @@ pub mod Found
 pub mod Ordered
 pub mod Collected
 pub mod Again
+pub mod Assembled

@@ -39,11 +39,11 @@ pub record Builds (t : Table) (taken : List Text) (b new : List Child) : Type 0 
   pub written : WritesFront tokens (canonical (flat new))
   pub content : Content t taken b (b ++ new) tokens
 
-builds_end : (t : Table) (taken : List Text) (b : List Child) → end_fault t b ≡ None → Builds t taken b []
+pub builds_end : (t : Table) (taken : List Text) (b : List Child) → end_fault t b ≡ None → Builds t taken b []
 unfolding canonical
 builds_end t taken b e = record { tokens = []; written = no_front; content = subst (λ (z : List Child). Content t taken b z []) (sym (append-nil b)) (ends e) }
 
-builds_child : (t : Table) (taken : List Text) (p b new : List Child) (n : Text) (x : Child) → Piece t taken p n x → Opens t b n → aim_of b ≡ aim_of p → keys t b ≡ keys t p → Builds t taken (b ++ x ∷ []) new → Builds t taken b (x ∷ new)
+pub builds_child : (t : Table) (taken : List Text) (p b new : List Child) (n : Text) (x : Child) → Piece t taken p n x → Opens t b n → aim_of b ≡ aim_of p → keys t b ≡ keys t p → Builds t taken (b ++ x ∷ []) new → Builds t taken b (x ∷ new)
 builds_child t taken p b new n x i o a k w = record {
   tokens = i.tokens ++ w.tokens;
   written = subst (WritesFront (i.tokens ++ w.tokens)) (sym (canonical_append x.1 (flat new))) (both_fronts i.tokens w.tokens (canonical x.1) (canonical (flat new)) i.written w.written);
@@ -76,7 +76,7 @@ kept_quiet t x = record { no_group_end = and_false (is_ack t); no_target = refl;
 pub no_kept : (t : Table) → AllByRecursion (IsApart fields.Kept) (columns t)
 no_kept t = apart_of fields.Kept (columns t) (table_facts t).3
 
-other_opens : (t : Table) (b : List Child) (n : Text) → column_of (columns t) n ≡ None → Opens t b n
+pub other_opens : (t : Table) (b : List Child) (n : Text) → column_of (columns t) n ≡ None → Opens t b n
 other_opens t b n e = record {
   outside = ap (λ (z : Option Column). if_field z (field_fault (columns t) (seen_of t b) n)) e;
   room = subst (HasRoom (seen_of t b)) (sym e) tt;
@@ -183,7 +183,7 @@ false_sym f g h = go (same_field g f) refl
     go true e = let p = same_field-sym g f e in cc
     go false e = refl
 
-earlier_apart : (ps : List Column) (c : Column) (cs : List Column) → distinct (ps ++ c ∷ cs) ≡ true → has ps c.field ≡ false
+pub earlier_apart : (ps : List Column) (c : Column) (cs : List Column) → distinct (ps ++ c ∷ cs) ≡ true → has ps c.field ≡ false
 earlier_apart [] c cs d = refl
 earlier_apart (p ∷ ps) c cs d =
     let u = no_true (has (ps ++ c ∷ cs) p.field) (distinct (ps ++ c ∷ cs)) d in
@@ -286,7 +286,7 @@ still_seen (c ∷ cs) s f h = go (nat_lt 0 (times c.field s)) refl h (λ e. stil
 
 -- ---- child after child
 
-fields_push : (cs : List Child) (c : Child) → fields_of (cs ++ c ∷ []) ≡ fields_of cs ++ c.0 ∷ []
+pub fields_push : (cs : List Child) (c : Child) → fields_of (cs ++ c ∷ []) ≡ fields_of cs ++ c.0 ∷ []
 fields_push [] c = refl
 fields_push (d ∷ cs) c = ap (λ (z : List Field). d.0 ∷ z) (fields_push cs c)
 
