@@ -1,9 +1,10 @@
 -- A record from the children of its columns, one column after another.
-use Rattle.std.proofs.Common.{◌≡◌, ℕ, ◌≤◌, ◌<◌, ◌+◌, Bool, true, false, cond, List, [], ◌∷◌, ◌++◌, length, Option, Some, None, refl, sym, ap, subst, ◌∙◌, append_assoc, arith}
+use Rattle.std.proofs.Common.{◌≡◌, ℕ, ◌≤◌, ◌<◌, ◌+◌, Bool, true, false, cond, List, [], ◌∷◌, ◌++◌, length, Option, Some, None, refl, sym, ap, subst, ◌∙◌, append_assoc, arith, inl, inr}
 use Rattle.std.specs.Prelude.{◌&&◌, nat_lt, nat_le}
 use Rattle.std.specs.List.{AllByRecursion, flat_map}
 use Rattle.std.proofs.lemmas.List.{append-nil}
 use Rattle.std.proofs.lemmas.Bool.{ltb-true, lt-ltb, lt-leb}
+use Rattle.std.proofs.lemmas.Bool.Decides.{leb_tells}
 use Rattle.mos_fields.specs.Characters.{Text}
 use Rattle.mos_fields.specs.Fields.{same_field}
 use Rattle.mos_fields.specs.declared.field.Field.{Field}
@@ -31,7 +32,7 @@ use Rattle.encoding_laws.proofs.Admitted.{HasRoom, Opens}
 use Rattle.encoding_laws.proofs.Pieces.{Piece, Canonical}
 use Rattle.encoding_laws.proofs.Arranged.{same_has}
 use Rattle.encoding_laws.proofs.Found.{found_append, flat_append}
-use Rattle.encoding_laws.proofs.Ordered.{Builds, builds_end, builds_child, KeptPiece, kept_piece, other_opens, earlier_apart, fields_push}
+use Rattle.encoding_laws.proofs.Ordered.{Builds, builds_end, builds_child, KeptPiece, kept_piece, put_kept, other_opens, earlier_apart, fields_push}
 
 -- ---- the children of a column
 
@@ -188,7 +189,7 @@ kept_walk t taken P (x ∷ xs) b step w h = subst (λ (z : List Child). P (field
 -- ---- in order
 
 abbrev IsOf : Field → Child → Type 0
-IsOf f x = x.0 ≡ f
+IsOf f x = same_field f x.0 ≡ true
 
 abbrev InOrder : List Column → List Child → Type 0
 InOrder [] all = all ≡ []
@@ -197,13 +198,13 @@ InOrder (d ∷ ds) all = (xs : List Child) × (r : List Child) × (all ≡ xs ++
 found_all : (f g : Field) (xs : List Child) → same_field f g ≡ true → AllByRecursion (IsOf g) xs → found f xs ≡ flat xs
 found_all f g [] e a = refl
 found_all f g (x ∷ xs) e a =
-    let k : same_field f x.0 ≡ true = ap (same_field f) a.0 ∙ e in
+    let k : same_field f x.0 ≡ true = same_field-first f g x.0 e ∙ a.0 in
     rw k (ap (λ (z : List Event). x.1 ++ z) (found_all f g xs e a.1))
 
 found_none : (f g : Field) (xs : List Child) → same_field f g ≡ false → AllByRecursion (IsOf g) xs → found f xs ≡ []
 found_none f g [] e a = refl
 found_none f g (x ∷ xs) e a =
-    let k : same_field f x.0 ≡ false = ap (same_field f) a.0 ∙ e in
+    let k : same_field f x.0 ≡ false = sym (same_field-other g x.0 f a.0) ∙ e in
     rw k (found_none f g xs e a.1)
 
 false_sym : (f g : Field) → same_field f g ≡ false → same_field g f ≡ false
@@ -267,8 +268,104 @@ no_kept_real (d ∷ ds) = go (same_field d.field fields.Kept) refl (no_kept_real
 
 column_places : (t : Table) (taken : List Text) (b : List Child) (c : Column) (xs : List Child) → ColumnPieces t taken b c xs → AllByRecursion (IsOf c.field) xs
 column_places t taken b c [] w = tt
-column_places t taken b c (x ∷ xs) w = (w.0.place, column_places t taken (b ++ x ∷ []) c xs w.1)
+column_places t taken b c (x ∷ xs) w = (ap (same_field c.field) w.0.place ∙ same_field-same c.field, column_places t taken (b ++ x ∷ []) c xs w.1)
 
-kept_places : (t : Table) (taken : List Text) (f : Field) (xs : List Child) → f ≡ fields.Kept → AllByRecursion (KeptPiece t taken) xs → AllByRecursion (IsOf f) xs
+kept_places : (t : Table) (taken : List Text) (f : Field) (xs : List Child) → same_field f fields.Kept ≡ true → AllByRecursion (KeptPiece t taken) xs → AllByRecursion (IsOf f) xs
 kept_places t taken f [] e w = tt
-kept_places t taken f (x ∷ xs) e w = (kept_place t taken x w.0 ∙ sym e, kept_places t taken f xs e w.1)
+kept_places t taken f (x ∷ xs) e w = (ap (same_field f) (kept_place t taken x w.0) ∙ e, kept_places t taken f xs e w.1)
+
+-- what children of one field leave of the fields seen
+column_after : (t : Table) (taken : List Text) (P : List Field → Type 0) (c : Column) (xs b : List Child) → ((s : List Field) → P s → P (s ++ c.field ∷ [])) → ColumnPieces t taken b c xs → P (fields_of b) → P (fields_of (b ++ xs))
+column_after t taken P c [] b step w h = subst (λ (z : List Child). P (fields_of z)) (sym (append-nil b)) h
+column_after t taken P c (x ∷ xs) b step w h = subst (λ (z : List Child). P (fields_of z)) (append_assoc b (x ∷ []) xs) (column_after t taken P c xs (b ++ x ∷ []) step w.1 (pushed_field P b x c.field w.0.place (step (fields_of b) h)))
+
+times_after : (t : Table) (taken : List Text) (c : Column) (xs b : List Child) → ColumnPieces t taken b c xs → times c.field (fields_of (b ++ xs)) ≡ times c.field (fields_of b) + length xs
+times_after t taken c [] b w = ap (λ (z : List Child). times c.field (fields_of z)) (append-nil b) ∙ omega arith
+times_after t taken c (x ∷ xs) b w =
+    let k : times c.field (fields_of (b ++ x ∷ [])) ≡ times c.field (fields_of b) + 1 = pushed_field (λ (z : List Field). times c.field z ≡ times c.field (fields_of b) + 1) b x c.field w.0.place (times_last c.field (fields_of b)) in
+    let ih : times c.field (fields_of ((b ++ x ∷ []) ++ xs)) ≡ times c.field (fields_of (b ++ x ∷ [])) + length xs = times_after t taken c xs (b ++ x ∷ []) w.1 in
+    ap (λ (z : List Child). times c.field (fields_of z)) (sym (append_assoc b (x ∷ []) xs)) ∙ ih ∙ omega (arith, k)
+
+none_yet : (k : ℕ) → nat_lt 0 k ≡ false → k ≤ 0
+none_yet k e = elim (leb_tells 1 k) [ inl p ↦ absurd (let q : nat_lt 0 k ≡ true = lt-ltb 0 k (omega (arith, p.1)) in (let z : true ≡ false = sym q ∙ e in cc)) | inr p ↦ omega (arith, p.1) ]
+
+end_here : (t : Table) (b : List Child) → is_ack t ≡ false → lacking (columns t) (fields_of b) ≡ None → end_fault t b ≡ None
+unfolding end_fault
+end_here t b a l =
+    let w : wanted t (seen_of t b) ≡ columns t = rw a refl in
+    ap (λ (z : List Column). lacking z (seen_of t b)) w ∙ ap (lacking (columns t)) (seen_is t b a) ∙ l
+
+joined_events : (xs new : List Child) (es : List Event) (ess : List (List Event)) → flat xs ≡ es → flat new ≡ joined ess → flat (xs ++ new) ≡ es ++ joined ess
+joined_events xs new es ess e f = flat_append xs new ∙ ap (λ (z : List Event). z ++ flat new) e ∙ ap (λ (z : List Event). es ++ z) f
+
+-- the rest behind a column, from what was seen
+abbrev Further : Table → List Text → List Column → List (List Event) → List Child → Type 0
+Further t taken ds ess b = (ps : List Column) → columns t ≡ ps ++ reals ds → lacking ps (fields_of b) ≡ None → any_seen (reals ds) (fields_of b) ≡ false → Assembly t taken b ds ess
+
+behind_kept : (t : Table) (taken : List Text) (d : Column) (ds ps : List Column) (es : List Event) (ess : List (List Event)) (b : List Child) → same_field d.field fields.Kept ≡ true → columns t ≡ ps ++ reals ds → lacking ps (fields_of b) ≡ None → any_seen (reals ds) (fields_of b) ≡ false
+    → (xs : List Child) → flat xs ≡ es → AllByRecursion (KeptPiece t taken) xs → Further t taken ds ess (b ++ xs) → Assembly t taken b (d ∷ ds) (es ∷ ess)
+behind_kept t taken d ds ps es ess b k e l u xs f w more =
+    let l2 : lacking ps (fields_of (b ++ xs)) ≡ None = kept_walk t taken (λ (z : List Field). lacking ps z ≡ None) xs b (λ s h. lacking_more ps s fields.Kept h) w l in
+    let u2 : any_seen (reals ds) (fields_of (b ++ xs)) ≡ false = kept_walk t taken (λ (z : List Field). any_seen (reals ds) z ≡ false) xs b (λ s h. any_seen_other (reals ds) s fields.Kept h (no_kept_real ds)) w u in
+    let r = more ps e l2 u2 in
+    record {
+      new = xs ++ r.new;
+      built = put_kept t taken xs b r.new w r.built;
+      events = joined_events xs r.new es ess f r.events;
+      order = (xs, r.new, refl, kept_places t taken d.field xs k w, r.order);
+    }
+
+behind_column : (t : Table) (taken : List Text) (d : Column) (ds ps : List Column) (es : List Event) (ess : List (List Event)) (b : List Child) → is_ack t ≡ false → columns t ≡ ps ++ d ∷ reals ds → lacking ps (fields_of b) ≡ None → any_seen (d ∷ reals ds) (fields_of b) ≡ false
+    → (xs : List Child) → flat xs ≡ es → ColumnPieces t taken b d xs → Most d.often (length xs) → least_count d.often ≤ length xs → Further t taken ds ess (b ++ xs) → Assembly t taken b (d ∷ ds) (es ∷ ess)
+behind_column t taken d ds ps es ess b a e l u xs f w m n more =
+    let q = or_false (nat_lt 0 (times d.field (fields_of b))) (any_seen (reals ds) (fields_of b)) u in
+    let y : distinct (ps ++ d ∷ reals ds) ≡ true = ap distinct (sym e) ∙ (table_facts t).0 in
+    let h : has (reals ds) d.field ≡ false = later_apart ps d (reals ds) y in
+    let z : times d.field (fields_of b) ≤ 0 = none_yet (times d.field (fields_of b)) q.0 in
+    let l2 : lacking ps (fields_of (b ++ xs)) ≡ None = column_after t taken (λ (z : List Field). lacking ps z ≡ None) d xs b (λ s k. lacking_more ps s d.field k) w l in
+    let u2 : any_seen (reals ds) (fields_of (b ++ xs)) ≡ false = column_after t taken (λ (z : List Field). any_seen (reals ds) z ≡ false) d xs b (λ s k. any_seen_other (reals ds) s d.field k h) w q.1 in
+    let k : times d.field (fields_of (b ++ xs)) ≡ times d.field (fields_of b) + length xs = times_after t taken d xs b w in
+    let o : lacks d (fields_of (b ++ xs)) ≡ false = not_true (lacks d (fields_of (b ++ xs))) (λ v. absurd (omega (arith, n, k, ltb-true (times d.field (fields_of (b ++ xs))) (least_count d.often) v))) in
+    let r = more (ps ++ d ∷ []) (e ∙ sym (append_assoc ps (d ∷ []) (reals ds))) (lacking_last ps d (fields_of (b ++ xs)) l2 o) u2 in
+    record {
+      new = xs ++ r.new;
+      built = column_walk t taken ps d (reals ds) (length xs) xs b r.new a e h m w l q.1 (omega (arith, z)) (λ v1 v2 v3. r.built);
+      events = joined_events xs r.new es ess f r.events;
+      order = (xs, r.new, refl, column_places t taken b d xs w, r.order);
+    }
+
+assemble : (t : Table) (taken : List Text) (ds : List Column) (ess : List (List Event)) (ps : List Column) (b : List Child) → is_ack t ≡ false → columns t ≡ ps ++ reals ds → lacking ps (fields_of b) ≡ None → any_seen (reals ds) (fields_of b) ≡ false → Segments t taken b ds ess
+    → Assembly t taken b ds ess
+assemble t taken [] [] ps b a e l u w = record { new = []; built = builds_end t taken b (end_here t b a (ap (λ (z : List Column). lacking z (fields_of b)) (e ∙ append-nil ps) ∙ l)); events = refl; order = refl }
+assemble t taken [] (es ∷ ess) ps b a e l u w = absurd w
+assemble t taken (d ∷ ds) [] ps b a e l u w = absurd w
+assemble t taken (d ∷ ds) (es ∷ ess) ps b a e l u w =
+    go (same_field d.field fields.Kept) refl e u w.0.pieces (λ qs e2 l2 u2. assemble t taken ds ess qs (b ++ w.0.children) a e2 l2 u2 w.1)
+  where
+    go : (k : Bool) → same_field d.field fields.Kept ≡ k → columns t ≡ ps ++ cond k (reals ds) (d ∷ reals ds) → any_seen (cond k (reals ds) (d ∷ reals ds)) (fields_of b) ≡ false → PiecesFor k t taken b d w.0.children → Further t taken ds ess (b ++ w.0.children)
+        → Assembly t taken b (d ∷ ds) (es ∷ ess)
+    go true k e u i more = behind_kept t taken d ds ps es ess b k e l u w.0.children w.0.events i more
+    go false k e u i more = behind_column t taken d ds ps es ess b a e l u w.0.children w.0.events i w.0.few w.0.enough more
+
+none_seen : (cs : List Column) → any_seen cs [] ≡ false
+none_seen [] = refl
+none_seen (c ∷ cs) = none_seen cs
+
+arranged_so : (t : Table) (all : List Child) → is_ack t ≡ false → arranged t all ≡ flat_map (λ (c : Column). column_events c.field all) (columns t)
+unfolding arranged
+arranged_so t all a = rw a refl
+
+pub assembled : (t : Table) (taken : List Text) (ess : List (List Event)) → is_ack t ≡ false → Segments t taken [] (places (columns t)) ess → Canonical t taken (joined ess)
+assembled t taken ess a w =
+    let f = places_right t in
+    let r = assemble t taken (places (columns t)) ess [] [] a (sym f.1) refl (none_seen (reals (places (columns t)))) w in
+    record {
+      children = r.new;
+      tokens = r.built.tokens;
+      content = r.built.content;
+      written = subst (λ (z : List Event). WritesFront r.built.tokens (canonical z)) r.events r.built.written;
+      value = in_columns r.new ∙ places_value r.new (columns t) ∙ order_value (places (columns t)) r.new f.0 r.order ∙ r.events;
+    }
+  where
+    in_columns : (all : List Child) → arranged t all ≡ flat_map (λ (c : Column). column_events c.field all) (columns t)
+    in_columns all = arranged_so t all a

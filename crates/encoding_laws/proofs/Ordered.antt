@@ -123,7 +123,7 @@ kept_children t taken p (c ∷ cs) w = go c w.0 (kept_children t taken (p ++ c �
         two false e = ih
     go d (in_others c (kept_piece n x k o i)) ih = (kept_piece n x k o i, ih)
 
-put_kept : (t : Table) (taken : List Text) (ks b new : List Child) → AllByRecursion (KeptPiece t taken) ks → Builds t taken (b ++ ks) new → Builds t taken b (ks ++ new)
+pub put_kept : (t : Table) (taken : List Text) (ks b new : List Child) → AllByRecursion (KeptPiece t taken) ks → Builds t taken (b ++ ks) new → Builds t taken b (ks ++ new)
 put_kept t taken [] b new a w = subst (λ (z : List Child). Builds t taken z new) (append-nil b) w
 put_kept t taken (k ∷ ks) b new a w = go k a.0 (put_kept t taken ks (b ++ k ∷ []) new a.1 (subst (λ (z : List Child). Builds t taken z new) (sym (append_assoc b (k ∷ []) ks)) w))
   where
