@@ -8,3 +8,5 @@ pub mod Ordered
 pub mod Collected
 pub mod Again
 pub mod Assembled
+pub mod KindSegments
+pub mod Texts
