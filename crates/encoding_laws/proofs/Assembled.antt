@@ -14,13 +14,15 @@ use Rattle.mos_tables.specs.declared.aim.Aim.TheVariants.{Nowhere, AtStory, AtIt
 use Rattle.mos_tables.specs.declared.table.Table.TheVariants as tables
 use Rattle.mos_grammar.specs.declared.fault.Fault.{Fault}
 use Rattle.mos_tables.specs.declared.column.Column.{Column}
+use Rattle.mos_tables.specs.declared.column.Shape.{Shape}
+use Rattle.mos_tables.specs.declared.column.Shape.TheVariants.{Leaf, Raw, Record, Message}
 use Rattle.mos_tables.specs.declared.column.Often.{Often}
 use Rattle.mos_tables.specs.declared.column.Often.TheVariants.{One, Optional, Any, Many, Count}
 use Rattle.mos_tables.specs.declared.table.Table.{Table}
 use Rattle.mos_tables.specs.Events.{Event, raw}
 use Rattle.mos_tables.specs.Canonical.{canonical}
 use Rattle.mos_tables.specs.Tables.{columns, is_ack}
-use Rattle.mos_grammar.specs.Records.{Child, times, seen_of, least_count, is_single, is_full, is_named, column_of, before_column, any_seen, lacks, lacking, repeated, or_else, field_fault, if_field, outside_fault, wanted, end_fault, flat, found, column_events, arranged}
+use Rattle.mos_grammar.specs.Records.{Child, times, seen_of, least_count, is_single, is_full, is_named, column_of, before_column, any_seen, lacks, lacking, repeated, or_else, field_fault, if_field, outside_fault, wanted, end_fault, flat, found, column_events, arranged, key_of}
 use Rattle.mos_grammar.proofs.Seen.{or_false, no_true, not_true, has, distinct, answers, later_apart, column_at, columns_before, repeated_at, lacking_more, lacking_last, any_seen_other, times_last, times_other, times_push}
 use Rattle.mos_grammar.proofs.Complete.{table_facts}
 use Rattle.mos_cursor.specs.Parts.{kept_column, places}
@@ -52,6 +54,15 @@ abbrev pub PiecesFor : Bool → Table → List Text → List Child → Column �
 PiecesFor false t taken b c xs = ColumnPieces t taken b c xs
 PiecesFor true t taken b c xs = AllByRecursion (KeptPiece t taken) xs
 
+-- the column holds records
+abbrev pub holds_records : Shape → Bool
+holds_records (Record u) = true
+holds_records Message = true
+holds_records s = false
+
+abbrev pub HasNoKey : Child → Type 0
+HasNoKey x = key_of x.1 ≡ []
+
 -- The events are those of children of the column, as many as it asks for.
 pub record Segment (t : Table) (taken : List Text) (b : List Child) (c : Column) (es : List Event) : Type 0 where
   pub children : List Child
@@ -59,6 +70,7 @@ pub record Segment (t : Table) (taken : List Text) (b : List Child) (c : Column)
   pub pieces : PiecesFor (same_field c.field fields.Kept) t taken b c children
   pub few : Most c.often (length children)
   pub enough : least_count c.often ≤ length children
+  pub keyless : holds_records c.shape ≡ false → AllByRecursion HasNoKey children
 
 -- for each column its events
 abbrev pub Segments : Table → List Text → List Child → List Column → List (List Event) → Type 0

@@ -31,7 +31,7 @@ use Rattle.mos_values.specs.Parts.{must, maybe, maybe_as, must_raw, maybe_raw, r
 use Rattle.encoding_laws.proofs.Admitted.{given_again, role_of_other, raw_of_column, record_admitted}
 use Rattle.encoding_laws.proofs.Pieces.{Piece, leaf_piece, RawTokens, whole_raw, empty_raw, raw_piece, Canonical, record_piece}
 use Rattle.encoding_laws.proofs.Ordered.{KeptPiece, kept_piece}
-use Rattle.encoding_laws.proofs.Assembled.{ColumnPiece, ColumnPieces, PiecesFor, Segment}
+use Rattle.encoding_laws.proofs.Assembled.{ColumnPiece, ColumnPieces, PiecesFor, holds_records, HasNoKey, Segment}
 
 pub field_named : (f : Field) → is_empty (name_of f) ≡ false → named [] (name_of f) ≡ true
 unfolding may_grow
@@ -144,8 +144,12 @@ raw_tokens n x (raws_as.raw_whole {x = z} {y = y} m t h) =
 
 -- ---- segments
 
-segment_of : (t : Table) (taken : List Text) (b : List Child) (c : Column) (xs : List Child) → same_field c.field fields.Kept ≡ false → ColumnPieces t taken b c xs → Most c.often (length xs) → least_count c.often ≤ length xs → Segment t taken b c (flat xs)
-segment_of t taken b c xs k w m l = record { children = xs; events = refl; pieces = subst (λ (z : Bool). PiecesFor z t taken b c xs) (sym k) w; few = m; enough = l }
+abbrev pub segment_of : (t : Table) (taken : List Text) (b : List Child) (c : Column) (xs : List Child) → same_field c.field fields.Kept ≡ false → ColumnPieces t taken b c xs → Most c.often (length xs) → least_count c.often ≤ length xs
+    → (holds_records c.shape ≡ false → AllByRecursion HasNoKey xs) → Segment t taken b c (flat xs)
+segment_of t taken b c xs k w m l q = record { children = xs; events = refl; pieces = subst (λ (z : Bool). PiecesFor z t taken b c xs) (sym k) w; few = m; enough = l; keyless = q }
+
+records_hold : {A : Type 0} → true ≡ false → A
+records_hold e = absurd (let p = e in cc)
 
 abbrev pub is_key : Form → Bool
 is_key forms.Key = true
@@ -161,7 +165,7 @@ reads_beside f taken x k h = h
 abbrev pub IsTextColumn : Table → Field → Form → Often → Type 0
 IsTextColumn t f form o = (column_of (columns t) (name_of f) ≡ Some (column f (Leaf form) o)) × (attribute_of_form form ≡ None) × (same_field f fields.Kept ≡ false) × (is_empty (name_of f) ≡ false)
 
-text_piece : (t : Table) (taken : List Text) (b : List Child) (f : Field) (form : Form) (o : Often) (x : Text) → IsTextColumn t f form o → reads form taken x ≡ Some x → ColumnPiece t taken b (column f (Leaf form) o) (f, leaf (name_of f) [] x ∷ [])
+pub text_piece : (t : Table) (taken : List Text) (b : List Child) (f : Field) (form : Form) (o : Often) (x : Text) → IsTextColumn t f form o → reads form taken x ≡ Some x → ColumnPiece t taken b (column f (Leaf form) o) (f, leaf (name_of f) [] x ∷ [])
 text_piece t taken b f form o x i r = record {
   name = name_of f;
   named = i.0;
@@ -171,7 +175,7 @@ text_piece t taken b f form o x i r = record {
 
 one_text : (t : Table) (taken : List Text) (b : List Child) (f : Field) (form : Form) (o : Often) (x : Text) → IsTextColumn t f form o → reads form taken x ≡ Some x → Most o 1 → least_count o ≤ 1 → Segment t taken b (column f (Leaf form) o) (must f x)
 unfolding must
-one_text t taken b f form o x i r m l = segment_of t taken b (column f (Leaf form) o) ((f, leaf (name_of f) [] x ∷ []) ∷ []) i.2 (text_piece t taken b f form o x i r, tt) m l
+one_text t taken b f form o x i r m l = segment_of t taken b (column f (Leaf form) o) ((f, leaf (name_of f) [] x ∷ []) ∷ []) i.2 (text_piece t taken b f form o x i r, tt) m l (λ e. (refl, tt))
 
 pub key_segment : (t : Table) (taken : List Text) (b : List Child) (f : Field) (form : Form) (x : Text) → IsTextColumn t f form One → reads form taken x ≡ Some x → Segment t taken b (required f form) (must f x)
 key_segment t taken b f form x i r = one_text t taken b f form One x i r (omega arith) (omega arith)
@@ -180,7 +184,7 @@ pub must_segment : (t : Table) (taken : List Text) (b : List Child) (f : Field) 
 must_segment t taken b f form x i k r = one_text t taken b f form One x i (reads_beside form taken x k r) (omega arith) (omega arith)
 
 none_segment : (t : Table) (taken : List Text) (b : List Child) (c : Column) → same_field c.field fields.Kept ≡ false → Most c.often 0 → least_count c.often ≤ 0 → Segment t taken b c []
-none_segment t taken b c k m l = segment_of t taken b c [] k tt m l
+none_segment t taken b c k m l = segment_of t taken b c [] k tt m l (λ e. tt)
 
 -- a text that may be absent
 abbrev pub MaybeReads : Form → Option Text → Type 0
@@ -215,8 +219,13 @@ unfolding raw_children raws
 raw_flat f [] = refl
 raw_flat f (x ∷ xs) = ap (λ (z : List Event). raw f x ∷ z) (raw_flat f xs)
 
+raw_keyless : (f : Field) (xs : List Text) → AllByRecursion HasNoKey (raw_children f xs)
+unfolding raw_children
+raw_keyless f [] = tt
+raw_keyless f (x ∷ xs) = (refl, raw_keyless f xs)
+
 pub raws_segment : (t : Table) (taken : List Text) (b : List Child) (f : Field) (xs : List Text) → IsRawColumn t f Any → AllByRecursion (IsRaw (name_of f)) xs → Segment t taken b (column f Raw Any) (raws f xs)
-raws_segment t taken b f xs i a = subst (Segment t taken b (column f Raw Any)) (raw_flat f xs) (segment_of t taken b (column f Raw Any) (raw_children f xs) i.1 (raw_pieces t taken b f Any xs i a) tt (omega arith))
+raws_segment t taken b f xs i a = subst (Segment t taken b (column f Raw Any)) (raw_flat f xs) (segment_of t taken b (column f Raw Any) (raw_children f xs) i.1 (raw_pieces t taken b f Any xs i a) tt (omega arith) (λ e. raw_keyless f xs))
 
 abbrev pub MaybeRaw : Field → Option Text → Type 0
 MaybeRaw f None = Unit {0}
@@ -224,12 +233,12 @@ MaybeRaw f (Some x) = IsRaw (name_of f) x
 
 pub must_raw_segment : (t : Table) (taken : List Text) (b : List Child) (f : Field) (x : Text) → IsRawColumn t f One → IsRaw (name_of f) x → Segment t taken b (column f Raw One) (must_raw f x)
 unfolding must_raw
-must_raw_segment t taken b f x i r = segment_of t taken b (column f Raw One) ((f, raw f x ∷ []) ∷ []) i.1 (one_raw t taken b f One x i r, tt) (omega arith) (omega arith)
+must_raw_segment t taken b f x i r = segment_of t taken b (column f Raw One) ((f, raw f x ∷ []) ∷ []) i.1 (one_raw t taken b f One x i r, tt) (omega arith) (omega arith) (λ e. (refl, tt))
 
 pub maybe_raw_segment : (t : Table) (taken : List Text) (b : List Child) (f : Field) (x : Option Text) → IsRawColumn t f Optional → MaybeRaw f x → Segment t taken b (column f Raw Optional) (maybe_raw f x)
 unfolding maybe_raw must_raw
 maybe_raw_segment t taken b f None i r = none_segment t taken b (column f Raw Optional) i.1 (omega arith) (omega arith)
-maybe_raw_segment t taken b f (Some x) i r = segment_of t taken b (column f Raw Optional) ((f, raw f x ∷ []) ∷ []) i.1 (one_raw t taken b f Optional x i r, tt) (omega arith) (omega arith)
+maybe_raw_segment t taken b f (Some x) i r = segment_of t taken b (column f Raw Optional) ((f, raw f x ∷ []) ∷ []) i.1 (one_raw t taken b f Optional x i r, tt) (omega arith) (omega arith) (λ e. (refl, tt))
 
 -- elements of other names
 abbrev pub IsKeptRaw : Table → Text → Type 0
@@ -244,7 +253,7 @@ kept_pieces t taken (x ∷ xs) a =
     (kept_piece r.0 x r.2 r.3 (λ q. raw_piece t taken q r.0 fields.Kept x k.0 (λ b g h. role_of_other t b r.0 g r.2 ∙ ap other_role r.3) refl k.1), kept_pieces t taken xs a.1)
 
 pub kept_segment : (t : Table) (taken : List Text) (b : List Child) (xs : List Text) → AllByRecursion (IsKeptRaw t) xs → Segment t taken b kept_column (raws fields.Kept xs)
-kept_segment t taken b xs a = record { children = raw_children fields.Kept xs; events = raw_flat fields.Kept xs; pieces = kept_pieces t taken xs a; few = tt; enough = omega arith }
+kept_segment t taken b xs a = record { children = raw_children fields.Kept xs; events = raw_flat fields.Kept xs; pieces = kept_pieces t taken xs a; few = tt; enough = omega arith; keyless = λ e. raw_keyless fields.Kept xs }
 
 -- ---- records
 
@@ -294,12 +303,12 @@ pub records_segment : {A : Type 0} (t : Table) (taken : List Text) (b : List Chi
 records_segment {A = A} t taken b f u o inner xs i d w m l =
     let n : length xs ≡ length (record_children f inner xs) = sym (records_length f inner xs) in
     subst (Segment t taken b (column f (Record u) o)) (records_flat f inner xs)
-    (segment_of t taken b (column f (Record u) o) (record_children f inner xs) i.1 (record_pieces t taken b f u o inner xs i d w) (subst (Most o) n m) (subst (λ (z : ℕ). least_count o ≤ z) n l))
+    (segment_of t taken b (column f (Record u) o) (record_children f inner xs) i.1 (record_pieces t taken b f u o inner xs i d w) (subst (Most o) n m) (subst (λ (z : ℕ). least_count o ≤ z) n l) (λ e. records_hold e))
 
 pub record_segment : (t : Table) (taken : List Text) (b : List Child) (f : Field) (u : Table) (o : Often) (g : List Attribute) (es : List Event) → IsRecordColumn t f u o → IsGiven (attribute_of_table u) g → Canonical (with_aim b u) (keys t b) es
     → Most o 1 → least_count o ≤ 1 → Segment t taken b (column f (Record u) o) (element_with (name_of f) g es)
 record_segment t taken b f u o g es i d w m l =
-    subst (Segment t taken b (column f (Record u) o)) (append-nil (element_with (name_of f) g es)) (segment_of t taken b (column f (Record u) o) (record_child f g es ∷ []) i.1 (record_piece_of t taken b f u o g es i d w, tt) m l)
+    subst (Segment t taken b (column f (Record u) o)) (append-nil (element_with (name_of f) g es)) (segment_of t taken b (column f (Record u) o) (record_child f g es ∷ []) i.1 (record_piece_of t taken b f u o g es i d w, tt) m l (λ e. records_hold e))
 
 pub absent_segment : (t : Table) (taken : List Text) (b : List Child) (f : Field) (s : Shape) (o : Often) → same_field f fields.Kept ≡ false → Most o 0 → least_count o ≤ 0 → Segment t taken b (column f s o) []
 absent_segment t taken b f s o k m l = none_segment t taken b (column f s o) k m l

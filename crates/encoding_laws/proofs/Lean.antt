@@ -95,7 +95,7 @@ aim_other cs c e =
     let p : aim_of (c ∷ []) ≡ Nowhere = rw e refl in
     aim_push cs c ∙ ap (first_aim (aim_of cs)) p ∙ first_nowhere (aim_of cs)
 
-keys_push : (t : Table) (cs : List Child) (c : Child) → keys t (cs ++ c ∷ []) ≡ keys t cs ++ cond (has_keys t) (key_of c.1) []
+pub keys_push : (t : Table) (cs : List Child) (c : Child) → keys t (cs ++ c ∷ []) ≡ keys t cs ++ cond (has_keys t) (key_of c.1) []
 unfolding keys
 keys_push t cs c = go (has_keys t)
   where
@@ -106,7 +106,7 @@ keys_push t cs c = go (has_keys t)
     go true = flat_map-append key cs (c ∷ []) ∙ ap (λ (z : List Text). flat_map key cs ++ z) (append-nil (key_of c.1))
     go false = refl
 
-keys_other : (t : Table) (cs : List Child) (c : Child) → key_of c.1 ≡ [] → keys t (cs ++ c ∷ []) ≡ keys t cs
+pub keys_other : (t : Table) (cs : List Child) (c : Child) → key_of c.1 ≡ [] → keys t (cs ++ c ∷ []) ≡ keys t cs
 keys_other t cs c e = keys_push t cs c ∙ ap (λ (z : List Text). keys t cs ++ z) (go (has_keys t)) ∙ append-nil (keys t cs)
   where
     go : (b : Bool) → cond b (key_of c.1) [] ≡ []
