@@ -10,3 +10,5 @@ pub mod Again
 pub mod Assembled
 pub mod KindSegments
 pub mod Texts
+pub mod Keys
+pub mod StoryRecords
