@@ -156,7 +156,7 @@ is_key forms.Key = true
 is_key f = false
 
 -- beside other keys, where the text is none
-reads_beside : (form : Form) (taken : List Text) (x : Text) → is_key form ≡ false → reads form [] x ≡ Some x → reads form taken x ≡ Some x
+pub reads_beside : (form : Form) (taken : List Text) (x : Text) → is_key form ≡ false → reads form [] x ≡ Some x → reads form taken x ≡ Some x
 unfolding reads
 reads_beside forms.Key taken x k h = absurd cc
 reads_beside f taken x k h = h
@@ -173,7 +173,7 @@ text_piece t taken b f form o x i r = record {
   piece = leaf_piece t taken b (name_of f) (column f (Leaf form) o) form [] x i.0 refl (subst (λ (z : Option Field). IsGiven z []) (sym i.1) refl) r (field_named f i.3);
 }
 
-one_text : (t : Table) (taken : List Text) (b : List Child) (f : Field) (form : Form) (o : Often) (x : Text) → IsTextColumn t f form o → reads form taken x ≡ Some x → Most o 1 → least_count o ≤ 1 → Segment t taken b (column f (Leaf form) o) (must f x)
+pub one_text : (t : Table) (taken : List Text) (b : List Child) (f : Field) (form : Form) (o : Often) (x : Text) → IsTextColumn t f form o → reads form taken x ≡ Some x → Most o 1 → least_count o ≤ 1 → Segment t taken b (column f (Leaf form) o) (must f x)
 unfolding must
 one_text t taken b f form o x i r m l = segment_of t taken b (column f (Leaf form) o) ((f, leaf (name_of f) [] x ∷ []) ∷ []) i.2 (text_piece t taken b f form o x i r, tt) m l (λ e. (refl, tt))
 

@@ -12,3 +12,5 @@ pub mod KindSegments
 pub mod Texts
 pub mod Keys
 pub mod StoryRecords
+pub mod ObjectRecords
+pub mod Acks
