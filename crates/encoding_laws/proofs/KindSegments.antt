@@ -148,7 +148,7 @@ abbrev pub segment_of : (t : Table) (taken : List Text) (b : List Child) (c : Co
     → (holds_records c.shape ≡ false → AllByRecursion HasNoKey xs) → Segment t taken b c (flat xs)
 segment_of t taken b c xs k w m l q = record { children = xs; events = refl; pieces = subst (λ (z : Bool). PiecesFor z t taken b c xs) (sym k) w; few = m; enough = l; keyless = q }
 
-records_hold : {A : Type 0} → true ≡ false → A
+pub records_hold : {A : Type 0} → true ≡ false → A
 records_hold e = absurd (let p = e in cc)
 
 abbrev pub is_key : Form → Bool

@@ -14,3 +14,5 @@ pub mod Keys
 pub mod StoryRecords
 pub mod ObjectRecords
 pub mod Acks
+pub mod Actions
+pub mod Envelopes

@@ -22,6 +22,7 @@ use Rattle.mos_cursor.specs.Parts.{kept_column}
 use Rattle.mos_values.specs.Distinct.{AreDistinct, item_ids, story_ids}
 use Rattle.mos_values.specs.Parts.{must, maybe, maybe_as, must_raw, maybe_raw, raws, joined, attribute, element, element_with}
 use Rattle.encoding_laws.specs.Fitting.{table_inside, TextsFit}
+use Rattle.encoding_laws.specs.Identifiers.{HasDistinctItems}
 use Rattle.encoding_laws.proofs.Pieces.{Canonical}
 use Rattle.encoding_laws.proofs.Assembled.{Segment, assembled}
 use Rattle.encoding_laws.proofs.KindSegments.{key_segment, records_segment, record_segment, absent_segment}
@@ -192,9 +193,6 @@ story_key x = refl
 
 abbrev pub FreshStory : Story → Type 0
 FreshStory x = (ks : List Text) → among x.id ks ≡ false → Canonical tables.Story ks (story_events x)
-
-abbrev pub HasDistinctItems : Story → Type 0
-HasDistinctItems s = AreDistinct (item_ids s.items)
 
 pub stories_fresh : (ts : List Table) (xs : List Story) → AreSoundStories xs → AllByRecursion HasDistinctItems xs → AllByRecursion (λ (x : Story). TextsFit (tables.Story ∷ ts) (story_events x)) xs → AllByRecursion FreshStory xs
 stories_fresh ts [] s d h = tt

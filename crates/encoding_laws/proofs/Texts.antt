@@ -175,7 +175,7 @@ abbrev pub has_message : List Column → Bool
 has_message [] = false
 has_message (c ∷ cs) = cond (elim (c.shape) [ Message ↦ true | Leaf f ↦ false | Raw ↦ false | Record t ↦ false ]) true (has_message cs)
 
-same_false : (a b : Text) → same a b ≡ false → same b a ≡ false
+pub same_false : (a b : Text) → same a b ≡ false → same b a ≡ false
 same_false a b h = go (same b a) refl
   where
     go : (x : Bool) → same b a ≡ x → x ≡ false

@@ -2,7 +2,7 @@
 use Rattle.std.specs.Prelude.{◌≡◌, List, [], ◌∷◌, Option, Some, None}
 use Rattle.mos_fields.specs.Characters.{Text}
 use Rattle.mos_fields.specs.Forms.{reads}
-use Rattle.mos_tables.specs.declared.aim.Aim.TheVariants.{AtStory, AtItem}
+use Rattle.mos_tables.specs.declared.aim.Aim.TheVariants.{Nowhere, AtStory, AtItem}
 use Rattle.mos_tables.specs.declared.column.Column.{Column}
 use Rattle.mos_tables.specs.declared.column.Shape.{Shape}
 use Rattle.mos_tables.specs.declared.column.Shape.TheVariants.{Leaf, Raw, Record, Message}
@@ -12,9 +12,9 @@ use Rattle.mos_tables.specs.Tables.{columns, source_column}
 use Rattle.mos_tables.specs.Events.{Attribute, Event, leaf, raw, opens, closes}
 use Rattle.mos_grammar.specs.Records.{column_of, message_of}
 
--- the columns of a record; an element_source may have stories or items
+-- the columns of a record; an element_source may have what any target asks for
 abbrev pub inside_columns : Table → List Column
-inside_columns (Source o a) = source_column o AtStory ∷ source_column o AtItem ∷ []
+inside_columns (Source o a) = source_column o Nowhere ∷ source_column o AtStory ∷ source_column o AtItem ∷ []
 inside_columns t = columns t
 
 -- the text is the canonical text of the field's type; this says nothing of elements that are no fields with a text
