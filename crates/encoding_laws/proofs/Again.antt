@@ -13,7 +13,9 @@ use Rattle.mos_lexer.specs.Lexing.{WritesTokens}
 use Rattle.mos_lexer.specs.Encodings.{EncodesChars, Encodes}
 use Rattle.mos_lexer.specs.Units.{message_limit}
 use Rattle.mos_cursor.specs.Accepted.{IsWhole}
-use Rattle.encoding_laws.specs.Laws.{IsEncodedCanonically, ReadIsReadAgain}
+use Rattle.mos_values.specs.MessageViews.{envelope_events}
+use Rattle.encoding_laws.specs.Laws.{IsEncodedCanonically, ReadIsReadAgain, ValuesAreEncoded}
+use Rattle.encoding_laws.proofs.Envelopes.{inner_events, envelope_is, envelope_canonical}
 use Rattle.encoding_laws.proofs.Written.{WritesFront}
 use Rattle.encoding_laws.proofs.Pieces.{Canonical, nested_front}
 use Rattle.encoding_laws.proofs.Ordered.{canonical_of}
@@ -45,3 +47,8 @@ read_again v w =
     let q = collect w.accepted.content w.accepted.written tt in
     let c : Canonical Envelope [] w.inner = subst (Canonical Envelope []) (sym w.accepted.value) (canonical_of Envelope [] w.accepted.all q.0 q.1) in
     subst IsEncodedCanonically (sym w.whole) (encoded (opens mos_name [] ∷ (w.inner ++ closes mos_name ∷ [])) (message_again w.inner c))
+
+pub values_encoded : ValuesAreEncoded
+values_encoded e s d h =
+    let es : List Event = inner_events e in
+    subst IsEncodedCanonically (sym (envelope_is e)) (encoded (opens mos_name [] ∷ (es ++ closes mos_name ∷ [])) (message_again es (envelope_canonical e s d h)))

@@ -6,7 +6,6 @@ pub mod Arranged
 pub mod Found
 pub mod Ordered
 pub mod Collected
-pub mod Again
 pub mod Assembled
 pub mod KindSegments
 pub mod Texts
@@ -16,3 +15,4 @@ pub mod ObjectRecords
 pub mod Acks
 pub mod Actions
 pub mod Envelopes
+pub mod Again

@@ -8,6 +8,11 @@ use Rattle.mos_grammar.specs.Streams.{mos_name}
 use Rattle.mos_lexer.specs.Encodings.{Encodes}
 use Rattle.mos_lexer.specs.Units.{message_limit}
 use Rattle.mos_cursor.specs.Accepted.{IsWhole}
+use Rattle.mos_values.specs.declared.message.Envelope.{Envelope as EnvelopeValue}
+use Rattle.mos_values.specs.MessageViews.{envelope_events}
+use Rattle.mos_values.specs.Sound.{IsSound}
+use Rattle.encoding_laws.specs.Fitting.{HasFittingTexts}
+use Rattle.encoding_laws.specs.Identifiers.{HasDistinctIdentifiers}
 
 -- The canonical encoding of the message with this value is an encoding of it, where its characters are allowed and it is
 -- not too long.
@@ -17,3 +22,8 @@ IsEncodedCanonically v = are_allowed (canonical v) ≡ true → length (units_of
 -- What was read is read again: the canonical encoding of a message's value is an encoding of it.
 abbrev pub ReadIsReadAgain : Type 0
 ReadIsReadAgain = (v : List Event) → IsWhole Envelope mos_name v → IsEncodedCanonically v
+
+-- Values are encoded: the canonical encoding of an envelope is an encoding of it, where its message is sound, its IDs are
+-- distinct and its texts fit.
+abbrev pub ValuesAreEncoded : Type 0
+ValuesAreEncoded = (e : EnvelopeValue) → IsSound e.message → HasDistinctIdentifiers e.message → HasFittingTexts (envelope_events e) → IsEncodedCanonically (envelope_events e)
