@@ -27,7 +27,7 @@ use Rattle.mos_values.specs.Parts.{must, maybe, joined}
 use Rattle.mos_values.specs.Views.{group_events, groups_events, ro_ack_events}
 use Rattle.encoding_laws.specs.Fitting.{TextsFit}
 use Rattle.mos_tables.specs.Canonical.{canonical}
-use Rattle.encoding_laws.proofs.Written.{WritesFront}
+use Rattle.encoding_laws.proofs.Written.{HasNames, WritesFront}
 use Rattle.encoding_laws.proofs.Admitted.{HasRoom, Opens}
 use Rattle.encoding_laws.proofs.Pieces.{Canonical, leaf_piece}
 use Rattle.encoding_laws.proofs.Ordered.{Builds, builds_end, builds_child}
@@ -175,5 +175,6 @@ ro_ack_canonical a taken ts h =
       tokens = w.tokens;
       content = w.content;
       written = subst (λ (z : List Event). WritesFront w.tokens (canonical z)) f w.written;
+      names = subst (AllByRecursion HasNames) f w.names;
       value = ack_value (c1 ∷ c2 ∷ new) ∙ f;
     }

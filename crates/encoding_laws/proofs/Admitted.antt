@@ -2,7 +2,7 @@
 use Rattle.std.proofs.Common.{◌≡◌, ℕ, Bool, true, false, cond, List, [], ◌∷◌, ◌++◌, Option, Some, None, refl, sym, ap, subst, ◌∙◌, codes, reverse}
 use Rattle.std.specs.Prelude.{◌&&◌}
 use Rattle.std.specs.List.{AllByRecursion}
-use Rattle.mos_fields.specs.Characters.{Text}
+use Rattle.mos_fields.specs.Characters.{Text, are_allowed}
 use Rattle.mos_fields.specs.Fields.{name_of, same}
 use Rattle.mos_fields.specs.Names.{may_grow, named}
 use Rattle.mos_fields.specs.Forms.{among, is_space, is_white, behind_white, trimmed, is_trimmed, reads}
@@ -46,6 +46,16 @@ words_trimmed fields.ElementKind = (refl, (refl, (refl, tt)))
 words_trimmed fields.OperationKind = (refl, (refl, (refl, (refl, (refl, tt)))))
 words_trimmed f = tt
 
+abbrev IsAllowedWord : Text → Type 0
+IsAllowedWord w = are_allowed w ≡ true
+
+words_allowed : (a : Field) → AllByRecursion IsAllowedWord (words_of a)
+words_allowed fields.DeviceType = (refl, (refl, tt))
+words_allowed fields.Number = (refl, (refl, (refl, (refl, (refl, (refl, (refl, (refl, (refl, (refl, tt))))))))))
+words_allowed fields.ElementKind = (refl, (refl, (refl, tt)))
+words_allowed fields.OperationKind = (refl, (refl, (refl, (refl, (refl, tt)))))
+words_allowed f = tt
+
 attribute_named : (a : Field) (v : Text) → among v (words_of a) ≡ true → named [] (name_of a) ≡ true
 unfolding may_grow
 attribute_named fields.DeviceType v h = refl
@@ -64,7 +74,7 @@ one_attribute : (a : Field) (v : Text) → among v (words_of a) ≡ true → Giv
 one_attribute a v h = record {
   same_given = ap (first_value (name_of a)) values;
   fine = ap (value_fault a) values ∙ rw h refl;
-  names = (attribute_named a v h, tt);
+  names = ((attribute_named a v h, among_all IsAllowedWord v (words_of a) (words_allowed a) h), tt);
 }
   where
     one : Attribute

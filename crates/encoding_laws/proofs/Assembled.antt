@@ -29,7 +29,7 @@ use Rattle.mos_cursor.specs.Parts.{kept_column, places}
 use Rattle.mos_cursor.proofs.Columns.{column_of-named, same_field-same, same_field-sym, same_field-first, same_field-other}
 use Rattle.mos_cursor.proofs.Counts.{fields_of, seen_is, Most}
 use Rattle.mos_values.specs.Parts.{joined}
-use Rattle.encoding_laws.proofs.Written.{WritesFront}
+use Rattle.encoding_laws.proofs.Written.{HasNames, WritesFront}
 use Rattle.encoding_laws.proofs.Admitted.{HasRoom, Opens}
 use Rattle.encoding_laws.proofs.Pieces.{Piece, Canonical}
 use Rattle.encoding_laws.proofs.Arranged.{same_has}
@@ -376,6 +376,7 @@ assembled t taken ess a w =
       tokens = r.built.tokens;
       content = r.built.content;
       written = subst (λ (z : List Event). WritesFront r.built.tokens (canonical z)) r.events r.built.written;
+      names = subst (AllByRecursion HasNames) r.events r.built.names;
       value = in_columns r.new ∙ places_value r.new (columns t) ∙ order_value (places (columns t)) r.new f.0 r.order ∙ r.events;
     }
   where

@@ -15,4 +15,5 @@ pub mod ObjectRecords
 pub mod Acks
 pub mod Actions
 pub mod Envelopes
+pub mod AllowedEncodings
 pub mod Again

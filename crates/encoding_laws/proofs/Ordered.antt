@@ -24,7 +24,7 @@ use Rattle.mos_grammar.proofs.Complete.{table_facts}
 use Rattle.mos_cursor.proofs.Roles.{no_or_else}
 use Rattle.mos_cursor.proofs.Columns.{column_of-all, column_of-named, same_field-same, same_field-sym}
 use Rattle.mos_cursor.proofs.Counts.{fields_of, seen_is}
-use Rattle.encoding_laws.proofs.Written.{WritesFront, no_front, both_fronts}
+use Rattle.encoding_laws.proofs.Written.{HasNames, names_both, WritesFront, no_front, both_fronts}
 use Rattle.encoding_laws.proofs.Admitted.{HasRoom, Opens}
 use Rattle.encoding_laws.proofs.Pieces.{canonical_append, Piece, Canonical}
 use Rattle.encoding_laws.proofs.Lean.{MayLack, IsApart, apart_may_lack, Lean, lean_none, lean_both, IsQuiet, lean_left, lean_right, lean_opens, lean_ends}
@@ -37,16 +37,18 @@ use Rattle.encoding_laws.proofs.Found.{in_order, order_flat, order_again, apart_
 pub record Builds (t : Table) (taken : List Text) (b new : List Child) : Type 0 where
   pub tokens : List Token
   pub written : WritesFront tokens (canonical (flat new))
+  pub names : AllByRecursion HasNames (flat new)
   pub content : Content t taken b (b ++ new) tokens
 
 pub builds_end : (t : Table) (taken : List Text) (b : List Child) → end_fault t b ≡ None → Builds t taken b []
 unfolding canonical
-builds_end t taken b e = record { tokens = []; written = no_front; content = subst (λ (z : List Child). Content t taken b z []) (sym (append-nil b)) (ends e) }
+builds_end t taken b e = record { tokens = []; written = no_front; names = tt; content = subst (λ (z : List Child). Content t taken b z []) (sym (append-nil b)) (ends e) }
 
 pub builds_child : (t : Table) (taken : List Text) (p b new : List Child) (n : Text) (x : Child) → Piece t taken p n x → Opens t b n → aim_of b ≡ aim_of p → keys t b ≡ keys t p → Builds t taken (b ++ x ∷ []) new → Builds t taken b (x ∷ new)
 builds_child t taken p b new n x i o a k w = record {
   tokens = i.tokens ++ w.tokens;
   written = subst (WritesFront (i.tokens ++ w.tokens)) (sym (canonical_append x.1 (flat new))) (both_fronts i.tokens w.tokens (canonical x.1) (canonical (flat new)) i.written w.written);
+  names = names_both x.1 (flat new) i.names w.names;
   content = i.enters b (b ++ x ∷ new) w.tokens o a k (subst (λ (z : List Child). Content t taken (b ++ x ∷ []) z w.tokens) (append_assoc b (x ∷ []) new) w.content);
 }
 
@@ -427,6 +429,7 @@ canonical_of t taken all w e = go (is_ack t) refl
       tokens = b.tokens;
       content = b.content;
       written = subst (λ (z : List Event). WritesFront b.tokens (canonical z)) (order_flat t all) b.written;
+      names = subst (AllByRecursion HasNames) (order_flat t all) b.names;
       value = order_again t all;
     }
 

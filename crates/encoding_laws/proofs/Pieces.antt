@@ -22,7 +22,7 @@ use Rattle.mos_grammar.specs.Tokens.{Token, open_tag, empty_tag, close_tag, text
 use Rattle.mos_grammar.specs.Records.{Child, column_of, raw_role, role, aim_of, keys, arranged, nested, raw_events, Content, field, empty_leaf, raw_element, raw_tag, record_element, admission, admitted_record, field_events, admitted_leaf}
 use Rattle.mos_lexer.specs.Lexing.{WrittenTag, WritesTokens}
 use Rattle.mos_cursor.specs.Accepted.{IsGiven}
-use Rattle.encoding_laws.proofs.Written.{IsNamedAttribute, WritesFront, no_front, both_fronts, start_front, end_front, field_tokens, field_front}
+use Rattle.encoding_laws.proofs.Written.{IsNamedAttribute, HasNames, names_both, WritesFront, no_front, both_fronts, start_front, end_front, field_tokens, field_front}
 use Rattle.encoding_laws.proofs.Admitted.{given_again, Opens, field_of, leaf_admitted, leaf_read, raw_admitted, raw_admitted_empty}
 
 pub canonical_append : (x y : List Event) → canonical (x ++ y) ≡ canonical x ++ canonical y
@@ -34,6 +34,7 @@ canonical_append x y = flat_map-append event_text x y
 pub record Piece (t : Table) (taken : List Text) (p : List Child) (n : Text) (c : Child) : Type 0 where
   pub tokens : List Token
   pub written : WritesFront tokens (canonical c.1)
+  pub names : AllByRecursion HasNames c.1
   pub enters : (b all : List Child) (rest : List Token) → Opens t b n → aim_of b ≡ aim_of p → keys t b ≡ keys t p → Content t taken (b ++ c ∷ []) all rest → Content t taken b all (tokens ++ rest)
 
 -- ---- a field with a text
@@ -43,6 +44,7 @@ pub leaf_piece : (t : Table) (taken : List Text) (p : List Child) (n : Text) (c 
 leaf_piece t taken p n c form g y e s i r m = record {
   tokens = field_tokens n g y;
   written = field_front n g y m (given_again (attribute_of_form form) g i).names;
+  names = ((m, (given_again (attribute_of_form form) g i).names), tt);
   enters = λ b all rest o a k d. go b all rest y (leaf_admitted t b n g c form e s i o) (leaf_read n c form g taken y r) d;
 }
   where
@@ -72,6 +74,7 @@ pub raw_piece : (t : Table) (taken : List Text) (p : List Child) (n : Text) (f :
 raw_piece t taken p n f x ts r k w = record {
   tokens = ts;
   written = raw_front n f x ts w;
+  names = (tt, tt);
   enters = λ b all rest o a q d. go b all rest x ts w o d;
 }
   where
@@ -92,6 +95,7 @@ pub record Canonical (t : Table) (taken : List Text) (es : List Event) : Type 0 
   pub tokens : List Token
   pub content : Content t taken [] children tokens
   pub written : WritesFront tokens (canonical es)
+  pub names : AllByRecursion HasNames es
   pub value : arranged t children ≡ es
 
 opens_canonical : (n : Text) (g : List Attribute) (x : List Event) → canonical (opens n g ∷ x) ≡ start_text n g ++ canonical x
@@ -117,6 +121,7 @@ unfolding nested
 record_piece t taken p n f u g inner h c m a = record {
   tokens = open_tag n g (start_text n g) ∷ (c.tokens ++ close_tag n ∷ []);
   written = nested_front n g (arranged u inner) c.tokens m a c.written;
+  names = ((m, a), names_both (arranged u inner) (closes n ∷ []) c.names (m, tt));
   enters = λ b all rest o q k d.
       let w : nested n g u inner ≡ nested n g u c.children = ap (λ (z : List Event). opens n g ∷ (z ++ closes n ∷ [])) (sym c.value) in
       let x : Content u (keys t b) [] c.children c.tokens = subst (λ (z : List Text). Content u z [] c.children c.tokens) (sym k) c.content in

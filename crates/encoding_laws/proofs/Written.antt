@@ -4,7 +4,7 @@ use Rattle.std.specs.Prelude.{not, ◌&&◌, ◌||◌, ◌==◌}
 use Rattle.std.specs.List.{AllByRecursion, flat_map}
 use Rattle.std.proofs.lemmas.Bool.{eqb-true}
 use Rattle.std.proofs.lemmas.List.{append-nil}
-use Rattle.mos_fields.specs.Characters.{Text}
+use Rattle.mos_fields.specs.Characters.{Text, are_allowed}
 use Rattle.mos_fields.specs.Names.{is_empty, named}
 use Rattle.mos_fields.specs.Raw.{end_text, is_plain}
 use Rattle.mos_fields.specs.References.{reference_of}
@@ -75,9 +75,20 @@ escaped_some c x = go (escaped_char c) (escaping c)
 
 -- ---- tags
 
--- the attribute's name is a name
+-- the attribute's name is a name, and its value has allowed characters
 abbrev pub IsNamedAttribute : Attribute → Type 0
-IsNamedAttribute a = named [] a.name ≡ true
+IsNamedAttribute a = (named [] a.name ≡ true) × (are_allowed a.value ≡ true)
+
+-- the names of the event are names, and its attributes' values have allowed characters
+abbrev pub HasNames : Event → Type 0
+HasNames (leaf n g x) = (named [] n ≡ true) × AllByRecursion IsNamedAttribute g
+HasNames (raw f x) = Unit {0}
+HasNames (opens n g) = (named [] n ≡ true) × AllByRecursion IsNamedAttribute g
+HasNames (closes n) = named [] n ≡ true
+
+pub names_both : (xs ys : List Event) → AllByRecursion HasNames xs → AllByRecursion HasNames ys → AllByRecursion HasNames (xs ++ ys)
+names_both [] ys a b = b
+names_both (x ∷ xs) ys a b = (a.0, names_both xs ys a.1 b)
 
 attributes_written : (g : List Attribute) → AllByRecursion IsNamedAttribute g → WritesTag false g false (flat_map attribute_text g ++ 62 ∷ [])
 attributes_written [] h = ends_start
@@ -88,7 +99,7 @@ attributes_written (a ∷ g) h =
     let q : List ℕ = 61 ∷ 34 ∷ (v ++ 34 ∷ []) in
     let e : (a.name ++ q) ++ f ++ 62 ∷ [] ≡ a.name ++ (61 ∷ 34 ∷ (v ++ 34 ∷ y)) =
     append_assoc (a.name ++ q) f (62 ∷ []) ∙ append_assoc a.name q y ∙ ap (λ (z : List ℕ). a.name ++ (61 ∷ 34 ∷ z)) (append_assoc v (34 ∷ []) y) in
-    let w : WritesTag true (a ∷ g) false (a.name ++ (61 ∷ 34 ∷ (v ++ 34 ∷ y))) = attribute a.name (61 ∷ 34 ∷ (v ++ 34 ∷ y)) y h.0 (equals (quote refl (value_written a.value y))) (attributes_written g h.1) in
+    let w : WritesTag true (a ∷ g) false (a.name ++ (61 ∷ 34 ∷ (v ++ 34 ∷ y))) = attribute a.name (61 ∷ 34 ∷ (v ++ 34 ∷ y)) y h.0.0 (equals (quote refl (value_written a.value y))) (attributes_written g h.1) in
     tag_space refl (subst (WritesTag true (a ∷ g) false) (sym e) w)
 
 pub start_written : (n : Text) (g : List Attribute) → named [] n ≡ true → AllByRecursion IsNamedAttribute g → WrittenTag false n g (start_text n g) (start_text n g)

@@ -11,6 +11,7 @@ use Rattle.mos_cursor.specs.Accepted.{IsWhole}
 use Rattle.mos_values.specs.declared.message.Envelope.{Envelope as EnvelopeValue}
 use Rattle.mos_values.specs.MessageViews.{envelope_events}
 use Rattle.mos_values.specs.Sound.{IsSound}
+use Rattle.encoding_laws.specs.Allowed.{HasAllowedTexts}
 use Rattle.encoding_laws.specs.Fitting.{HasFittingTexts}
 use Rattle.encoding_laws.specs.Identifiers.{HasDistinctIdentifiers}
 
@@ -22,6 +23,14 @@ IsEncodedCanonically v = are_allowed (canonical v) ≡ true → length (units_of
 -- What was read is read again: the canonical encoding of a message's value is an encoding of it.
 abbrev pub ReadIsReadAgain : Type 0
 ReadIsReadAgain = (v : List Event) → IsWhole Envelope mos_name v → IsEncodedCanonically v
+
+-- The value of each such envelope is a message's value: the grammar accepts it.
+abbrev pub ValuesAreMessages : Type 0
+ValuesAreMessages = (e : EnvelopeValue) → IsSound e.message → HasDistinctIdentifiers e.message → HasFittingTexts (envelope_events e) → IsWhole Envelope mos_name (envelope_events e)
+
+-- Allowed texts have an allowed encoding: the names and the attributes of a message's value add allowed characters only.
+abbrev pub AllowedTextsAreEncoded : Type 0
+AllowedTextsAreEncoded = (v : List Event) → IsWhole Envelope mos_name v → HasAllowedTexts v → are_allowed (canonical v) ≡ true
 
 -- Values are encoded: the canonical encoding of an envelope is an encoding of it, where its message is sound, its IDs are
 -- distinct and its texts fit.
