@@ -17,3 +17,4 @@ pub mod Actions
 pub mod Envelopes
 pub mod AllowedEncodings
 pub mod Again
+mod Examples
