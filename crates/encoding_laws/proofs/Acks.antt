@@ -1,7 +1,6 @@
 -- roAck as its canonical encoding writes it: its fields, and then those of each group.
-use Rattle.std.proofs.Common.{◌≡◌, Bool, true, false, cond, List, [], ◌∷◌, ◌++◌, Option, Some, None, refl, sym, ap, subst, ◌∙◌, append_assoc}
+use Rattle.std.proofs.Common.{◌≡◌, false, List, [], ◌∷◌, ◌++◌, Option, Some, None, refl, sym, ap, subst, ◌∙◌}
 use Rattle.std.specs.List.{AllByRecursion, flat_map}
-use Rattle.std.proofs.lemmas.List.{append-nil}
 use Rattle.mos_fields.specs.Characters.{Text}
 use Rattle.mos_fields.specs.Fields.{name_of}
 use Rattle.mos_fields.specs.Forms.{reads}
@@ -18,7 +17,7 @@ use Rattle.mos_tables.specs.declared.table.Table.{Table}
 use Rattle.mos_tables.specs.declared.table.Table.TheVariants as tables
 use Rattle.mos_tables.specs.Tables.{column, columns, attribute_of_form}
 use Rattle.mos_tables.specs.Events.{Event, leaf}
-use Rattle.mos_grammar.specs.Records.{Child, times, seen_of, seen_behind, is_full, column_of, field_fault, if_field, outside_fault, wanted, lacking, end_fault, flat, arranged}
+use Rattle.mos_grammar.specs.Records.{Child, times, seen_of, seen_behind, is_full, column_of, field_fault, if_field, wanted, lacking, end_fault, flat, arranged}
 use Rattle.mos_grammar.proofs.Seen.{seen_push}
 use Rattle.mos_cursor.specs.Accepted.{IsGiven}
 use Rattle.mos_values.specs.declared.ack_group.AckGroup.{AckGroup}
@@ -124,8 +123,8 @@ group_step ts taken b new g e h more =
     let e3 = seen_next ((b ++ c1 ∷ []) ++ c2 ∷ []) (at_group ++ fields.StoryID ∷ fields.ItemID ∷ []) fields.ObjID g.obj e2 in
     ack_step taken b _ at_group fields.StoryID forms.OptId One g.story e (refl, refl, refl, refl, refl, refl) (text_of_must tables.RoAck ts fields.StoryID forms.OptId One g.story refl p.0)
     (ack_step taken (b ++ c1 ∷ []) _ (at_group ++ fields.StoryID ∷ []) fields.ItemID forms.OptId One g.item e1 (refl, refl, refl, refl, refl, refl) (text_of_must tables.RoAck ts fields.ItemID forms.OptId One g.item refl p.1.0)
-        (ack_step taken ((b ++ c1 ∷ []) ++ c2 ∷ []) _ (at_group ++ fields.StoryID ∷ fields.ItemID ∷ []) fields.ObjID forms.OptId One g.obj e2 (refl, refl, refl, refl, refl, refl) (text_of_must tables.RoAck ts fields.ObjID forms.OptId One g.obj refl p.1.1.0)
-            (channel_step ts taken (((b ++ c1 ∷ []) ++ c2 ∷ []) ++ c3 ∷ []) new g.channel g.status e3 p.1.1.1.0 (text_of_must tables.RoAck ts fields.Status forms.Text One g.status refl p.1.1.1.1.0) more)))
+    (ack_step taken ((b ++ c1 ∷ []) ++ c2 ∷ []) _ (at_group ++ fields.StoryID ∷ fields.ItemID ∷ []) fields.ObjID forms.OptId One g.obj e2 (refl, refl, refl, refl, refl, refl) (text_of_must tables.RoAck ts fields.ObjID forms.OptId One g.obj refl p.1.1.0)
+    (channel_step ts taken (((b ++ c1 ∷ []) ++ c2 ∷ []) ++ c3 ∷ []) new g.channel g.status e3 p.1.1.1.0 (text_of_must tables.RoAck ts fields.Status forms.Text One g.status refl p.1.1.1.1.0) more)))
 
 groups_built : (ts : List Table) (taken : List Text) (b : List Child) (gs : List AckGroup) → Seen b at_group → TextsFit (tables.RoAck ∷ ts) (groups_events gs) → Builds tables.RoAck taken b (groups_children gs)
 unfolding groups_children groups_events

@@ -1,5 +1,5 @@
 -- Actions as their canonical encodings write them.
-use Rattle.std.proofs.Common.{◌≡◌, ℕ, ◌≤◌, Bool, true, false, cond, List, [], ◌∷◌, ◌++◌, length, map, Option, Some, None, refl, sym, ap, subst, ◌∙◌, append_assoc, arith, suc}
+use Rattle.std.proofs.Common.{◌≡◌, ℕ, ◌≤◌, false, cond, List, [], ◌∷◌, ◌++◌, length, Some, refl, sym, ap, subst, ◌∙◌, arith, suc}
 use Rattle.std.specs.List.{AllByRecursion, flat_map}
 use Rattle.std.proofs.lemmas.List.{append-nil}
 use Rattle.mos_fields.specs.Characters.{Text}
@@ -13,14 +13,14 @@ use Rattle.mos_fields.specs.declared.operation.Operation.TheVariants.{Insert, Re
 use Rattle.mos_tables.specs.declared.aim.Aim.{Aim}
 use Rattle.mos_tables.specs.declared.aim.Aim.TheVariants.{Nowhere, AtStory, AtItem}
 use Rattle.mos_tables.specs.declared.column.Column.{Column}
-use Rattle.mos_tables.specs.declared.column.Shape.TheVariants.{Leaf, Raw, Record, Message}
+use Rattle.mos_tables.specs.declared.column.Shape.TheVariants.{Leaf, Record}
 use Rattle.mos_tables.specs.declared.column.Often.{Often}
-use Rattle.mos_tables.specs.declared.column.Often.TheVariants.{One, Optional, Any, Many, Count}
+use Rattle.mos_tables.specs.declared.column.Often.TheVariants.{One, Many, Count}
 use Rattle.mos_tables.specs.declared.table.Table.{Table}
 use Rattle.mos_tables.specs.declared.table.Table.TheVariants as tables
 use Rattle.mos_tables.specs.Tables.{column, columns, required, is_ack, has_keys, target_of, item_of_target, attribute_of_table}
-use Rattle.mos_tables.specs.Events.{Event, leaf, opens, closes}
-use Rattle.mos_grammar.specs.Records.{Child, least_count, column_of, has_leaf, aim_of, with_aim, keys, flat}
+use Rattle.mos_tables.specs.Events.{Event, leaf}
+use Rattle.mos_grammar.specs.Records.{Child, least_count, column_of, has_leaf, with_aim, keys, flat}
 use Rattle.mos_cursor.specs.Accepted.{IsGiven}
 use Rattle.mos_cursor.specs.Parts.{places}
 use Rattle.mos_cursor.proofs.Counts.{Most}
@@ -36,7 +36,7 @@ use Rattle.encoding_laws.specs.Fitting.{inside_columns, TextsFit}
 use Rattle.encoding_laws.specs.Identifiers.{HasDistinctItems, BringsDistinctItems}
 use Rattle.encoding_laws.proofs.Pieces.{Canonical}
 use Rattle.encoding_laws.proofs.Assembled.{ColumnPieces, HasNoKey, Segment, Segments, assembled}
-use Rattle.encoding_laws.proofs.KindSegments.{segment_of, records_hold, is_key, reads_beside, IsTextColumn, text_piece, one_text, absent_segment, IsRecordColumn, record_child, record_piece_of, records_segment}
+use Rattle.encoding_laws.proofs.KindSegments.{segment_of, records_hold, reads_beside, IsTextColumn, text_piece, one_text, absent_segment, IsRecordColumn, record_child, record_piece_of, records_segment}
 use Rattle.encoding_laws.proofs.Texts.{Level, level_none, level_leaf, level_both, splits, texts_inside, level_must, level_element, text_of_must, must_part}
 use Rattle.encoding_laws.proofs.Keys.{no_keys, unkeyed_follow}
 use Rattle.encoding_laws.proofs.StoryRecords.{each_inside, level_item, level_items, level_story, level_stories, FreshItem, items_fresh, FreshStory, stories_fresh}

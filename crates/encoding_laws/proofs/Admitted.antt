@@ -1,5 +1,5 @@
 -- The attributes of a canonical encoding, and how its elements are admitted.
-use Rattle.std.proofs.Common.{◌≡◌, ℕ, Bool, true, false, cond, List, [], ◌∷◌, ◌++◌, Option, Some, None, refl, sym, ap, subst, ◌∙◌, codes, reverse}
+use Rattle.std.proofs.Common.{◌≡◌, Bool, true, false, cond, List, [], ◌∷◌, Option, Some, None, refl, sym, ap, subst, ◌∙◌}
 use Rattle.std.specs.Prelude.{◌&&◌}
 use Rattle.std.specs.List.{AllByRecursion}
 use Rattle.mos_fields.specs.Characters.{Text, are_allowed}
@@ -12,15 +12,14 @@ use Rattle.mos_fields.specs.declared.form.Form.{Form}
 use Rattle.mos_fields.specs.declared.form.Form.TheVariants as forms
 use Rattle.mos_fields.specs.declared.operation.Operation.{Operation}
 use Rattle.mos_tables.specs.declared.column.Column.{Column}
-use Rattle.mos_tables.specs.declared.column.Shape.{Shape}
 use Rattle.mos_tables.specs.declared.column.Shape.TheVariants.{Leaf, Raw, Record, Message}
 use Rattle.mos_tables.specs.declared.table.Table.{Table}
 use Rattle.mos_tables.specs.declared.table.Table.TheVariants as tables
-use Rattle.mos_tables.specs.Events.{Attribute, Event, leaf}
+use Rattle.mos_tables.specs.Events.{Attribute, leaf}
 use Rattle.mos_tables.specs.Tables.{columns, messages, table_of_name, others, attribute_of_table, attribute_of_form, words_of}
 use Rattle.mos_grammar.specs.declared.fault.Fault.{Fault}
 use Rattle.mos_grammar.specs.declared.fault.Fault.TheVariants.{Value as fault_value}
-use Rattle.mos_grammar.specs.Records.{Child, times, seen_of, is_full, is_optional, column_of, values_of, value_fault, attribute_fault, first_value, given_of, OpenField, Role, leaf_role, raw_role, record_role, operation_in, message_of, aim_of, with_aim, message_role, role_at, other_role, role, earlier, role_fault, inside_fault, outside_fault, field_events, leaf_event, Admission, admitted, admitted_leaf, admitted_raw, admitted_record, admission, empty_admission}
+use Rattle.mos_grammar.specs.Records.{Child, times, seen_of, is_full, is_optional, column_of, values_of, value_fault, attribute_fault, first_value, given_of, OpenField, Role, leaf_role, raw_role, record_role, operation_in, message_of, aim_of, with_aim, message_role, role_at, other_role, role, earlier, role_fault, inside_fault, outside_fault, field_events, admitted, admitted_leaf, admitted_raw, admitted_record, admission, empty_admission}
 use Rattle.mos_grammar.proofs.Sound.{same-refl}
 use Rattle.mos_cursor.specs.Accepted.{IsGiven}
 use Rattle.mos_cursor.proofs.Roles.{same_is}

@@ -1,21 +1,19 @@
 -- The canonical encoding of a message's value is an encoding of it.
-use Rattle.std.proofs.Common.{◌≡◌, ℕ, true, List, [], ◌∷◌, ◌++◌, length, ◌≤◌, refl, sym, ap, subst, ◌∙◌}
+use Rattle.std.proofs.Common.{◌≡◌, true, List, [], ◌∷◌, ◌++◌, refl, sym, ap, subst}
 use Rattle.std.specs.List.{AllByRecursion}
 use Rattle.std.proofs.lemmas.List.{append-nil}
-use Rattle.mos_fields.specs.Characters.{Text, are_allowed, units_of}
+use Rattle.mos_fields.specs.Characters.{Text}
 use Rattle.mos_fields.specs.Names.{may_grow, named}
 use Rattle.mos_tables.specs.declared.table.Table.TheVariants.{Envelope}
 use Rattle.mos_tables.specs.Events.{Event, opens, closes}
 use Rattle.mos_tables.specs.Canonical.{start_text, canonical}
 use Rattle.mos_grammar.specs.Tokens.{Token, open_tag, close_tag}
-use Rattle.mos_grammar.specs.Records.{arranged, nested, IsRecord}
-use Rattle.mos_grammar.specs.Streams.{mos_name, before_prolog, IsMessage, element}
+use Rattle.mos_grammar.specs.Records.{nested, IsRecord}
+use Rattle.mos_grammar.specs.Streams.{mos_name, element}
 use Rattle.mos_lexer.specs.Lexing.{WritesTokens}
-use Rattle.mos_lexer.specs.Encodings.{EncodesChars, Encodes}
-use Rattle.mos_lexer.specs.Units.{message_limit}
+use Rattle.mos_lexer.specs.Encodings.{EncodesChars}
 use Rattle.mos_cursor.specs.Accepted.{IsWritten, IsAccepted, IsWhole}
 use Rattle.mos_cursor.proofs.WholeRecords.{written_tags_law}
-use Rattle.mos_values.specs.MessageViews.{envelope_events}
 use Rattle.encoding_laws.specs.Laws.{IsEncodedCanonically, ReadIsReadAgain, ValuesAreMessages, AllowedTextsAreEncoded, ValuesAreEncoded}
 use Rattle.encoding_laws.proofs.Envelopes.{inner_events, envelope_is, envelope_canonical}
 use Rattle.encoding_laws.proofs.Written.{HasNames, names_both, WritesFront}

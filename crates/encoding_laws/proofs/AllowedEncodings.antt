@@ -1,7 +1,7 @@
 -- Allowed texts have an allowed encoding.
-use Rattle.std.proofs.Common.{◌≡◌, ℕ, ◌≤◌, ◌<◌, Bool, true, false, cond, eqb, List, [], ◌∷◌, ◌++◌, length, refl, sym, ap, subst, ◌∙◌, append_assoc, codes, arith, ◌⊎◌, inl, inr}
+use Rattle.std.proofs.Common.{◌≡◌, ℕ, ◌≤◌, Bool, true, false, cond, eqb, List, [], ◌∷◌, ◌++◌, length, refl, codes, arith, ◌⊎◌, inl, inr}
 use Rattle.std.specs.Prelude.{◌&&◌, ◌||◌, ◌==◌, nat_le, nat_lt}
-use Rattle.std.specs.List.{AllByRecursion, flat_map, list_all}
+use Rattle.std.specs.List.{AllByRecursion, flat_map}
 use Rattle.std.proofs.lemmas.Bool.{eqb-true}
 use Rattle.std.proofs.lemmas.Bool.Decides.{nat_tests}
 use Rattle.mos_fields.specs.Characters.{Text, is_allowed, are_allowed}
@@ -29,14 +29,14 @@ one_allowed c d l h e = let p : c ≡ d = eqb-true c d e in common_allowed c (om
 
 start_allowed_char : (c : ℕ) → is_start c ≡ true → is_allowed c ≡ true
 start_allowed_char c h = elim (either ((nat_le 97 c && nat_le c 122) || (nat_le 65 c && nat_le c 90)) (c == 95) h) [
-  inl p ↦ elim (either (nat_le 97 c && nat_le c 122) (nat_le 65 c && nat_le c 90) p) [ inl q ↦ range_allowed c 97 122 (omega arith) (omega arith) q | inr q ↦ range_allowed c 65 90 (omega arith) (omega arith) q ]
+  | inl p ↦ elim (either (nat_le 97 c && nat_le c 122) (nat_le 65 c && nat_le c 90) p) [ inl q ↦ range_allowed c 97 122 (omega arith) (omega arith) q | inr q ↦ range_allowed c 65 90 (omega arith) (omega arith) q ]
   | inr p ↦ one_allowed c 95 (omega arith) (omega arith) p
 ]
 
 further_allowed : (c : ℕ) → is_further c ≡ true → is_allowed c ≡ true
 further_allowed c h = elim (either (is_start c || (nat_le 48 c && nat_le c 58) || (c == 45)) (c == 46) h) [
-  inl p ↦ elim (either (is_start c || (nat_le 48 c && nat_le c 58)) (c == 45) p) [
-    inl q ↦ elim (either (is_start c) (nat_le 48 c && nat_le c 58) q) [ inl r ↦ start_allowed_char c r | inr r ↦ range_allowed c 48 58 (omega arith) (omega arith) r ]
+  | inl p ↦ elim (either (is_start c || (nat_le 48 c && nat_le c 58)) (c == 45) p) [
+    | inl q ↦ elim (either (is_start c) (nat_le 48 c && nat_le c 58) q) [ inl r ↦ start_allowed_char c r | inr r ↦ range_allowed c 48 58 (omega arith) (omega arith) r ]
     | inr q ↦ one_allowed c 45 (omega arith) (omega arith) q
   ]
   | inr p ↦ one_allowed c 46 (omega arith) (omega arith) p

@@ -1,21 +1,19 @@
 -- The children of a record in the order of its columns, those of other names behind mosExternalMetadata.
-use Rattle.std.proofs.Common.{◌≡◌, ℕ, ◌+◌, Bool, true, false, cond, List, [], ◌∷◌, ◌++◌, Option, Some, None, refl, sym, ap, subst, ◌∙◌, append_assoc, arith}
+use Rattle.std.proofs.Common.{◌≡◌, ◌+◌, Bool, true, false, cond, List, [], ◌∷◌, ◌++◌, refl, sym, ap, ◌∙◌, append_assoc, arith}
 use Rattle.std.specs.Prelude.{nat_lt}
-use Rattle.std.specs.List.{AllByRecursion, flat_map}
+use Rattle.std.specs.List.{flat_map}
 use Rattle.std.proofs.lemmas.List.{append-nil}
 use Rattle.std.proofs.lemmas.Grind.{flat_map-append}
-use Rattle.std.proofs.lemmas.Bool.{ltb-true, lt-ltb}
+use Rattle.std.proofs.lemmas.Bool.{lt-ltb}
 use Rattle.mos_fields.specs.Fields.{same_field}
 use Rattle.mos_fields.specs.declared.field.Field.{Field}
 use Rattle.mos_fields.specs.declared.field.Field.TheVariants as fields
 use Rattle.mos_tables.specs.declared.column.Column.{Column}
-use Rattle.mos_tables.specs.declared.table.Table.{Table}
 use Rattle.mos_tables.specs.Events.{Event}
-use Rattle.mos_tables.specs.Tables.{columns, is_ack}
-use Rattle.mos_grammar.specs.Records.{Child, times, any_seen, flat, found, column_events, arranged}
+use Rattle.mos_grammar.specs.Records.{Child, times, any_seen, flat, found}
 use Rattle.mos_grammar.proofs.Seen.{or_false, no_true, has, distinct}
 use Rattle.mos_cursor.proofs.Counts.{fields_of}
-use Rattle.mos_cursor.proofs.Columns.{same_field-same, same_field-sym, same_field-first, same_field-other}
+use Rattle.mos_cursor.proofs.Columns.{same_field-other}
 
 -- ---- the children of a field that add something
 

@@ -1,6 +1,6 @@
 -- A record from the children of its columns, one column after another.
-use Rattle.std.proofs.Common.{◌≡◌, ℕ, ◌≤◌, ◌<◌, ◌+◌, Bool, true, false, cond, List, [], ◌∷◌, ◌++◌, length, Option, Some, None, refl, sym, ap, subst, ◌∙◌, append_assoc, arith, inl, inr}
-use Rattle.std.specs.Prelude.{◌&&◌, nat_lt, nat_le}
+use Rattle.std.proofs.Common.{◌≡◌, ℕ, ◌≤◌, ◌+◌, Bool, true, false, cond, List, [], ◌∷◌, ◌++◌, length, Option, Some, None, refl, sym, ap, subst, ◌∙◌, append_assoc, arith, inl, inr}
+use Rattle.std.specs.Prelude.{◌&&◌, nat_lt}
 use Rattle.std.specs.List.{AllByRecursion, flat_map}
 use Rattle.std.proofs.lemmas.List.{append-nil}
 use Rattle.std.proofs.lemmas.Bool.{ltb-true, lt-ltb, lt-leb}
@@ -15,15 +15,15 @@ use Rattle.mos_tables.specs.declared.table.Table.TheVariants as tables
 use Rattle.mos_grammar.specs.declared.fault.Fault.{Fault}
 use Rattle.mos_tables.specs.declared.column.Column.{Column}
 use Rattle.mos_tables.specs.declared.column.Shape.{Shape}
-use Rattle.mos_tables.specs.declared.column.Shape.TheVariants.{Leaf, Raw, Record, Message}
+use Rattle.mos_tables.specs.declared.column.Shape.TheVariants.{Record, Message}
 use Rattle.mos_tables.specs.declared.column.Often.{Often}
 use Rattle.mos_tables.specs.declared.column.Often.TheVariants.{One, Optional, Any, Many, Count}
 use Rattle.mos_tables.specs.declared.table.Table.{Table}
-use Rattle.mos_tables.specs.Events.{Event, raw}
+use Rattle.mos_tables.specs.Events.{Event}
 use Rattle.mos_tables.specs.Canonical.{canonical}
 use Rattle.mos_tables.specs.Tables.{columns, is_ack}
-use Rattle.mos_grammar.specs.Records.{Child, times, seen_of, least_count, is_single, is_full, is_named, column_of, before_column, any_seen, lacks, lacking, repeated, or_else, field_fault, if_field, outside_fault, wanted, end_fault, flat, found, column_events, arranged, key_of}
-use Rattle.mos_grammar.proofs.Seen.{or_false, no_true, not_true, has, distinct, answers, later_apart, column_at, columns_before, repeated_at, lacking_more, lacking_last, any_seen_other, times_last, times_other, times_push}
+use Rattle.mos_grammar.specs.Records.{Child, times, seen_of, least_count, is_single, is_full, is_named, column_of, before_column, any_seen, lacks, lacking, repeated, or_else, field_fault, if_field, wanted, end_fault, flat, found, column_events, arranged, key_of}
+use Rattle.mos_grammar.proofs.Seen.{or_false, no_true, not_true, has, distinct, answers, later_apart, columns_before, repeated_at, lacking_more, lacking_last, any_seen_other, times_last}
 use Rattle.mos_grammar.proofs.Complete.{table_facts}
 use Rattle.mos_cursor.specs.Parts.{kept_column, places}
 use Rattle.mos_cursor.proofs.Columns.{column_of-named, same_field-same, same_field-sym, same_field-first, same_field-other}
@@ -32,9 +32,8 @@ use Rattle.mos_values.specs.Parts.{joined}
 use Rattle.encoding_laws.proofs.Written.{HasNames, WritesFront}
 use Rattle.encoding_laws.proofs.Admitted.{HasRoom, Opens}
 use Rattle.encoding_laws.proofs.Pieces.{Piece, Canonical}
-use Rattle.encoding_laws.proofs.Arranged.{same_has}
 use Rattle.encoding_laws.proofs.Found.{found_append, flat_append}
-use Rattle.encoding_laws.proofs.Ordered.{Builds, builds_end, builds_child, KeptPiece, kept_piece, put_kept, other_opens, earlier_apart, fields_push}
+use Rattle.encoding_laws.proofs.Ordered.{Builds, builds_end, builds_child, KeptPiece, kept_piece, put_kept, earlier_apart, fields_push}
 
 -- ---- the children of a column
 

@@ -15,16 +15,16 @@ use Rattle.mos_fields.specs.declared.operation.Operation.TheVariants.{Insert, Re
 use Rattle.mos_tables.specs.declared.aim.Aim.TheVariants.{Nowhere, AtStory, AtItem}
 use Rattle.mos_tables.specs.declared.column.Column.{Column}
 use Rattle.mos_tables.specs.declared.column.Shape.{Shape}
-use Rattle.mos_tables.specs.declared.column.Shape.TheVariants.{Leaf, Raw, Record, Message}
+use Rattle.mos_tables.specs.declared.column.Shape.TheVariants.{Leaf}
 use Rattle.mos_tables.specs.declared.others.Others.{Others}
 use Rattle.mos_tables.specs.declared.others.Others.TheVariants.{Kept, Dropped, Refused}
 use Rattle.mos_tables.specs.declared.table.Table.{Table}
 use Rattle.mos_tables.specs.declared.table.Table.TheVariants as tables
 use Rattle.mos_tables.specs.Events.{Attribute, Event, leaf, raw, opens, closes}
 use Rattle.mos_tables.specs.Tables.{columns, others, is_ack, attribute_of_table, attribute_of_form}
-use Rattle.mos_grammar.specs.Tokens.{Token, open_tag, empty_tag, close_tag, text, tail}
-use Rattle.mos_grammar.specs.Records.{Child, seen_of, is_optional, column_of, attribute_fault, given_of, OpenField, Role, out_of_place, leaf_role, raw_role, record_role, message_of, aim_of, with_aim, message_role, role_at, other_role, role, leaf_event, field_events, keys, arranged, nested, raw_events, end_fault, Content, ends, white_space, field, empty_leaf, empty_leaf_tag, raw_element, raw_tag, record_element, record_tag, admission, admitted_record}
-use Rattle.mos_grammar.proofs.Seen.{or_false, no_true, has}
+use Rattle.mos_grammar.specs.Tokens.{Token, open_tag, empty_tag, close_tag, tail}
+use Rattle.mos_grammar.specs.Records.{Child, seen_of, is_optional, column_of, attribute_fault, given_of, OpenField, Role, leaf_role, raw_role, record_role, message_of, aim_of, message_role, role_at, other_role, role, leaf_event, field_events, keys, arranged, nested, raw_events, end_fault, Content, ends, white_space, field, empty_leaf, empty_leaf_tag, raw_element, raw_tag, record_element, record_tag, admission, admitted_record}
+use Rattle.mos_grammar.proofs.Seen.{or_false}
 use Rattle.mos_grammar.proofs.Complete.{table_facts}
 use Rattle.mos_cursor.specs.Accepted.{IsWritten, IsGiven}
 use Rattle.mos_cursor.proofs.Forms.{reads_again, key_is_fresh}
@@ -35,7 +35,7 @@ use Rattle.encoding_laws.proofs.Admitted.{given_again, message_again, no_message
 use Rattle.encoding_laws.proofs.Pieces.{Piece, leaf_piece, RawTokens, whole_raw, empty_raw, raw_piece, Canonical, record_piece}
 use Rattle.encoding_laws.proofs.Lean.{MayLack, IsApart, apart_may_lack, IsQuiet}
 use Rattle.encoding_laws.proofs.Found.{apart_of}
-use Rattle.encoding_laws.proofs.Ordered.{KeptPiece, kept_piece, ChildPiece, unwritten, in_column, in_others, AllPieces, and_false, canonical_of}
+use Rattle.encoding_laws.proofs.Ordered.{kept_piece, ChildPiece, unwritten, in_column, in_others, AllPieces, and_false, canonical_of}
 
 opens_of : (t : Table) (p : List Child) (n : Text) (g : List Attribute) (w : Role) (c : Column) → IsAdmitted t p n g w → IsColumn t p n c → Opens t p n
 opens_of t p n g w c a i = record { outside = a.outside; room = subst (HasRoom (seen_of t p)) (sym i.named) i.room }

@@ -1,10 +1,10 @@
 -- Messages and envelopes as their canonical encodings write them.
-use Rattle.std.proofs.Common.{◌≡◌, ℕ, ◌≤◌, Bool, true, false, cond, List, [], ◌∷◌, ◌++◌, length, map, Option, Some, None, refl, sym, ap, subst, ◌∙◌, append_assoc, arith, codes}
+use Rattle.std.proofs.Common.{◌≡◌, true, false, List, [], ◌∷◌, ◌++◌, map, Some, None, refl, sym, ap, subst, ◌∙◌, append_assoc, arith, codes}
 use Rattle.std.specs.List.{AllByRecursion, flat_map}
 use Rattle.std.proofs.lemmas.List.{append-nil}
 use Rattle.mos_fields.specs.Characters.{Text}
 use Rattle.mos_fields.specs.Fields.{name_of, same}
-use Rattle.mos_fields.specs.Forms.{among, reads}
+use Rattle.mos_fields.specs.Forms.{among}
 use Rattle.mos_fields.specs.Names.{may_grow, named}
 use Rattle.mos_fields.specs.Raw.{IsRaw}
 use Rattle.mos_fields.specs.Values.{samples_text, air_text, time_text, level_text, operation_text}
@@ -17,13 +17,13 @@ use Rattle.mos_fields.specs.declared.level.Level.TheVariants.{Ro, Story as AtSto
 use Rattle.mos_fields.specs.declared.operation.Operation.{Operation}
 use Rattle.mos_fields.specs.declared.operation.Operation.TheVariants.{Insert, Replace, Move, Delete, Swap}
 use Rattle.mos_tables.specs.declared.column.Column.{Column}
-use Rattle.mos_tables.specs.declared.column.Shape.TheVariants.{Leaf, Raw, Record, Message as MessageShape}
-use Rattle.mos_tables.specs.declared.column.Often.TheVariants.{One, Optional, Any, Many, Count}
+use Rattle.mos_tables.specs.declared.column.Shape.TheVariants.{Record, Message as MessageShape}
+use Rattle.mos_tables.specs.declared.column.Often.TheVariants.{Any, Count}
 use Rattle.mos_tables.specs.declared.table.Table.{Table}
 use Rattle.mos_tables.specs.declared.table.Table.TheVariants as tables
-use Rattle.mos_tables.specs.Tables.{column, columns, required, optional, messages, table_of_name, attribute_of_table, words_of, is_ack, has_keys}
-use Rattle.mos_tables.specs.Events.{Attribute, Event, leaf, raw, opens, closes}
-use Rattle.mos_grammar.specs.Records.{Child, column_of, message_of, keys, flat, arranged, nested}
+use Rattle.mos_tables.specs.Tables.{column, columns, required, optional, messages, table_of_name, attribute_of_table, words_of, is_ack}
+use Rattle.mos_tables.specs.Events.{Attribute, Event, raw, opens, closes}
+use Rattle.mos_grammar.specs.Records.{Child, column_of, message_of, keys, arranged, nested}
 use Rattle.mos_grammar.proofs.Seen.{or_false}
 use Rattle.mos_grammar.specs.Streams.{mos_name}
 use Rattle.mos_cursor.specs.Accepted.{IsGiven}
@@ -33,7 +33,7 @@ use Rattle.mos_values.specs.declared.mos_obj.MosObj.{MosObj}
 use Rattle.mos_values.specs.declared.message.Envelope.{Envelope}
 use Rattle.mos_values.specs.declared.message.Message.{Message}
 use Rattle.mos_values.specs.declared.message.Message.TheVariants as variants
-use Rattle.mos_values.specs.Parts.{must, maybe, must_raw, joined, attribute, element, element_with}
+use Rattle.mos_values.specs.Parts.{must, maybe, must_raw, joined, attribute, element_with}
 use Rattle.mos_values.specs.Sound.{IsSoundObject, IsSoundPatch, IsSound, taken_names}
 use Rattle.mos_values.specs.Views.{body_events, patch_events, headers_events, element_stat_events, ro_ack_events, story_send_events, mos_obj_events, objects_events, mach_info_events, mos_ack_events}
 use Rattle.mos_values.specs.MessageViews.{operation_of_action, action_events, message_events, envelope_events}
@@ -41,7 +41,7 @@ use Rattle.encoding_laws.specs.Fitting.{table_inside, or_no_fields, TextsFit, Ha
 use Rattle.encoding_laws.specs.Identifiers.{HasDistinctIdentifiers}
 use Rattle.encoding_laws.proofs.Admitted.{given_again, no_message, raw_of_message, message_admitted}
 use Rattle.encoding_laws.proofs.Pieces.{Piece, raw_piece, Canonical, record_piece}
-use Rattle.encoding_laws.proofs.Assembled.{ColumnPiece, Segment, Segments, assembled}
+use Rattle.encoding_laws.proofs.Assembled.{ColumnPiece, Segment, assembled}
 use Rattle.encoding_laws.proofs.KindSegments.{segment_of, records_hold, raw_tokens, records_segment}
 use Rattle.encoding_laws.proofs.Texts.{Level, level_none, level_both, splits, texts_inside, level_must, level_maybe, level_must_raw, level_element, level_elements, must_part, maybe_part, same_false}
 use Rattle.encoding_laws.proofs.Keys.{no_keys, unkeyed_follow}
@@ -52,20 +52,20 @@ use Rattle.encoding_laws.proofs.Actions.{one_column, level_action, action_canoni
 
 -- ---- records with one or two fields
 
-one_text_canonical : (t : Table) (ts : List Table) (f : Field) (form : Form) (x : Text) → is_ack t ≡ false → places (columns t) ≡ required f form ∷ [] → Segment t [] [] (required f form) (must f x) → Canonical t [] (must f x)
-one_text_canonical t ts f form x a p s = one_column t [] (required f form) (must f x) a p s
+one_text_canonical : (t : Table) (f : Field) (form : Form) (x : Text) → is_ack t ≡ false → places (columns t) ≡ required f form ∷ [] → Segment t [] [] (required f form) (must f x) → Canonical t [] (must f x)
+one_text_canonical t f form x a p s = one_column t [] (required f form) (must f x) a p s
 
 heartbeat_canonical : (x : Text) (ts : List Table) → TextsFit (tables.Heartbeat ∷ ts) (must fields.TimeTag x) → Canonical tables.Heartbeat [] (must fields.TimeTag x)
-heartbeat_canonical x ts h = one_text_canonical tables.Heartbeat ts fields.TimeTag forms.Time x refl refl (must_part tables.Heartbeat [] [] ts fields.TimeTag forms.Time x ((refl, refl, refl, refl), refl, refl) h)
+heartbeat_canonical x ts h = one_text_canonical tables.Heartbeat fields.TimeTag forms.Time x refl refl (must_part tables.Heartbeat [] [] ts fields.TimeTag forms.Time x ((refl, refl, refl, refl), refl, refl) h)
 
 object_canonical : (x : Text) (ts : List Table) → TextsFit (tables.MosReqObj ∷ ts) (must fields.ObjID x) → Canonical tables.MosReqObj [] (must fields.ObjID x)
-object_canonical x ts h = one_text_canonical tables.MosReqObj ts fields.ObjID forms.Id x refl refl (must_part tables.MosReqObj [] [] ts fields.ObjID forms.Id x ((refl, refl, refl, refl), refl, refl) h)
+object_canonical x ts h = one_text_canonical tables.MosReqObj fields.ObjID forms.Id x refl refl (must_part tables.MosReqObj [] [] ts fields.ObjID forms.Id x ((refl, refl, refl, refl), refl, refl) h)
 
 pause_canonical : (x : Text) (ts : List Table) → TextsFit (tables.MosReqAll ∷ ts) (must fields.Pause x) → Canonical tables.MosReqAll [] (must fields.Pause x)
-pause_canonical x ts h = one_text_canonical tables.MosReqAll ts fields.Pause forms.Samples x refl refl (must_part tables.MosReqAll [] [] ts fields.Pause forms.Samples x ((refl, refl, refl, refl), refl, refl) h)
+pause_canonical x ts h = one_text_canonical tables.MosReqAll fields.Pause forms.Samples x refl refl (must_part tables.MosReqAll [] [] ts fields.Pause forms.Samples x ((refl, refl, refl, refl), refl, refl) h)
 
 order_canonical : (x : Text) (ts : List Table) → TextsFit (tables.OneOrder ∷ ts) (must fields.RoID x) → Canonical tables.OneOrder [] (must fields.RoID x)
-order_canonical x ts h = one_text_canonical tables.OneOrder ts fields.RoID forms.Id x refl refl (must_part tables.OneOrder [] [] ts fields.RoID forms.Id x ((refl, refl, refl, refl), refl, refl) h)
+order_canonical x ts h = one_text_canonical tables.OneOrder fields.RoID forms.Id x refl refl (must_part tables.OneOrder [] [] ts fields.RoID forms.Id x ((refl, refl, refl, refl), refl, refl) h)
 
 ready_canonical : (x y : Text) (ts : List Table) → TextsFit (tables.ReadyToAir ∷ ts) (must fields.RoID x ++ must fields.RoAir y) → Canonical tables.ReadyToAir [] (must fields.RoID x ++ must fields.RoAir y)
 ready_canonical x y ts h =

@@ -1,17 +1,12 @@
 -- Worked examples: what the laws ask of an envelope, and what its canonical encoding is.
-use Rattle.std.specs.Prelude.{◌≡◌, List, [], ◌∷◌, ◌++◌, Option, Some, None, codes, refl}
-use Rattle.mos_fields.specs.Characters.{Text}
+use Rattle.std.specs.Prelude.{◌≡◌, [], ◌∷◌, Some, None, codes, refl}
 use Rattle.mos_fields.specs.Forms.{reads}
 use Rattle.mos_tables.specs.Canonical.{canonical}
 use Rattle.mos_values.specs.declared.action.Action.TheVariants.{MoveItems}
 use Rattle.mos_values.specs.declared.message.Envelope.{Envelope}
 use Rattle.mos_values.specs.declared.message.Message.TheVariants.{RoReq, RoElementAction, RoCreate}
-use Rattle.mos_values.specs.declared.header.Header.{Header}
-use Rattle.mos_values.specs.declared.item.Item.{Item}
-use Rattle.mos_values.specs.StoryValue.{Story}
-use Rattle.mos_values.specs.OrderValue.{OrderBody}
-use Rattle.mos_values.specs.Parts.{must, maybe, maybe_as, must_raw, maybe_raw, raws}
-use Rattle.mos_values.specs.Views.{header_events, item_events, items_events, story_head_events, story_events, stories_events, body_events}
+use Rattle.mos_values.specs.Parts.{must, maybe, raws}
+use Rattle.mos_values.specs.Views.{header_events, items_events, story_head_events, story_events, stories_events, body_events}
 use Rattle.mos_values.specs.MessageViews.{target_item, ids_events, source, action_events, message_events, envelope_events}
 use Rattle.encoding_laws.specs.Allowed.{HasAllowedTexts}
 use Rattle.encoding_laws.specs.Fitting.{HasFittingTexts}
@@ -46,10 +41,15 @@ moving_fits = (refl, (refl, (refl, (refl, (refl, (refl, (refl, tt)))))))
 
 -- an order with a story whose storyID is empty has no fitting texts, since a storyID has 1 to 128 characters
 empty_key : Envelope
-empty_key = record { mos = codes "m"; ncs = codes "n"; message_id = None; message = RoCreate (record {
+empty_key = record {
+  mos = codes "m";
+  ncs = codes "n";
+  message_id = None;
+  message = RoCreate (record {
     header = record { ro = codes "r"; slug = []; channel = None; ed_start = None; ed_dur = None; trigger = None; macro_in = None; macro_out = None; metadata = []; others = [] };
     stories = record { id = []; slug = None; num = None; metadata = []; others = []; items = [] } ∷ [];
-  }) }
+  });
+}
 
 empty_key_refused : HasFittingTexts (envelope_events empty_key) → ⊥
 unfolding empty_key envelope_events message_events body_events header_events stories_events story_events story_head_events items_events must maybe raws reads

@@ -1,6 +1,6 @@
 -- Records one after another, with keys or without.
-use Rattle.std.proofs.Common.{◌≡◌, ℕ, ◌<◌, suc, Some, Bool, true, false, cond, List, [], ◌∷◌, ◌++◌, length, map, refl, sym, ap, subst, ◌∙◌, append_assoc, arith}
-use Rattle.std.specs.Prelude.{AllPairs, ◌≢◌, ◌&&◌, not}
+use Rattle.std.proofs.Common.{◌≡◌, suc, Some, Bool, true, false, cond, List, [], ◌∷◌, ◌++◌, map, refl, sym, ap, subst, ◌∙◌, append_assoc, arith}
+use Rattle.std.specs.Prelude.{◌≢◌}
 use Rattle.std.specs.List.{AllByRecursion}
 use Rattle.std.proofs.lemmas.List.{append-nil}
 use Rattle.std.proofs.lemmas.List.Elements.{recursion_from_All}

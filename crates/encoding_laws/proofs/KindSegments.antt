@@ -1,10 +1,10 @@
 -- The events of each kind of field are those of its column.
-use Rattle.std.proofs.Common.{◌≡◌, ℕ, suc, ◌≤◌, ◌+◌, Bool, true, false, cond, List, [], ◌∷◌, ◌++◌, length, map, Option, Some, None, refl, sym, ap, subst, ◌∙◌, append_assoc, arith}
+use Rattle.std.proofs.Common.{◌≡◌, ℕ, suc, ◌≤◌, Bool, true, false, List, [], ◌∷◌, ◌++◌, length, Option, Some, None, refl, sym, ap, subst, ◌∙◌, append_assoc, arith}
 use Rattle.std.specs.List.{AllByRecursion, flat_map}
 use Rattle.std.proofs.lemmas.List.{append-nil}
 use Rattle.mos_fields.specs.Characters.{Text}
 use Rattle.mos_fields.specs.Fields.{name_of, same_field}
-use Rattle.mos_fields.specs.Forms.{among, reads}
+use Rattle.mos_fields.specs.Forms.{reads}
 use Rattle.mos_fields.specs.Names.{is_empty, may_grow, named}
 use Rattle.mos_fields.specs.Raw.{ValueText, QuotedText, EqualsText, TagText, IsRaw}
 use Rattle.mos_fields.specs.Raw as raws_as
@@ -14,20 +14,20 @@ use Rattle.mos_fields.specs.declared.form.Form.{Form}
 use Rattle.mos_fields.specs.declared.form.Form.TheVariants as forms
 use Rattle.mos_tables.specs.declared.column.Column.{Column}
 use Rattle.mos_tables.specs.declared.column.Shape.{Shape}
-use Rattle.mos_tables.specs.declared.column.Shape.TheVariants.{Leaf, Raw, Record, Message}
+use Rattle.mos_tables.specs.declared.column.Shape.TheVariants.{Leaf, Raw, Record}
 use Rattle.mos_tables.specs.declared.column.Often.{Often}
-use Rattle.mos_tables.specs.declared.column.Often.TheVariants.{One, Optional, Any, Many, Count}
+use Rattle.mos_tables.specs.declared.column.Often.TheVariants.{One, Optional, Any}
 use Rattle.mos_tables.specs.declared.others.Others.TheVariants.{Kept}
 use Rattle.mos_tables.specs.declared.table.Table.{Table}
 use Rattle.mos_tables.specs.Tables.{column, columns, others, required, optional, attribute_of_form, attribute_of_table}
 use Rattle.mos_tables.specs.Events.{Attribute, Event, leaf, raw, opens, closes}
 use Rattle.mos_grammar.specs.Tokens.{Token, open_tag, empty_tag, tail}
 use Rattle.mos_grammar.specs.Records.{Child, least_count, column_of, flat, other_role, with_aim, keys, arranged, nested}
-use Rattle.mos_lexer.specs.Lexing.{WritesValue, value_ends, value_itself, value_reference, WritesQuoted, quoted_space, quote, WritesEquals, equals_space, equals, WritesTag, ends_start, ends_empty, tag_space, attribute, WrittenTag}
+use Rattle.mos_lexer.specs.Lexing.{WritesValue, value_ends, value_itself, value_reference, WritesQuoted, quoted_space, quote, WritesEquals, equals_space, equals, WritesTag, ends_start, ends_empty, tag_space, attribute}
 use Rattle.mos_cursor.specs.Accepted.{IsGiven}
 use Rattle.mos_cursor.specs.Parts.{kept_column}
 use Rattle.mos_cursor.proofs.Counts.{Most}
-use Rattle.mos_values.specs.Parts.{must, maybe, maybe_as, must_raw, maybe_raw, raws, element_with}
+use Rattle.mos_values.specs.Parts.{must, maybe, must_raw, maybe_raw, raws, element_with}
 use Rattle.encoding_laws.proofs.Admitted.{given_again, role_of_other, raw_of_column, record_admitted}
 use Rattle.encoding_laws.proofs.Pieces.{Piece, leaf_piece, RawTokens, whole_raw, empty_raw, raw_piece, Canonical, record_piece}
 use Rattle.encoding_laws.proofs.Ordered.{KeptPiece, kept_piece}

@@ -1,6 +1,6 @@
 -- What may follow children may follow them also where some of them are left out that need not be there, or others are
 -- added that no column takes.
-use Rattle.std.proofs.Common.{◌≡◌, ℕ, ◌+◌, ◌≤◌, ◌<◌, Bool, true, false, cond, List, [], ◌∷◌, ◌++◌, Option, Some, None, refl, sym, ap, subst, ◌∙◌, append_assoc, arith, inl, inr}
+use Rattle.std.proofs.Common.{◌≡◌, ℕ, ◌+◌, ◌≤◌, ◌<◌, Bool, true, false, cond, List, [], ◌∷◌, ◌++◌, Option, Some, None, refl, sym, ap, ◌∙◌, arith, inl, inr}
 use Rattle.std.specs.Prelude.{◌&&◌, not, nat_lt, nat_le}
 use Rattle.std.specs.List.{AllByRecursion, flat_map}
 use Rattle.std.proofs.lemmas.List.{append-nil}
@@ -21,7 +21,7 @@ use Rattle.mos_tables.specs.declared.table.Table.TheVariants as tables
 use Rattle.mos_tables.specs.Tables.{columns, is_ack, has_keys, ack_columns, group_columns}
 use Rattle.mos_grammar.specs.declared.fault.Fault.{Fault}
 use Rattle.mos_grammar.specs.declared.fault.Fault.TheVariants.{Twice as twice, Order as out_of_order}
-use Rattle.mos_grammar.specs.Records.{Child, times, seen_behind, seen_of, least_count, is_single, is_full, is_optional, is_named, column_of, before_column, any_seen, lacks, lack_of, lacking, repeated, or_else, field_fault, if_field, outside_fault, wanted, end_fault, has_leaf, aim_of, key_of, keys}
+use Rattle.mos_grammar.specs.Records.{Child, times, seen_of, least_count, is_single, is_full, is_optional, is_named, column_of, before_column, any_seen, lacks, lacking, repeated, or_else, field_fault, if_field, end_fault, has_leaf, aim_of, key_of, keys}
 use Rattle.mos_grammar.proofs.Seen.{or_false, not_true, times_push, not_lacking, lacking_front, seen_push}
 use Rattle.mos_cursor.proofs.Roles.{no_or_else}
 use Rattle.mos_cursor.proofs.Columns.{column_of-all}

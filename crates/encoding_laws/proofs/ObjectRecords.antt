@@ -1,33 +1,30 @@
 -- Objects, machines and states as their canonical encodings write them.
-use Rattle.std.proofs.Common.{◌≡◌, ℕ, zero, suc, ◌≤◌, ◌<◌, ◌+◌, Bool, true, false, cond, List, [], ◌∷◌, ◌++◌, length, map, Option, Some, None, refl, sym, ap, subst, ◌∙◌, append_assoc, arith, codes}
-use Rattle.std.specs.List.{AllByRecursion, flat_map}
+use Rattle.std.proofs.Common.{◌≡◌, ℕ, zero, suc, ◌≤◌, ◌+◌, Bool, true, false, List, [], ◌∷◌, ◌++◌, Option, Some, None, refl, sym, ap, subst, ◌∙◌, append_assoc, arith}
+use Rattle.std.specs.List.{AllByRecursion}
 use Rattle.std.specs.Fmt.{decimal}
 use Rattle.std.proofs.lemmas.List.{append-nil}
 use Rattle.mos_fields.specs.Characters.{Text}
 use Rattle.mos_fields.specs.Fields.{name_of}
 use Rattle.mos_fields.specs.Forms.{among, reads}
-use Rattle.mos_fields.specs.declared.level.Level.TheVariants as levels
-use Rattle.mos_fields.specs.Values.{samples_text, rev_text, air_text, obj_type_text, time_text, level_text}
-use Rattle.mos_fields.specs.declared.field.Field.{Field}
+use Rattle.mos_fields.specs.Values.{samples_text, rev_text, air_text, obj_type_text, time_text}
 use Rattle.mos_fields.specs.declared.field.Field.TheVariants as fields
 use Rattle.mos_fields.specs.declared.form.Form.TheVariants as forms
 use Rattle.mos_tables.specs.declared.column.Column.{Column}
-use Rattle.mos_tables.specs.declared.column.Shape.TheVariants.{Leaf, Raw, Record, Message}
-use Rattle.mos_tables.specs.declared.column.Often.TheVariants.{One, Optional, Any, Many, Count}
+use Rattle.mos_tables.specs.declared.column.Shape.TheVariants.{Leaf, Raw, Record}
+use Rattle.mos_tables.specs.declared.column.Often.TheVariants.{One, Optional, Any}
 use Rattle.mos_tables.specs.declared.table.Table.{Table}
 use Rattle.mos_tables.specs.declared.table.Table.TheVariants as tables
-use Rattle.mos_tables.specs.Tables.{column, attribute_of_table, attribute_of_form, words_of, required, optional, optional_raw, raw_list}
+use Rattle.mos_tables.specs.Tables.{column, words_of, required, optional, optional_raw, raw_list}
 use Rattle.mos_tables.specs.Events.{Attribute, Event, leaf}
-use Rattle.mos_grammar.specs.Records.{Child, key_of, keys, flat, with_aim}
+use Rattle.mos_grammar.specs.Records.{Child, keys, flat}
 use Rattle.mos_cursor.specs.Parts.{kept_column}
-use Rattle.mos_values.specs.Distinct.{AreDistinct, item_ids, story_ids}
-use Rattle.mos_values.specs.Parts.{must, maybe, maybe_as, must_raw, maybe_raw, raws, joined, attribute, element, element_with}
+use Rattle.mos_values.specs.Parts.{must, maybe, maybe_as, must_raw, maybe_raw, raws, joined, attribute}
 use Rattle.encoding_laws.specs.Fitting.{TextsFit}
 use Rattle.encoding_laws.proofs.Pieces.{Canonical}
 use Rattle.encoding_laws.proofs.Assembled.{Segment, assembled}
-use Rattle.encoding_laws.proofs.KindSegments.{key_segment, records_segment, record_segment, absent_segment}
-use Rattle.encoding_laws.proofs.Texts.{Level, level_none, level_both, splits, texts_inside, level_must, level_maybe, level_maybe_as, level_must_raw, level_maybe_raw, level_raws, level_element, level_elements, level_joined, texts_of_parts, EachFits, raws_of_parts, text_of_must, must_part, maybe_part, maybe_as_part, must_raw_part, maybe_raw_part, raws_part, kept_part}
-use Rattle.encoding_laws.proofs.Keys.{Fresh, fresh, reads_key, keys_keyless, no_keys_yet, no_keys, keyed_follow, unkeyed_follow, joined_append, joined_behind}
+use Rattle.encoding_laws.proofs.KindSegments.{record_segment, absent_segment}
+use Rattle.encoding_laws.proofs.Texts.{Level, level_none, level_both, splits, level_must, level_maybe, level_maybe_as, level_must_raw, level_maybe_raw, level_raws, level_element, level_joined, texts_of_parts, EachFits, raws_of_parts, must_part, maybe_part, maybe_as_part, must_raw_part, maybe_raw_part, raws_part, kept_part}
+use Rattle.encoding_laws.proofs.Keys.{joined_append}
 use Rattle.mos_values.specs.declared.mos_obj.MosObj.{MosObj}
 use Rattle.mos_values.specs.declared.mach_info.MachInfo.{MachInfo}
 use Rattle.mos_values.specs.declared.profile.DeviceType.{DeviceType}
@@ -39,7 +36,6 @@ use Rattle.mos_values.specs.declared.element_stat.ElementStat.{ElementStat}
 use Rattle.mos_values.specs.declared.story_send.StorySend.{StorySend}
 use Rattle.mos_values.specs.Views.{mos_obj_events, mach_head_events, mach_rest_events, mach_info_events, supported_events, profiles_events, profile_events, device_type_text, answer_text, ack_status_text, mos_ack_events, element_stat_events, story_send_events}
 use Rattle.std.proofs.lemmas.Fmt.{decimal_digit}
-use Rattle.mos_cursor.specs.Accepted.{IsGiven}
 use Rattle.encoding_laws.proofs.Pieces.{leaf_piece}
 use Rattle.encoding_laws.proofs.Assembled.{ColumnPiece, ColumnPieces, HasNoKey}
 use Rattle.encoding_laws.proofs.KindSegments.{field_named, segment_of}

@@ -1,5 +1,5 @@
 -- From children that are written one by one to the canonical encoding of their record.
-use Rattle.std.proofs.Common.{◌≡◌, ◌≤◌, ◌<◌, ◌+◌, Bool, true, false, cond, List, [], ◌∷◌, ◌++◌, Option, Some, None, refl, sym, ap, subst, ◌∙◌, append_assoc, arith}
+use Rattle.std.proofs.Common.{◌≡◌, Bool, true, false, cond, List, [], ◌∷◌, ◌++◌, Option, Some, None, refl, sym, ap, subst, ◌∙◌, append_assoc, arith}
 use Rattle.std.specs.Prelude.{◌&&◌, nat_lt}
 use Rattle.std.specs.List.{AllByRecursion}
 use Rattle.std.proofs.lemmas.List.{append-nil}
@@ -16,10 +16,9 @@ use Rattle.mos_tables.specs.Events.{Event, raw}
 use Rattle.mos_tables.specs.Canonical.{canonical}
 use Rattle.mos_tables.specs.Tables.{columns, others, is_ack}
 use Rattle.mos_grammar.specs.Tokens.{Token}
-use Rattle.mos_grammar.specs.declared.fault.Fault.{Fault}
 use Rattle.mos_grammar.specs.declared.fault.Fault.TheVariants.{Twice as twice, Order as out_of_order}
-use Rattle.mos_grammar.specs.Records.{Child, times, seen_of, is_single, is_named, column_of, before_column, any_seen, lacking, repeated, field_fault, if_field, outside_fault, end_fault, flat, aim_of, keys, arranged, Content, ends}
-use Rattle.mos_grammar.proofs.Seen.{or_false, no_true, has, distinct, answers, later_apart, times_push, times_last, times_more}
+use Rattle.mos_grammar.specs.Records.{Child, times, seen_of, is_single, is_named, column_of, before_column, any_seen, lacking, repeated, field_fault, if_field, end_fault, flat, aim_of, keys, arranged, Content, ends}
+use Rattle.mos_grammar.proofs.Seen.{or_false, no_true, has, distinct, answers, later_apart, times_last, times_more}
 use Rattle.mos_grammar.proofs.Complete.{table_facts}
 use Rattle.mos_cursor.proofs.Roles.{no_or_else}
 use Rattle.mos_cursor.proofs.Columns.{column_of-all, column_of-named, same_field-same, same_field-sym}
@@ -28,7 +27,7 @@ use Rattle.encoding_laws.proofs.Written.{HasNames, names_both, WritesFront, no_f
 use Rattle.encoding_laws.proofs.Admitted.{HasRoom, Opens}
 use Rattle.encoding_laws.proofs.Pieces.{canonical_append, Piece, Canonical}
 use Rattle.encoding_laws.proofs.Lean.{MayLack, IsApart, apart_may_lack, Lean, lean_none, lean_both, IsQuiet, lean_left, lean_right, lean_opens, lean_ends}
-use Rattle.encoding_laws.proofs.Arranged.{put, select, written_children, of_column, by_columns, same_has, columns_other, columns_push, behind_metadata, columns_put, columns_nothing, columns_none}
+use Rattle.encoding_laws.proofs.Arranged.{put, select, written_children, by_columns, same_has, columns_other, columns_push, behind_metadata, columns_put, columns_nothing, columns_none}
 use Rattle.encoding_laws.proofs.Found.{in_order, order_flat, order_again, apart_of}
 
 -- ---- what is built behind children

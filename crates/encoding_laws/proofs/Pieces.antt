@@ -1,13 +1,12 @@
 -- A child of a record as the canonical encoding writes it.
-use Rattle.std.proofs.Common.{◌≡◌, ℕ, Bool, true, false, cond, List, [], ◌∷◌, ◌++◌, Option, Some, None, refl, sym, ap, subst, ◌∙◌, append_assoc}
-use Rattle.std.specs.List.{AllByRecursion, flat_map}
+use Rattle.std.proofs.Common.{◌≡◌, ℕ, true, false, List, [], ◌∷◌, ◌++◌, Some, refl, sym, ap, subst, ◌∙◌, append_assoc}
+use Rattle.std.specs.List.{AllByRecursion}
 use Rattle.std.proofs.lemmas.List.{append-nil}
 use Rattle.std.proofs.lemmas.Grind.{flat_map-append}
 use Rattle.mos_fields.specs.Characters.{Text}
 use Rattle.mos_fields.specs.Fields.{same_field}
 use Rattle.mos_fields.specs.Names.{named}
 use Rattle.mos_fields.specs.Raw.{end_text, is_tail}
-use Rattle.mos_fields.specs.Escapes.{escaped}
 use Rattle.mos_fields.specs.Forms.{reads}
 use Rattle.mos_fields.specs.declared.field.Field.{Field}
 use Rattle.mos_fields.specs.declared.field.Field.TheVariants as fields
@@ -18,11 +17,11 @@ use Rattle.mos_tables.specs.declared.table.Table.{Table}
 use Rattle.mos_tables.specs.Events.{Attribute, Event, leaf, raw, opens, closes}
 use Rattle.mos_tables.specs.Canonical.{start_text, event_text, canonical}
 use Rattle.mos_tables.specs.Tables.{columns, attribute_of_form}
-use Rattle.mos_grammar.specs.Tokens.{Token, open_tag, empty_tag, close_tag, text, tail}
+use Rattle.mos_grammar.specs.Tokens.{Token, open_tag, empty_tag, close_tag, tail}
 use Rattle.mos_grammar.specs.Records.{Child, column_of, raw_role, role, aim_of, keys, arranged, nested, raw_events, Content, field, empty_leaf, raw_element, raw_tag, record_element, admission, admitted_record, field_events, admitted_leaf}
-use Rattle.mos_lexer.specs.Lexing.{WrittenTag, WritesTokens}
+use Rattle.mos_lexer.specs.Lexing.{WrittenTag}
 use Rattle.mos_cursor.specs.Accepted.{IsGiven}
-use Rattle.encoding_laws.proofs.Written.{IsNamedAttribute, HasNames, names_both, WritesFront, no_front, both_fronts, start_front, end_front, field_tokens, field_front}
+use Rattle.encoding_laws.proofs.Written.{IsNamedAttribute, HasNames, names_both, WritesFront, both_fronts, start_front, end_front, field_tokens, field_front}
 use Rattle.encoding_laws.proofs.Admitted.{given_again, Opens, field_of, leaf_admitted, leaf_read, raw_admitted, raw_admitted_empty}
 
 pub canonical_append : (x y : List Event) → canonical (x ++ y) ≡ canonical x ++ canonical y

@@ -1,40 +1,36 @@
 -- Items, stories and running orders as their canonical encodings write them.
-use Rattle.std.proofs.Common.{◌≡◌, ℕ, ◌≤◌, Bool, true, false, cond, List, [], ◌∷◌, ◌++◌, length, map, Option, Some, None, refl, sym, ap, subst, ◌∙◌, append_assoc, arith, codes}
+use Rattle.std.proofs.Common.{◌≡◌, false, List, [], ◌∷◌, ◌++◌, refl, subst, ◌∙◌, arith}
 use Rattle.std.specs.List.{AllByRecursion, flat_map}
-use Rattle.std.specs.Fmt.{decimal}
-use Rattle.std.proofs.lemmas.List.{append-nil}
 use Rattle.mos_fields.specs.Characters.{Text}
 use Rattle.mos_fields.specs.Fields.{name_of}
-use Rattle.mos_fields.specs.Forms.{among, reads}
-use Rattle.mos_fields.specs.Values.{samples_text, rev_text, air_text, obj_type_text, time_text, level_text}
-use Rattle.mos_fields.specs.declared.field.Field.{Field}
+use Rattle.mos_fields.specs.Forms.{among}
+use Rattle.mos_fields.specs.Values.{samples_text}
 use Rattle.mos_fields.specs.declared.field.Field.TheVariants as fields
 use Rattle.mos_fields.specs.declared.form.Form.TheVariants as forms
-use Rattle.mos_tables.specs.declared.column.Column.{Column}
-use Rattle.mos_tables.specs.declared.column.Shape.TheVariants.{Leaf, Raw, Record, Message}
-use Rattle.mos_tables.specs.declared.column.Often.TheVariants.{One, Optional, Any, Many, Count}
+use Rattle.mos_tables.specs.declared.column.Shape.TheVariants.{Record}
+use Rattle.mos_tables.specs.declared.column.Often.TheVariants.{One, Any}
 use Rattle.mos_tables.specs.declared.table.Table.{Table}
 use Rattle.mos_tables.specs.declared.table.Table.TheVariants as tables
 use Rattle.mos_tables.specs.Tables.{column, required, optional, optional_raw, raw_list}
-use Rattle.mos_tables.specs.Events.{Attribute, Event, leaf}
+use Rattle.mos_tables.specs.Events.{Event}
 use Rattle.mos_grammar.specs.Records.{Child, key_of, keys}
 use Rattle.mos_cursor.specs.Parts.{kept_column}
 use Rattle.mos_values.specs.Distinct.{AreDistinct, item_ids, story_ids}
-use Rattle.mos_values.specs.Parts.{must, maybe, maybe_as, must_raw, maybe_raw, raws, joined, attribute, element, element_with}
+use Rattle.mos_values.specs.Parts.{must, maybe, maybe_as, maybe_raw, raws, element_with}
 use Rattle.encoding_laws.specs.Fitting.{table_inside, TextsFit}
 use Rattle.encoding_laws.specs.Identifiers.{HasDistinctItems}
 use Rattle.encoding_laws.proofs.Pieces.{Canonical}
 use Rattle.encoding_laws.proofs.Assembled.{Segment, assembled}
-use Rattle.encoding_laws.proofs.KindSegments.{key_segment, records_segment, record_segment, absent_segment}
-use Rattle.encoding_laws.proofs.Texts.{Level, level_none, level_both, splits, texts_inside, level_must, level_maybe, level_maybe_as, level_must_raw, level_maybe_raw, level_raws, level_element, level_elements, level_joined, texts_of_parts, EachFits, raws_of_parts, text_of_must, must_part, maybe_part, maybe_as_part, must_raw_part, maybe_raw_part, raws_part, kept_part}
-use Rattle.encoding_laws.proofs.Keys.{Fresh, fresh, reads_key, keys_keyless, no_keys_yet, no_keys, keyed_follow, unkeyed_follow, joined_append, joined_behind}
+use Rattle.encoding_laws.proofs.KindSegments.{key_segment, records_segment}
+use Rattle.encoding_laws.proofs.Texts.{Level, level_both, splits, texts_inside, level_must, level_maybe, level_maybe_as, level_maybe_raw, level_raws, level_element, level_elements, level_joined, texts_of_parts, EachFits, raws_of_parts, text_of_must, must_part, maybe_part, maybe_as_part, maybe_raw_part, raws_part, kept_part}
+use Rattle.encoding_laws.proofs.Keys.{fresh, reads_key, keys_keyless, no_keys_yet, keyed_follow, joined_behind}
 use Rattle.mos_values.specs.declared.header.Header.{Header}
 use Rattle.mos_values.specs.declared.header.HeaderPatch.{HeaderPatch}
 use Rattle.mos_values.specs.declared.item.Item.{Item}
 use Rattle.mos_values.specs.StoryValue.{Story}
 use Rattle.mos_values.specs.OrderValue.{OrderBody}
 use Rattle.mos_values.specs.Views.{header_events, patch_events, item_events, items_events, story_head_events, story_events, stories_events, body_events}
-use Rattle.mos_values.specs.Sound.{IsSoundItem, AreSoundItems, IsSoundStory, AreSoundStories, IsSoundBody}
+use Rattle.mos_values.specs.Sound.{AreSoundItems, IsSoundStory, AreSoundStories, IsSoundBody}
 
 abbrev item_parts : Item → List (List Event)
 item_parts i = must fields.ItemID i.id ∷ maybe fields.ItemSlug i.slug ∷ must fields.ObjID i.obj ∷ must fields.MosID i.mos ∷ maybe_raw fields.MosAbstract i.mos_abstract ∷ maybe_raw fields.ObjPaths i.obj_paths ∷ maybe fields.ItemChannel i.channel ∷ maybe_as samples_text fields.ItemEdStart i.ed_start ∷ maybe_as samples_text fields.ItemEdDur i.ed_dur ∷ maybe_as samples_text fields.ItemUserTimingDur i.user_timing_dur ∷ maybe fields.ItemTrigger i.trigger ∷ maybe fields.MacroIn i.macro_in ∷ maybe fields.MacroOut i.macro_out ∷ raws fields.Metadata i.metadata ∷ raws fields.Kept i.others ∷ []

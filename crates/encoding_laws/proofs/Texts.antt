@@ -21,11 +21,11 @@ use Rattle.mos_grammar.proofs.Seen.{or_false}
 use Rattle.mos_grammar.proofs.Sound.{same-refl}
 use Rattle.mos_cursor.specs.Parts.{kept_column}
 use Rattle.mos_cursor.proofs.Roles.{same_is}
-use Rattle.mos_values.specs.Parts.{must, maybe, maybe_as, must_raw, maybe_raw, raws, joined, element_with, element}
+use Rattle.mos_values.specs.Parts.{must, maybe, maybe_as, must_raw, maybe_raw, raws, joined, element_with}
 use Rattle.mos_values.specs.Sound.{IsOther, IsNamed, Fits}
 use Rattle.encoding_laws.specs.Fitting.{inside_columns, TextFits, table_inside, TextsFit}
 use Rattle.encoding_laws.proofs.Assembled.{Segment}
-use Rattle.encoding_laws.proofs.KindSegments.{is_key, IsTextColumn, must_segment, MaybeReads, maybe_segment, IsRawColumn, raws_segment, MaybeRaw, must_raw_segment, maybe_raw_segment, IsKeptRaw, kept_segment}
+use Rattle.encoding_laws.proofs.KindSegments.{is_key, IsTextColumn, must_segment, maybe_segment, IsRawColumn, raws_segment, must_raw_segment, maybe_raw_segment, IsKeptRaw, kept_segment}
 
 -- ---- events whose records all end
 

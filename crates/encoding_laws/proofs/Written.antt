@@ -1,6 +1,5 @@
 -- What the canonical encoding writes are tokens: texts, tags, and fields with a text.
-use Rattle.std.proofs.Common.{◌≡◌, ℕ, Bool, true, false, cond, eqb, List, [], ◌∷◌, ◌++◌, Option, Some, None, refl, sym, ap, subst, ◌∙◌, append_assoc, codes}
-use Rattle.std.specs.Prelude.{not, ◌&&◌, ◌||◌, ◌==◌}
+use Rattle.std.proofs.Common.{◌≡◌, ℕ, Bool, true, false, cond, eqb, List, [], ◌∷◌, ◌++◌, Some, refl, sym, ap, subst, ◌∙◌, append_assoc, codes}
 use Rattle.std.specs.List.{AllByRecursion, flat_map}
 use Rattle.std.proofs.lemmas.Bool.{eqb-true}
 use Rattle.std.proofs.lemmas.List.{append-nil}
@@ -10,9 +9,9 @@ use Rattle.mos_fields.specs.Raw.{end_text, is_plain}
 use Rattle.mos_fields.specs.References.{reference_of}
 use Rattle.mos_fields.specs.Escapes.{escaped_char, escaped}
 use Rattle.mos_tables.specs.Events.{Attribute, Event, leaf, raw, opens, closes}
-use Rattle.mos_tables.specs.Canonical.{attribute_text, start_text, event_text, canonical}
-use Rattle.mos_grammar.specs.Tokens.{Token, open_tag, empty_tag, close_tag, text, tail}
-use Rattle.mos_lexer.specs.Lexing.{Writes, nothing, itself, reference, WritesValue, value_ends, value_itself, value_reference, WritesEquals, equals, quote, WritesTag, ends_start, tag_space, attribute, WrittenTag, Written, Ends, WritesTokens}
+use Rattle.mos_tables.specs.Canonical.{attribute_text, start_text, canonical}
+use Rattle.mos_grammar.specs.Tokens.{Token, open_tag, close_tag, text}
+use Rattle.mos_lexer.specs.Lexing.{Writes, nothing, itself, reference, WritesValue, value_ends, value_itself, value_reference, equals, quote, WritesTag, ends_start, tag_space, attribute, WrittenTag, Written, WritesTokens}
 
 -- ---- characters
 
@@ -28,13 +27,13 @@ escaping c = one (eqb c 60) refl
     by : (d : ℕ) (m : Text) → eqb c d ≡ true → reference_of m ≡ Some d → Escaping c (38 ∷ m)
     by d m e r = by_reference m (r ∙ ap Some (sym (eqb-true c d e)))
 
-    five : (a b d : Bool) → eqb c 60 ≡ false → eqb c 38 ≡ false → eqb c 34 ≡ false → eqb c 39 ≡ d → Escaping c (cond d (codes "&apos;") (c ∷ []))
-    five a b true x y z e = by 39 (codes "apos;") e refl
-    five a b false x y z e = as_itself (rw (x, y) refl) z
+    five : (d : Bool) → eqb c 60 ≡ false → eqb c 38 ≡ false → eqb c 34 ≡ false → eqb c 39 ≡ d → Escaping c (cond d (codes "&apos;") (c ∷ []))
+    five true x y z e = by 39 (codes "apos;") e refl
+    five false x y z e = as_itself (rw (x, y) refl) z
 
     four : (b : Bool) → eqb c 60 ≡ false → eqb c 38 ≡ false → eqb c 34 ≡ b → Escaping c (cond b (codes "&quot;") (cond (eqb c 39) (codes "&apos;") (c ∷ [])))
     four true x y e = by 34 (codes "quot;") e refl
-    four false x y e = five true true (eqb c 39) x y e refl
+    four false x y e = five (eqb c 39) x y e refl
 
     three : (b : Bool) → eqb c 60 ≡ false → eqb c 38 ≡ b → Escaping c (cond b (codes "&amp;") (cond (eqb c 34) (codes "&quot;") (cond (eqb c 39) (codes "&apos;") (c ∷ []))))
     three true x e = by 38 (codes "amp;") e refl
