@@ -1,0 +1,20 @@
+pub mod Written
+pub mod Admitted
+pub mod Pieces
+pub mod Lean
+pub mod Arranged
+pub mod Found
+pub mod Ordered
+pub mod Collected
+pub mod Assembled
+pub mod KindSegments
+pub mod Texts
+pub mod Keys
+pub mod StoryRecords
+pub mod ObjectRecords
+pub mod Acks
+pub mod Actions
+pub mod Envelopes
+pub mod AllowedEncodings
+pub mod Again
+mod Examples
