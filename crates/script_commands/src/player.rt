@@ -6,9 +6,10 @@ ghost use Rattle.world_events.specs.Events.{HasSoundEdit, event_of};
 use crate::texts::{push_fault, push_id, push_number, push_order, push_word};
 use mos_fields::{Id, NoMemory};
 use mos_values::Edit;
-use ncs_core::Ncs;
+use ncs_core::{Ncs, StartFault};
 use rundown_log::{MemKeeper, edit_ro};
 use std::alloc::Global;
+use std::mem::replace;
 use world_events::WorldEvent;
 use world_scripts::{read_devices, read_event};
 
@@ -23,13 +24,14 @@ pub struct Player {
 // Lets a value go. What is let go here is dropped by a function of its type, and not variant by variant on each path.
 fn let_go<T: Drop>(_value: T) {}
 
-/// A server of so many devices, without entries.
-fn started(alloc: Global, devices: u32) -> Option<Ncs<MemKeeper>> {
-    if devices < 1 || devices > 64 {
-        return None;
-    }
-    let keeper = MemKeeper::new(alloc, Vec::new(alloc), false);
-    match Ncs::start(alloc, keeper, devices) {
+// Puts a value in the place of another, which is let go.
+fn put<T: Drop>(place: &mut T, value: T) {
+    let_go(replace(place, value));
+}
+
+/// The server, where it was started.
+fn started_of(start: Result<Ncs<MemKeeper>, StartFault<MemKeeper>>) -> Option<Ncs<MemKeeper>> {
+    match start {
         Ok(server) => Some(server),
         Err(fault) => {
             let_go(fault);
@@ -38,20 +40,22 @@ fn started(alloc: Global, devices: u32) -> Option<Ncs<MemKeeper>> {
     }
 }
 
+/// A server of so many devices, without entries.
+fn started(alloc: Global, devices: u32) -> Option<Ncs<MemKeeper>> {
+    if devices < 1 || devices > 64 {
+        return None;
+    }
+    let keeper = MemKeeper::new(alloc, Vec::new(alloc), false);
+    started_of(Ncs::start(alloc, keeper, devices))
+}
+
 /// The server once it is started again, where an entry whose append failed stands or doesn't.
 fn restarted(server: Ncs<MemKeeper>, kept: bool) -> Option<Ncs<MemKeeper>> {
     let mut server = server;
     match server.settle(kept) {
-        Ok(()) => {}
+        Ok(()) => started_of(server.restart()),
         Err(_) => {
             let_go(server);
-            return None;
-        }
-    }
-    match server.restart() {
-        Ok(server) => Some(server),
-        Err(fault) => {
-            let_go(fault);
             None
         }
     }
@@ -90,7 +94,8 @@ impl Player {
     fn command(&mut self, alloc: Global, out: &mut String, edit: &Edit) -> Result<(), NoMemory>
         requires { IsSound (edit_message edit.now) }
     {
-        self.order = Some(edit_ro(edit).try_clone()?);
+        let ro = edit_ro(edit).try_clone()?;
+        put(&mut self.order, Some(ro));
         match &mut self.server {
             Some(server) => push_command(alloc, out, server, edit),
             None => push_word(out, "-"),
@@ -101,7 +106,7 @@ impl Player {
     fn restart(&mut self, out: &mut String, kept: bool) -> Result<(), NoMemory> {
         match self.server.take() {
             Some(server) => {
-                self.server = restarted(server, kept);
+                put(&mut self.server, restarted(server, kept));
                 push_word(out, "done")
             }
             None => push_word(out, "-"),
@@ -141,15 +146,19 @@ impl Player {
         }
     }
 
+    /// Begins a script with its first line, if it is one.
+    fn begin(&mut self, alloc: Global, line: &[u8]) {
+        if let Some(devices) = read_devices(line) {
+            put(&mut self.server, started(alloc, devices));
+        }
+    }
+
     /// Plays a line. An empty one ends a script: then its order is told.
     pub fn line(&mut self, alloc: Global, out: &mut String, line: &[u8]) -> Result<(), NoMemory> {
         if line.is_empty() {
             self.end(alloc, out)
         } else if self.server.is_none() {
-            self.server = match read_devices(line) {
-                Some(devices) => started(alloc, devices),
-                None => None,
-            };
+            self.begin(alloc, line);
             Ok(())
         } else {
             self.event_line(alloc, out, line)?;
@@ -173,9 +182,9 @@ impl Player {
 
     fn end(&mut self, alloc: Global, out: &mut String) -> Result<(), NoMemory> {
         self.push_end(alloc, out)?;
-        self.server = None;
         self.count = 0;
-        self.order = None;
+        put(&mut self.server, None);
+        put(&mut self.order, None);
         push_word(out, "\n")
     }
 }
