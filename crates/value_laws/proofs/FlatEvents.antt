@@ -1,0 +1,126 @@
+-- Lists of events are cut where their first element begins or ends.
+use Rattle.std.proofs.Common.{◌≡◌, Bool, true, false, List, [], ◌∷◌, ◌++◌, refl, sym, ap, ◌∙◌}
+use Rattle.std.specs.List.{AllByRecursion, flat_map}
+use Rattle.std.proofs.lemmas.List.{append_assoc}
+use Rattle.std.proofs.lemmas.List.Concat.{flat_map-cons}
+use Rattle.mos_fields.specs.Characters.{Text}
+use Rattle.mos_tables.specs.Events.{Attribute, Event, leaf, raw, opens, closes}
+use Rattle.mos_values.specs.Parts.{element, element_with}
+
+-- neither the start nor the end of a record
+abbrev pub IsFlat : Event → Type 0
+IsFlat (leaf n g x) = Unit {0}
+IsFlat (raw f x) = Unit {0}
+IsFlat (opens n g) = ⊥
+IsFlat (closes n) = ⊥
+
+-- there is nothing more, or a record begins or ends
+abbrev pub Stops : List Event → Type 0
+Stops [] = Unit {0}
+Stops (leaf n g x ∷ es) = ⊥
+Stops (raw f x ∷ es) = ⊥
+Stops (opens n g ∷ es) = Unit {0}
+Stops (closes n ∷ es) = Unit {0}
+
+-- there is nothing more, or a record ends
+abbrev pub Ends : List Event → Type 0
+Ends [] = Unit {0}
+Ends (leaf n g x ∷ es) = ⊥
+Ends (raw f x ∷ es) = ⊥
+Ends (opens n g ∷ es) = ⊥
+Ends (closes n ∷ es) = Unit {0}
+
+pub ends_stops : (r : List Event) → Ends r → Stops r
+ends_stops [] h = tt
+ends_stops (leaf n g x ∷ es) h = h
+ends_stops (raw f x ∷ es) h = h
+ends_stops (opens n g ∷ es) h = tt
+ends_stops (closes n ∷ es) h = tt
+
+-- both parts are the same
+abbrev pub Both : {A : Type 0} → A → A → List Event → List Event → Type 0
+Both a b r s = (a ≡ b) × (r ≡ s)
+
+tails : (d e : Event) (p q : List Event) → d ∷ p ≡ e ∷ q → (d ≡ e) × (p ≡ q)
+tails d e p q h = (cc, cc)
+
+flat_stop : (e : Event) (p s : List Event) → IsFlat e → Stops s → s ≡ e ∷ p → ⊥
+flat_stop e p [] f g h = absurd cc
+flat_stop e p (leaf n a x ∷ es) f g h = g
+flat_stop e p (raw k x ∷ es) f g h = g
+flat_stop (leaf n' a' x') p (opens n a ∷ es) f g h = absurd cc
+flat_stop (raw k x) p (opens n a ∷ es) f g h = absurd cc
+flat_stop (opens n' a') p (opens n a ∷ es) f g h = f
+flat_stop (closes n') p (opens n a ∷ es) f g h = f
+flat_stop (leaf n' a' x') p (closes n ∷ es) f g h = absurd cc
+flat_stop (raw k x) p (closes n ∷ es) f g h = absurd cc
+flat_stop (opens n' a') p (closes n ∷ es) f g h = f
+flat_stop (closes n') p (closes n ∷ es) f g h = f
+
+-- what stands before the first record, and what follows
+pub cut : (p q r s : List Event) → AllByRecursion IsFlat p → AllByRecursion IsFlat q → Stops r → Stops s → p ++ r ≡ q ++ s → Both p q r s
+cut [] [] r s f g i j h = (refl, h)
+cut [] (e ∷ q) r s f g i j h = absurd (flat_stop e (q ++ s) r g.0 i h)
+cut (d ∷ p) [] r s f g i j h = absurd (flat_stop d (p ++ r) s f.0 j (sym h))
+cut (d ∷ p) (e ∷ q) r s f g i j h =
+    let t = tails d e (p ++ r) (q ++ s) h in
+    let u = cut p q r s f.1 g.1 i j t.1 in
+    let v : d ≡ e = t.0 in
+    let w : p ≡ q = u.0 in
+    (cc, u.1)
+
+-- ---- values that are read off their events
+
+-- the events of a value of this kind say what it is, and where they end
+abbrev pub Pins : {A : Type 0} → (A → Type 0) → (A → List Event) → Type 0
+Pins {A = A} Fine events = (a b : A) (r s : List Event) → Fine a → Fine b → Ends r → Ends s → events a ++ r ≡ events b ++ s → Both a b r s
+
+-- behind the start of a record, and before its end
+inner : {A : Type 0} (Fine : A → Type 0) (events : A → List Event) → Pins Fine events
+    → (n m : Text) (a b : A) (r s : List Event) → Fine a → Fine b → (events a ++ closes n ∷ []) ++ r ≡ (events b ++ closes m ∷ []) ++ s → Both a b r s
+inner Fine events pins n m a b r s f g h =
+    let e : events a ++ closes n ∷ r ≡ events b ++ closes m ∷ s = sym (append_assoc (events a) (closes n ∷ []) r) ∙ (h ∙ append_assoc (events b) (closes m ∷ []) s) in
+    let p = pins a b (closes n ∷ r) (closes m ∷ s) f g tt tt e in
+    (p.0, (tails (closes n) (closes m) r s p.1).1)
+
+-- an element with attributes: these are the same as well
+pub whole_with : {A : Type 0} (Fine : A → Type 0) (events : A → List Event) → Pins Fine events
+    → (n m : Text) (g k : List Attribute) (a b : A) (r s : List Event) → Fine a → Fine b → element_with n g (events a) ++ r ≡ element_with m k (events b) ++ s → (g ≡ k) × Both a b r s
+whole_with Fine events pins n m g k a b r s i j h =
+    let t = tails (opens n g) (opens m k) ((events a ++ closes n ∷ []) ++ r) ((events b ++ closes m ∷ []) ++ s) h in
+    let e : opens n g ≡ opens m k = t.0 in
+    (cc, inner Fine events pins n m a b r s i j t.1)
+
+pub whole : {A : Type 0} (Fine : A → Type 0) (events : A → List Event) → Pins Fine events
+    → (n : Text) (a b : A) (r s : List Event) → Fine a → Fine b → element n (events a) ++ r ≡ element n (events b) ++ s → Both a b r s
+whole Fine events pins n a b r s i j h = (whole_with Fine events pins n n [] [] a b r s i j h).1
+
+-- elements, one behind the other, up to the end of the record that they stand in
+opens_end : (n : Text) (g : List Attribute) (p r : List Event) → Ends r → r ≡ opens n g ∷ p → ⊥
+opens_end n g p [] f h = absurd cc
+opens_end n g p (leaf m k x ∷ es) f h = f
+opens_end n g p (raw m x ∷ es) f h = f
+opens_end n g p (opens m k ∷ es) f h = f
+opens_end n g p (closes m ∷ es) f h = absurd cc
+
+step : {A : Type 0} (events : A → List Event) (n : Text) (a : A) (xs : List A) (r : List Event)
+    → flat_map (λ (z : A). element n (events z)) (a ∷ xs) ++ r ≡ element n (events a) ++ (flat_map (λ (z : A). element n (events z)) xs ++ r)
+step {A = A} events n a xs r = ap (λ es. es ++ r) (flat_map-cons (λ (z : A). element n (events z)) a xs) ∙ append_assoc (element n (events a)) (flat_map (λ (z : A). element n (events z)) xs) r
+
+pub each : {A : Type 0} (Fine : A → Type 0) (events : A → List Event) → Pins Fine events → (n : Text)
+    → Pins (AllByRecursion Fine) (flat_map (λ (z : A). element n (events z)))
+each Fine events pins n [] [] r s f g i j h = (refl, h)
+each Fine events pins n [] (b ∷ ys) r s f g i j h = absurd (opens_end n [] _ r i (h ∙ step events n b ys s))
+each Fine events pins n (a ∷ xs) [] r s f g i j h = absurd (opens_end n [] _ s j (sym h ∙ step events n a xs r))
+each {A = A} Fine events pins n (a ∷ xs) (b ∷ ys) r s f g i j h =
+    let E : List A → List Event = flat_map (λ (z : A). element n (events z)) in
+    let p = whole Fine events pins n a b (E xs ++ r) (E ys ++ s) f.0 g.0 (sym (step events n a xs r) ∙ (h ∙ step events n b ys s)) in
+    let q = each Fine events pins n xs ys r s f.1 g.1 i j p.1 in
+    let u : a ≡ b = p.0 in
+    let v : xs ≡ ys = q.0 in
+    (cc, q.1)
+
+-- elements begin with the start of one, or there is none
+pub elements_stop : {A : Type 0} (events : A → List Event) (n : Text) (xs : List A) (r : List Event) → Ends r → Stops (flat_map (λ (z : A). element n (events z)) xs ++ r)
+elements_stop events n [] r h = ends_stops r h
+elements_stop events n (a ∷ xs) r h = tt

@@ -1,0 +1,4 @@
+mod FlatEvents
+mod FieldParts
+mod FieldValues
+mod OrderValues
