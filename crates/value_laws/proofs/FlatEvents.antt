@@ -1,5 +1,5 @@
 -- Lists of events are cut where their first element begins or ends.
-use Rattle.std.proofs.Common.{◌≡◌, Bool, true, false, List, [], ◌∷◌, ◌++◌, refl, sym, ap, ◌∙◌}
+use Rattle.std.proofs.Common.{◌≡◌, Bool, true, false, List, [], ◌∷◌, ◌++◌, refl, sym, ap, subst, ◌∙◌}
 use Rattle.std.specs.List.{AllByRecursion, flat_map}
 use Rattle.std.proofs.lemmas.List.{append_assoc}
 use Rattle.std.proofs.lemmas.List.Concat.{flat_map-cons}
@@ -41,7 +41,7 @@ ends_stops (closes n ∷ es) h = tt
 abbrev pub Both : {A : Type 0} → A → A → List Event → List Event → Type 0
 Both a b r s = (a ≡ b) × (r ≡ s)
 
-tails : (d e : Event) (p q : List Event) → d ∷ p ≡ e ∷ q → (d ≡ e) × (p ≡ q)
+pub tails : (d e : Event) (p q : List Event) → d ∷ p ≡ e ∷ q → (d ≡ e) × (p ≡ q)
 tails d e p q h = (cc, cc)
 
 flat_stop : (e : Event) (p s : List Event) → IsFlat e → Stops s → s ≡ e ∷ p → ⊥
@@ -75,52 +75,46 @@ cut (d ∷ p) (e ∷ q) r s f g i j h =
 abbrev pub Pins : {A : Type 0} → (A → Type 0) → (A → List Event) → Type 0
 Pins {A = A} Fine events = (a b : A) (r s : List Event) → Fine a → Fine b → Ends r → Ends s → events a ++ r ≡ events b ++ s → Both a b r s
 
--- behind the start of a record, and before its end
-inner : {A : Type 0} (Fine : A → Type 0) (events : A → List Event) → Pins Fine events
-    → (n m : Text) (a b : A) (r s : List Event) → Fine a → Fine b → (events a ++ closes n ∷ []) ++ r ≡ (events b ++ closes m ∷ []) ++ s → Both a b r s
-inner Fine events pins n m a b r s f g h =
-    let e : events a ++ closes n ∷ r ≡ events b ++ closes m ∷ s = sym (append_assoc (events a) (closes n ∷ []) r) ∙ (h ∙ append_assoc (events b) (closes m ∷ []) s) in
-    let p = pins a b (closes n ∷ r) (closes m ∷ s) f g tt tt e in
-    (p.0, (tails (closes n) (closes m) r s p.1).1)
-
--- an element with attributes: these are the same as well
-pub whole_with : {A : Type 0} (Fine : A → Type 0) (events : A → List Event) → Pins Fine events
-    → (n m : Text) (g k : List Attribute) (a b : A) (r s : List Event) → Fine a → Fine b → element_with n g (events a) ++ r ≡ element_with m k (events b) ++ s → (g ≡ k) × Both a b r s
-whole_with Fine events pins n m g k a b r s i j h =
-    let t = tails (opens n g) (opens m k) ((events a ++ closes n ∷ []) ++ r) ((events b ++ closes m ∷ []) ++ s) h in
+-- an element with attributes: what stands in it, up to its end, and its attributes
+pub opened : (n m : Text) (g k : List Attribute) (es fs r s : List Event) → element_with n g es ++ r ≡ element_with m k fs ++ s → (g ≡ k) × (es ++ closes n ∷ r ≡ fs ++ closes m ∷ s)
+opened n m g k es fs r s h =
+    let t = tails (opens n g) (opens m k) ((es ++ closes n ∷ []) ++ r) ((fs ++ closes m ∷ []) ++ s) h in
     let e : opens n g ≡ opens m k = t.0 in
-    (cc, inner Fine events pins n m a b r s i j t.1)
+    (cc, sym (append_assoc es (closes n ∷ []) r) ∙ (t.1 ∙ append_assoc fs (closes m ∷ []) s))
 
+-- an element without attributes: the value in it, and what follows
 pub whole : {A : Type 0} (Fine : A → Type 0) (events : A → List Event) → Pins Fine events
     → (n : Text) (a b : A) (r s : List Event) → Fine a → Fine b → element n (events a) ++ r ≡ element n (events b) ++ s → Both a b r s
-whole Fine events pins n a b r s i j h = (whole_with Fine events pins n n [] [] a b r s i j h).1
+whole Fine events pins n a b r s i j h =
+    let p = pins a b (closes n ∷ r) (closes n ∷ s) i j tt tt (opened n n [] [] (events a) (events b) r s h).1 in
+    (p.0, (tails (closes n) (closes n) r s p.1).1)
 
--- elements, one behind the other, up to the end of the record that they stand in
-opens_end : (n : Text) (g : List Attribute) (p r : List Event) → Ends r → r ≡ opens n g ∷ p → ⊥
-opens_end n g p [] f h = absurd cc
-opens_end n g p (leaf m k x ∷ es) f h = f
-opens_end n g p (raw m x ∷ es) f h = f
-opens_end n g p (opens m k ∷ es) f h = f
-opens_end n g p (closes m ∷ es) f h = absurd cc
+-- values, one behind the other, up to the end of the record that they stand in
+step : {A : Type 0} (events : A → List Event) (x : A) (xs : List A) (r : List Event) → flat_map events (x ∷ xs) ++ r ≡ events x ++ (flat_map events xs ++ r)
+step events x xs r = ap (λ es. es ++ r) (flat_map-cons events x xs) ∙ append_assoc (events x) (flat_map events xs) r
 
-step : {A : Type 0} (events : A → List Event) (n : Text) (a : A) (xs : List A) (r : List Event)
-    → flat_map (λ (z : A). element n (events z)) (a ∷ xs) ++ r ≡ element n (events a) ++ (flat_map (λ (z : A). element n (events z)) xs ++ r)
-step {A = A} events n a xs r = ap (λ es. es ++ r) (flat_map-cons (λ (z : A). element n (events z)) a xs) ∙ append_assoc (element n (events a)) (flat_map (λ (z : A). element n (events z)) xs) r
-
-pub each : {A : Type 0} (Fine : A → Type 0) (events : A → List Event) → Pins Fine events → (n : Text)
-    → Pins (AllByRecursion Fine) (flat_map (λ (z : A). element n (events z)))
-each Fine events pins n [] [] r s f g i j h = (refl, h)
-each Fine events pins n [] (b ∷ ys) r s f g i j h = absurd (opens_end n [] _ r i (h ∙ step events n b ys s))
-each Fine events pins n (a ∷ xs) [] r s f g i j h = absurd (opens_end n [] _ s j (sym h ∙ step events n a xs r))
-each {A = A} Fine events pins n (a ∷ xs) (b ∷ ys) r s f g i j h =
-    let E : List A → List Event = flat_map (λ (z : A). element n (events z)) in
-    let p = whole Fine events pins n a b (E xs ++ r) (E ys ++ s) f.0 g.0 (sym (step events n a xs r) ∙ (h ∙ step events n b ys s)) in
-    let q = each Fine events pins n xs ys r s f.1 g.1 i j p.1 in
-    let u : a ≡ b = p.0 in
+pub listed_pins : {A : Type 0} (Fine : A → Type 0) (events : A → List Event) → ((a : A) (r : List Event) → Ends (events a ++ r) → ⊥)
+    → ((a b : A) (r s : List Event) → Fine a → Fine b → events a ++ r ≡ events b ++ s → Both a b r s) → Pins (AllByRecursion Fine) (flat_map events)
+listed_pins Fine events some pins [] [] r s f g i j h = (refl, h)
+listed_pins Fine events some pins [] (y ∷ ys) r s f g i j h = absurd (some y (flat_map events ys ++ s) (subst Ends (h ∙ step events y ys s) i))
+listed_pins Fine events some pins (x ∷ xs) [] r s f g i j h = absurd (some x (flat_map events xs ++ r) (subst Ends (sym h ∙ step events x xs r) j))
+listed_pins Fine events some pins (x ∷ xs) (y ∷ ys) r s f g i j h =
+    let p = pins x y (flat_map events xs ++ r) (flat_map events ys ++ s) f.0 g.0 (sym (step events x xs r) ∙ (h ∙ step events y ys s)) in
+    let q = listed_pins Fine events some pins xs ys r s f.1 g.1 i j p.1 in
+    let u : x ≡ y = p.0 in
     let v : xs ≡ ys = q.0 in
     (cc, q.1)
 
--- elements begin with the start of one, or there is none
+-- elements, one behind the other
+pub each : {A : Type 0} (Fine : A → Type 0) (events : A → List Event) → Pins Fine events → (n : Text) → Pins (AllByRecursion Fine) (flat_map (λ (z : A). element n (events z)))
+each {A = A} Fine events pins n = listed_pins Fine (λ (z : A). element n (events z)) (λ a r h. h) (whole Fine events pins n)
+
+-- they begin with the start of one, or there is none
 pub elements_stop : {A : Type 0} (events : A → List Event) (n : Text) (xs : List A) (r : List Event) → Ends r → Stops (flat_map (λ (z : A). element n (events z)) xs ++ r)
 elements_stop events n [] r h = ends_stops r h
-elements_stop events n (a ∷ xs) r h = tt
+elements_stop events n (x ∷ xs) r h = tt
+
+-- of values that are fine whatever they are, all are
+pub all_fine : {A : Type 0} (xs : List A) → AllByRecursion (λ (z : A). Unit {0}) xs
+all_fine [] = tt
+all_fine (x ∷ xs) = (tt, all_fine xs)

@@ -2,3 +2,4 @@ mod FlatEvents
 mod FieldParts
 mod FieldValues
 mod OrderValues
+mod OtherValues
