@@ -3,3 +3,5 @@ mod FieldParts
 mod FieldValues
 mod OrderValues
 mod OtherValues
+mod MachineValues
+mod RawNames
