@@ -5,3 +5,5 @@ mod OrderValues
 mod OtherValues
 mod MachineValues
 mod RawNames
+mod ActionValues
+mod MessageValues
