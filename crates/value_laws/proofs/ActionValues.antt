@@ -1,16 +1,14 @@
 -- Actions are read off their events, where the operation is known.
-use Rattle.std.proofs.Common.{◌≡◌, ℕ, ◌+◌, Bool, true, false, cond, List, [], ◌∷◌, ◌++◌, refl, sym, ap, subst, ◌∙◌, arith}
-use Rattle.std.specs.Prelude.{map, ◌==◌}
-use Rattle.std.specs.List.{AllByRecursion}
+use Rattle.std.proofs.Common.{◌≡◌, ℕ, ◌+◌, true, false, cond, List, [], ◌∷◌, ◌++◌, refl, sym, ap, subst, ◌∙◌, arith}
+use Rattle.std.specs.Prelude.{◌==◌}
 use Rattle.std.proofs.lemmas.Bool.Decides.{nat_tests}
-use Rattle.std.proofs.lemmas.List.{append_assoc}
 use Rattle.mos_fields.specs.Characters.{Text}
 use Rattle.mos_fields.specs.Fields.{name_of, same}
 use Rattle.mos_fields.specs.declared.field.Field.{Field}
 use Rattle.mos_fields.specs.declared.field.Field.TheVariants as fields
 use Rattle.mos_fields.specs.declared.operation.Operation.{Operation}
 use Rattle.mos_fields.specs.declared.operation.Operation.TheVariants.{Insert, Replace, Move, Delete, Swap}
-use Rattle.mos_tables.specs.Events.{Event, leaf, raw, opens, closes}
+use Rattle.mos_tables.specs.Events.{Event, leaf, opens, closes}
 use Rattle.mos_values.specs.Parts.{must}
 use Rattle.mos_values.specs.Views.{items_events, stories_events}
 use Rattle.mos_values.specs.MessageViews.{operation_of_action, target_story, target_item, ids_events, source, action_events}
@@ -19,7 +17,7 @@ use Rattle.mos_values.specs.declared.action.Action.TheVariants.{InsertStories, R
 use Rattle.mos_values.specs.declared.item.Item.{Item}
 use Rattle.mos_values.specs.StoryValue.{Story}
 use Rattle.value_laws.specs.Ranges.{AreItemsInRange, AreStoriesInRange, IsActionInRange}
-use Rattle.value_laws.proofs.FlatEvents.{Both, Ends, Pins, whole, tails}
+use Rattle.value_laws.proofs.FlatEvents.{Both, Ends, Pins, whole}
 use Rattle.value_laws.proofs.OrderValues.{items_pins, stories_pins}
 
 -- ---- targets

@@ -1,7 +1,7 @@
 -- What a machine says of itself is read off its events.
-use Rattle.std.proofs.Common.{◌≡◌, ℕ, ◌<◌, ◌≤◌, ◌^◌, Bool, true, false, List, [], ◌∷◌, ◌++◌, Option, Some, None, refl, sym, ap, subst, ◌∙◌, arith}
+use Rattle.std.proofs.Common.{◌≡◌, ℕ, ◌≤◌, Bool, true, false, List, [], ◌∷◌, ◌++◌, Option, Some, None, refl, sym, ap, subst, ◌∙◌, arith}
 use Rattle.std.specs.Fmt.{decimal}
-use Rattle.std.specs.List.{AllByRecursion, flat_map}
+use Rattle.std.specs.List.{AllByRecursion}
 use Rattle.std.proofs.Math.Bridge.{le_prop}
 use Rattle.std.proofs.lemmas.List.{append-nil, append_assoc}
 use Rattle.mos_fields.specs.Characters.{Text}
@@ -9,13 +9,13 @@ use Rattle.mos_fields.specs.Fields.{name_of}
 use Rattle.mos_fields.specs.Values.{time_text}
 use Rattle.mos_fields.specs.declared.field.Field.{Field}
 use Rattle.mos_fields.specs.declared.field.Field.TheVariants as fields
-use Rattle.mos_tables.specs.Events.{Attribute, Event, leaf, opens, closes}
-use Rattle.mos_values.specs.Parts.{attribute, joined}
+use Rattle.mos_tables.specs.Events.{Attribute, Event, leaf, closes}
+use Rattle.mos_values.specs.Parts.{attribute}
 use Rattle.mos_values.specs.Views.{device_type_text, answer_text, profile_events, profiles_events, supported_events, mach_head_events, mach_rest_events, mach_info_events}
 use Rattle.mos_values.specs.declared.mach_info.MachInfo.{MachInfo}
 use Rattle.mos_values.specs.declared.profile.Profile.{Profile}
 use Rattle.mos_values.specs.declared.profile.SupportedProfiles.{SupportedProfiles}
-use Rattle.value_laws.proofs.FieldParts.{Part, maybe_part, maybe_as_part, raws_part, events_of, texts_at, same_texts, flat_fields, a_text, an_option, an_option_as, a_list}
+use Rattle.value_laws.proofs.FieldParts.{Part, maybe_part, maybe_as_part, raws_part, events_of, texts_at, same_texts, flat_fields, an_option, an_option_as, a_list}
 use Rattle.value_laws.proofs.FieldValues.{one_number, one_time, one_device, one_answer}
 use Rattle.value_laws.proofs.FlatEvents.{Both, Ends, Pins, opened, tails, cut, ends_stops, listed_pins, all_fine}
 

@@ -1,6 +1,6 @@
 -- Messages, and envelopes with them, are read off their events.
-use Rattle.std.proofs.Common.{◌≡◌, ℕ, ◌<◌, ◌^◌, Bool, true, false, List, [], ◌∷◌, ◌++◌, codes, Option, Some, None, refl, sym, ap, subst, ◌∙◌, arith}
-use Rattle.std.specs.Prelude.{◌==◌, ◌&&◌}
+use Rattle.std.proofs.Common.{◌≡◌, Bool, true, false, List, [], ◌∷◌, ◌++◌, codes, Option, Some, None, refl, sym, ap, subst, ◌∙◌, arith}
+use Rattle.std.specs.Prelude.{◌==◌}
 use Rattle.std.specs.List.{AllByRecursion}
 use Rattle.std.proofs.lemmas.Bool.{and_from}
 use Rattle.std.proofs.lemmas.Bool.Decides.{nat_tests}
@@ -9,7 +9,6 @@ use Rattle.mos_fields.specs.Characters.{Text}
 use Rattle.mos_fields.specs.Fields.{name_of, same}
 use Rattle.mos_fields.specs.Raw.{IsRaw}
 use Rattle.mos_fields.specs.Values.{samples_text, air_text, time_text, level_text, operation_text}
-use Rattle.mos_fields.specs.declared.air.Air.{Air}
 use Rattle.mos_fields.specs.declared.field.Field.{Field}
 use Rattle.mos_fields.specs.declared.field.Field.TheVariants as fields
 use Rattle.mos_tables.specs.Events.{Event, leaf, raw, opens, closes}
@@ -20,7 +19,6 @@ use Rattle.mos_values.specs.declared.action.Action.{Action}
 use Rattle.mos_values.specs.declared.element_stat.ElementStat.{ElementStat}
 use Rattle.mos_values.specs.declared.header.HeaderPatch.{HeaderPatch}
 use Rattle.mos_values.specs.declared.mach_info.MachInfo.{MachInfo}
-use Rattle.mos_values.specs.declared.message.Envelope.{Envelope}
 use Rattle.mos_values.specs.declared.message.Message.{Message}
 use Rattle.mos_values.specs.declared.message.Message.TheVariants as messages
 use Rattle.mos_values.specs.declared.mos_ack.MosAck.{MosAck}
@@ -30,7 +28,7 @@ use Rattle.mos_values.specs.OrderValue.{OrderBody}
 use Rattle.mos_message_reading.specs.Values.{IsNamed}
 use Rattle.value_laws.specs.Laws.{EventsPinEnvelopes}
 use Rattle.value_laws.specs.Ranges.{IsSmall, IsObjectInRange, AreStoriesInRange, IsActionInRange, IsInRange}
-use Rattle.value_laws.proofs.FlatEvents.{opened, tails, whole, all_fine}
+use Rattle.value_laws.proofs.FlatEvents.{opened, whole, all_fine}
 use Rattle.value_laws.proofs.FieldValues.{one_number, one_time, one_air, one_level, one_operation}
 use Rattle.value_laws.proofs.OrderValues.{body_pins, patch_pins, headers_pins}
 use Rattle.value_laws.proofs.OtherValues.{object_pins, objects_pins, ack_pins, send_pins, stat_pinned, ro_ack_pins}
@@ -269,7 +267,7 @@ events_pin a b i j f g h =
     let R : List Event = message_events a.message in
     let S : List Event = message_events b.message in
     let e : opens n [] ∷ leaf (name_of fields.MosID) [] a.mos ∷ leaf (name_of fields.NcsID) [] a.ncs ∷ ((M ++ R) ++ closes n ∷ [])
-        ≡ opens n [] ∷ leaf (name_of fields.MosID) [] b.mos ∷ leaf (name_of fields.NcsID) [] b.ncs ∷ ((N ++ S) ++ closes n ∷ []) = h in
+    ≡ opens n [] ∷ leaf (name_of fields.MosID) [] b.mos ∷ leaf (name_of fields.NcsID) [] b.ncs ∷ ((N ++ S) ++ closes n ∷ []) = h in
     let mos : a.mos ≡ b.mos = cc in
     let ncs : a.ncs ≡ b.ncs = cc in
     let t : (M ++ R) ++ closes n ∷ [] ≡ (N ++ S) ++ closes n ∷ [] = cc in

@@ -1,14 +1,10 @@
 -- Headers, items, stories and orders are read off their events.
-use Rattle.std.proofs.Common.{◌≡◌, Bool, true, false, List, [], ◌∷◌, ◌++◌, refl, sym, ap, ◌∙◌}
-use Rattle.std.specs.List.{AllByRecursion, flat_map}
-use Rattle.std.proofs.lemmas.List.{append_assoc}
-use Rattle.mos_fields.specs.Characters.{Text}
+use Rattle.std.proofs.Common.{◌≡◌, true, false, List, [], ◌∷◌}
+use Rattle.std.specs.List.{AllByRecursion}
 use Rattle.mos_fields.specs.Fields.{name_of}
 use Rattle.mos_fields.specs.Values.{samples_text}
 use Rattle.mos_fields.specs.declared.field.Field.{Field}
 use Rattle.mos_fields.specs.declared.field.Field.TheVariants as fields
-use Rattle.mos_tables.specs.Events.{Event}
-use Rattle.mos_values.specs.Parts.{element}
 use Rattle.mos_values.specs.Views.{header_events, patch_events, headers_events, item_events, items_events, story_head_events, story_events, stories_events, body_events}
 use Rattle.mos_values.specs.declared.header.Header.{Header}
 use Rattle.mos_values.specs.declared.header.HeaderPatch.{HeaderPatch}

@@ -1,13 +1,13 @@
 -- Objects, stories with their text, statuses and acknowledgements are read off their events.
-use Rattle.std.proofs.Common.{◌≡◌, Bool, true, false, List, [], ◌∷◌, ◌++◌, Option, Some, None, refl, sym, ap, ◌∙◌}
-use Rattle.std.specs.List.{AllByRecursion, flat_map}
+use Rattle.std.proofs.Common.{◌≡◌, true, false, List, [], ◌∷◌, ◌++◌, Option, Some, None, refl, sym, ap}
+use Rattle.std.specs.List.{AllByRecursion}
 use Rattle.mos_fields.specs.Characters.{Text}
 use Rattle.mos_fields.specs.Fields.{name_of, same}
 use Rattle.mos_fields.specs.Values.{samples_text, rev_text, time_text, air_text, obj_type_text}
 use Rattle.mos_fields.specs.declared.field.Field.{Field}
 use Rattle.mos_fields.specs.declared.field.Field.TheVariants as fields
 use Rattle.mos_tables.specs.Events.{Event, leaf}
-use Rattle.mos_values.specs.Parts.{must, maybe, element}
+use Rattle.mos_values.specs.Parts.{must, maybe}
 use Rattle.mos_values.specs.Views.{element_stat_events, group_events, groups_events, ro_ack_events, story_send_events, mos_obj_events, objects_events, ack_status_text, mos_ack_events}
 use Rattle.mos_values.specs.declared.ack_group.AckGroup.{AckGroup}
 use Rattle.mos_values.specs.declared.element_stat.ElementStat.{ElementStat}
@@ -192,7 +192,7 @@ group_front a b r s f g h =
     let R : List Event = (maybe fields.ItemChannel a.channel ++ must fields.Status a.status) ++ r in
     let S : List Event = (maybe fields.ItemChannel b.channel ++ must fields.Status b.status) ++ s in
     let e : leaf (name_of fields.StoryID) [] a.story ∷ leaf (name_of fields.ItemID) [] a.item ∷ leaf (name_of fields.ObjID) [] a.obj ∷ R
-        ≡ leaf (name_of fields.StoryID) [] b.story ∷ leaf (name_of fields.ItemID) [] b.item ∷ leaf (name_of fields.ObjID) [] b.obj ∷ S = h in
+    ≡ leaf (name_of fields.StoryID) [] b.story ∷ leaf (name_of fields.ItemID) [] b.item ∷ leaf (name_of fields.ObjID) [] b.obj ∷ S = h in
     let story_same : a.story ≡ b.story = cc in
     let item_same : a.item ≡ b.item = cc in
     let object_same : a.obj ≡ b.obj = cc in

@@ -7,9 +7,7 @@ use Rattle.mos_values.specs.declared.action.Action.TheVariants.{InsertStories, R
 use Rattle.mos_values.specs.declared.item.Item.{Item}
 use Rattle.mos_values.specs.declared.message.Message.{Message}
 use Rattle.mos_values.specs.declared.message.Message.TheVariants as messages
-use Rattle.mos_values.specs.declared.mos_ack.MosAck.{MosAck}
 use Rattle.mos_values.specs.declared.mos_obj.MosObj.{MosObj}
-use Rattle.mos_values.specs.OrderValue.{OrderBody}
 use Rattle.mos_values.specs.StoryValue.{Story}
 
 -- a number, where it is there
