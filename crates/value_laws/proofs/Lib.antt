@@ -7,3 +7,5 @@ mod MachineValues
 mod RawNames
 mod ActionValues
 mod MessageValues
+mod RangeLemmas
+mod Examples

@@ -30,6 +30,9 @@ AreStoriesInRange stories = AllByRecursion IsStoryInRange stories
 abbrev pub IsObjectInRange : MosObj → Type 0
 IsObjectInRange o = IsSmall o.time_base × IsSmall o.rev × IsSmall o.dur
 
+abbrev pub AreObjectsInRange : List MosObj → Type 0
+AreObjectsInRange objects = AllByRecursion IsObjectInRange objects
+
 abbrev pub IsActionInRange : Action → Type 0
 IsActionInRange (InsertStories target sources) = AreStoriesInRange sources
 IsActionInRange (ReplaceStory target sources) = AreStoriesInRange sources
@@ -42,7 +45,7 @@ abbrev pub IsInRange : Message → Type 0
 IsInRange (messages.MosAck ack) = IsSmall ack.rev
 IsInRange (messages.MosObj obj) = IsObjectInRange obj
 IsInRange (messages.MosReqAll pause) = pause < 2 ^ 32
-IsInRange (messages.MosListAll objs) = AllByRecursion IsObjectInRange objs
+IsInRange (messages.MosListAll objs) = AreObjectsInRange objs
 IsInRange (messages.RoCreate body) = AreStoriesInRange body.stories
 IsInRange (messages.RoReplace body) = AreStoriesInRange body.stories
 IsInRange (messages.RoList body) = AreStoriesInRange body.stories

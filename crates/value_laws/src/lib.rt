@@ -3,3 +3,4 @@
 #![tactic(auto)]
 
 pub mod envelopes;
+pub mod ranges;
