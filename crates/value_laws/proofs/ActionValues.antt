@@ -17,7 +17,7 @@ use Rattle.mos_values.specs.declared.action.Action.TheVariants.{InsertStories, R
 use Rattle.mos_values.specs.declared.item.Item.{Item}
 use Rattle.mos_values.specs.StoryValue.{Story}
 use Rattle.value_laws.specs.Ranges.{AreItemsInRange, AreStoriesInRange, IsActionInRange}
-use Rattle.value_laws.proofs.FlatEvents.{Both, Ends, Pins, whole}
+use Rattle.value_laws.proofs.FlatEvents.{Both, Ends, Pins, whole, false_true}
 use Rattle.value_laws.proofs.OrderValues.{items_pins, stories_pins}
 
 -- ---- targets
@@ -126,9 +126,6 @@ key_of a = key (operation_of_action a) (aim_of a)
 
 equal_keys : (m n : ℕ) → m ≡ n → (m == n) ≡ true
 equal_keys m n e = let P : ℕ → Type 0 = λ k. (m == k) ≡ true in subst P e (grind (arith, nat_tests))
-
-false_true : false ≡ true → ⊥
-false_true e = absurd cc
 
 by_key : (a b : Action) (r s : List Event) → key_of a ≡ key_of b → IsActionInRange a → IsActionInRange b → action_events a ++ r ≡ action_events b ++ s → a ≡ b
 unfolding key_of key aim_of action_events

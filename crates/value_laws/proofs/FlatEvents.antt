@@ -1,5 +1,5 @@
 -- Lists of events are cut where their first element begins or ends.
-use Rattle.std.proofs.Common.{◌≡◌, List, [], ◌∷◌, ◌++◌, refl, sym, ap, subst, ◌∙◌}
+use Rattle.std.proofs.Common.{◌≡◌, true, false, List, [], ◌∷◌, ◌++◌, refl, sym, ap, subst, ◌∙◌}
 use Rattle.std.specs.List.{AllByRecursion, flat_map}
 use Rattle.std.proofs.lemmas.List.{append_assoc}
 use Rattle.std.proofs.lemmas.List.Concat.{flat_map-cons}
@@ -36,6 +36,10 @@ ends_stops (leaf n g x ∷ es) h = h
 ends_stops (raw f x ∷ es) h = h
 ends_stops (opens n g ∷ es) h = tt
 ends_stops (closes n ∷ es) h = tt
+
+-- a test has one result
+pub false_true : false ≡ true → ⊥
+false_true e = absurd cc
 
 -- both parts are the same
 abbrev pub Both : {A : Type 0} → A → A → List Event → List Event → Type 0

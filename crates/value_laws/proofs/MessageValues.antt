@@ -26,9 +26,9 @@ use Rattle.mos_values.specs.declared.ro_ack.RoAck.{RoAck}
 use Rattle.mos_values.specs.declared.story_send.StorySend.{StorySend}
 use Rattle.mos_values.specs.OrderValue.{OrderBody}
 use Rattle.mos_message_reading.specs.Values.{IsNamed}
-use Rattle.value_laws.specs.Laws.{EventsPinEnvelopes}
+use Rattle.value_laws.specs.Laws.{EventsPinMessages, EventsPinEnvelopes}
 use Rattle.value_laws.specs.Ranges.{IsSmall, IsObjectInRange, AreStoriesInRange, IsActionInRange, IsInRange}
-use Rattle.value_laws.proofs.FlatEvents.{opened, whole, all_fine}
+use Rattle.value_laws.proofs.FlatEvents.{opened, whole, all_fine, false_true}
 use Rattle.value_laws.proofs.FieldValues.{one_number, one_time, one_air, one_level, one_operation}
 use Rattle.value_laws.proofs.OrderValues.{body_pins, patch_pins, headers_pins}
 use Rattle.value_laws.proofs.OtherValues.{object_pins, objects_pins, ack_pins, send_pins, stat_pinned, ro_ack_pins}
@@ -99,9 +99,6 @@ same_text (c ∷ x) = let e : (c == c) ≡ true = grind (arith, nat_tests) in an
 
 equal_texts : (x y : Text) → x ≡ y → same x y ≡ true
 equal_texts x y e = let P : Text → Type 0 = λ z. same x z ≡ true in subst P e (same_text x)
-
-false_true : false ≡ true → ⊥
-false_true e = absurd cc
 
 -- ---- elements with a text, with two, with an attribute
 
@@ -215,6 +212,9 @@ by_name a b r s n i j f g h = absurd (false_true (equal_texts (name_of_message a
 message_pinned : (a b : Message) (r s : List Event) → IsNamed a → IsNamed b → IsInRange a → IsInRange b → message_events a ++ r ≡ message_events b ++ s → a ≡ b
 message_pinned a b r s i j f g h = by_name a b r s (sym (first_found a r) ∙ (ap first_name h ∙ first_found b s)) i j f g h
 
+pub events_pin_message : EventsPinMessages
+events_pin_message a b i j f g h = message_pinned a b [] [] i j f g (ap (λ es. es ++ []) h)
+
 -- ---- envelopes
 
 -- a message doesn't begin with a field that has a text
@@ -258,9 +258,9 @@ number_first (Some x) (Some y) m n r s h =
     let t : message_events m ++ r ≡ message_events n ++ s = cc in
     (cc, t)
 
-pub events_pin : EventsPinEnvelopes
+pub events_pin_envelope : EventsPinEnvelopes
 unfolding envelope_events must
-events_pin a b i j f g h =
+events_pin_envelope a b i j f g h =
     let n : Text = codes "mos" in
     let M : List Event = maybe fields.MessageID a.message_id in
     let N : List Event = maybe fields.MessageID b.message_id in

@@ -18,7 +18,7 @@ use Rattle.mos_values.specs.declared.story_send.StorySend.{StorySend}
 use Rattle.value_laws.specs.Ranges.{IsSmall, IsObjectInRange}
 use Rattle.value_laws.proofs.FieldParts.{Part, must_part, maybe_part, maybe_as_part, must_raw_part, maybe_raw_part, raws_part, events_of, texts_at, same_texts, flat_fields, fields_pin, a_text, an_option, an_option_as, a_list}
 use Rattle.value_laws.proofs.FieldValues.{a_number, one_time, one_air, one_type, one_ack}
-use Rattle.value_laws.proofs.FlatEvents.{Both, Ends, Pins, cut, ends_stops, listed_pins, each, all_fine}
+use Rattle.value_laws.proofs.FlatEvents.{Both, Ends, Pins, cut, ends_stops, listed_pins, each, all_fine, false_true}
 
 -- ---- objects
 
@@ -171,19 +171,16 @@ stat_pinned a b r s l i j h = stat_only a b l (cut (events_of (stat_parts a)) (e
 
 -- ---- acknowledgements with groups
 
-true_false : true ≡ false → ⊥
-true_false e = absurd cc
-
-first_name : List Event → Text
-first_name (leaf n g x ∷ es) = n
-first_name es = []
+leaf_name : List Event → Text
+leaf_name (leaf n g x ∷ es) = n
+leaf_name es = []
 
 -- behind a group's objID
 behind_object : (c d : Option Text) (x y : Text) (r s : List Event) → (maybe fields.ItemChannel c ++ must fields.Status x) ++ r ≡ (maybe fields.ItemChannel d ++ must fields.Status y) ++ s → (c ≡ d) × (x ≡ y) × (r ≡ s)
-unfolding maybe must first_name
+unfolding maybe must leaf_name
 behind_object None None x y r s h = (refl, cc, cc)
-behind_object None (Some d) x y r s h = absurd (true_false (ap (λ es. same (first_name es) (name_of fields.Status)) h))
-behind_object (Some c) None x y r s h = absurd (true_false (sym (ap (λ es. same (first_name es) (name_of fields.Status)) h)))
+behind_object None (Some d) x y r s h = absurd (false_true (ap (λ es. same (leaf_name es) (name_of fields.Status)) (sym h)))
+behind_object (Some c) None x y r s h = absurd (false_true (ap (λ es. same (leaf_name es) (name_of fields.Status)) h))
 behind_object (Some c) (Some d) x y r s h = (cc, cc, cc)
 
 group_front : (a b : AckGroup) (r s : List Event) → Unit {0} → Unit {0} → group_events a ++ r ≡ group_events b ++ s → Both a b r s

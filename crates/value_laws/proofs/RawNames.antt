@@ -5,6 +5,7 @@ use Rattle.std.proofs.lemmas.Bool.{and_parts, eqb-true}
 use Rattle.mos_fields.specs.Characters.{Text}
 use Rattle.mos_fields.specs.Names.{is_start, is_further, may_grow, named}
 use Rattle.mos_fields.specs.Raw.{is_space, TagText, ends_start, ends_empty, tag_space, IsRaw, raw_empty, raw_whole}
+use Rattle.value_laws.proofs.FlatEvents.{false_true}
 
 -- ---- the characters of a name
 
@@ -55,12 +56,9 @@ behind_name e x y (tag_space {c = c} {x = z} s t) = space_further c s
 
 -- ---- names
 
-true_false : true ≡ false → ⊥
-true_false e = absurd cc
-
 leaves_at : (c : ℕ) (x z : Text) → is_further c ≡ true → Leaves x → x ≡ c ∷ z → ⊥
 leaves_at c [] z f l e = absurd cc
-leaves_at c (d ∷ x) z f l e = let g : d ≡ c = cc in true_false (sym f ∙ (ap is_further (sym g) ∙ l))
+leaves_at c (d ∷ x) z f l e = let g : d ≡ c = cc in false_true (sym l ∙ (ap is_further g ∙ f))
 
 once : (n m x y : Text) → AllFurther n → AllFurther m → Leaves x → Leaves y → n ++ x ≡ m ++ y → n ≡ m
 once [] [] x y f g i j e = refl

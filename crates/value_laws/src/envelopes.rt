@@ -1,11 +1,16 @@
 //! Laws of whole messages.
-ghost use Rattle.value_laws.specs.Laws.{EventsPinEnvelopes};
+//!
+//! Both premises hold of what the code reads. A message that came from `mos_message_reading::message_of` or `envelope_of` is
+//! named: the contract says so. The numbers of every message are in range, as `ranges::message_is_in_range` promises; in a
+//! clause alone they have no bound, and two numbers of more than 64 digits have the same canonical text.
+ghost use Rattle.value_laws.specs.Laws.{EventsPinMessages, EventsPinEnvelopes};
 
-/// No two envelopes have the same events: what is written of an envelope says all of it.
-///
-/// Where an envelope came from `envelope_of`, its message is named. The numbers of samples are those of `Samples`, a
-/// `u32`, and the revisions those of `Rev`, up to 999, so the code's values are in range; in a clause they are numbers
-/// without a bound, and so many digits as a number may have there the canonical text doesn't write.
+/// No two messages have the same events: what is written of a message says all of it.
+pub fn events_pin_messages()
+    ensures { EventsPinMessages }
+{}
+
+/// No two envelopes have the same events.
 pub fn events_pin_envelopes()
     ensures { EventsPinEnvelopes }
 {}
