@@ -9,3 +9,4 @@ mod ActionValues
 mod MessageValues
 mod RangeLemmas
 mod Examples
+mod EncodingLemmas

@@ -2,5 +2,6 @@
 //! law.
 #![tactic(auto)]
 
+pub mod encodings;
 pub mod envelopes;
 pub mod ranges;
