@@ -1,0 +1,12 @@
+mod FlatEvents
+mod FieldParts
+mod FieldValues
+mod OrderValues
+mod OtherValues
+mod MachineValues
+mod RawNames
+mod ActionValues
+mod MessageValues
+mod RangeLemmas
+mod Examples
+mod EncodingLemmas
