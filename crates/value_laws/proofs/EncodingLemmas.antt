@@ -1,8 +1,8 @@
 -- Envelopes are pinned by what is written of them, as events and as code units.
-use Rattle.std.proofs.Common.{◌≡◌, ℕ, List, ◌++◌, refl, sym, ◌∙◌}
+use Rattle.std.proofs.Common.{◌≡◌, ℕ, List, sym, ◌∙◌}
 use Rattle.mos_tables.specs.Events.{Event}
 use Rattle.mos_lexer.specs.Laws.{EncodingsAreApart, EncodingsAreRead}
-use Rattle.mos_lexer.specs.Units.{UnitRun, completed}
+use Rattle.mos_lexer.specs.Units.{completed}
 use Rattle.mos_values.specs.MessageViews.{envelope_events}
 use Rattle.value_laws.specs.Laws.{EventsPinEnvelopes, EncodingsPinEnvelopes, WrittenIsReadBack}
 

@@ -1,9 +1,8 @@
 //! Laws of envelopes and their encodings, as code units.
 ghost use Rattle.value_laws.specs.Laws.{EncodingsPinEnvelopes, WrittenIsReadBack};
 
-use mos_lexer::laws::{encodings_are_apart, encodings_are_read};
-
 use crate::envelopes::events_pin_envelopes;
+use mos_lexer::laws::{encodings_are_apart, encodings_are_read};
 
 /// An encoding of an envelope encodes no other envelope, and begins no encoding of one.
 pub fn encodings_pin_envelopes()
