@@ -1,5 +1,5 @@
--- Values whose numbers are those that the code's types hold: a number of samples is one of 32 bits, and a revision has
--- at most three digits.
+-- Values whose numbers fit 32 bits, as those of the code's types do: a number of samples is one of 32 bits, and a revision
+-- has three digits at most.
 use Rattle.std.specs.Prelude.{ℕ, ◌<◌, ◌^◌, List, Option, Some, None}
 use Rattle.std.specs.List.{AllByRecursion}
 use Rattle.mos_values.specs.declared.action.Action.{Action}
@@ -10,7 +10,7 @@ use Rattle.mos_values.specs.declared.message.Message.TheVariants as messages
 use Rattle.mos_values.specs.declared.mos_obj.MosObj.{MosObj}
 use Rattle.mos_values.specs.StoryValue.{Story}
 
--- a number, where it is there
+-- a number, where it is there, fits 32 bits
 abbrev pub IsSmall : Option ℕ → Type 0
 IsSmall None = Unit {0}
 IsSmall (Some n) = n < 2 ^ 32

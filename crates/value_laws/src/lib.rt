@@ -1,5 +1,5 @@
-//! Laws of the values of messages: which values write which events. Each function does nothing, and its clause is the
-//! law.
+//! Laws of the values of messages: which values write which events, and are read back. A law is the clause of a function
+//! that does nothing.
 #![tactic(auto)]
 
 pub mod encodings;
