@@ -6,3 +6,4 @@ pub mod CommandSteps
 pub mod GivenPeers
 pub mod ListSizes
 pub mod AddedEntries
+pub mod ListedIds

@@ -3,3 +3,4 @@ pub mod Answers
 pub mod Accepting
 pub mod Commands
 pub mod Starting
+pub mod Listed

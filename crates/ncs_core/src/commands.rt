@@ -4,8 +4,8 @@ ghost use Rattle.mos_edits.specs.Entries.{entry_of, entry_count};
 ghost use Rattle.mos_machines.specs.Server.{peer_given};
 ghost use Rattle.mos_machines.specs.Values.{edit_message};
 ghost use Rattle.mos_values.specs.Sound.{IsSound};
-ghost use Rattle.rundown_log.specs.Keeping.{Appends};
-ghost use Rattle.ncs_core.specs.Commands.{IsCommandStep, HasCause, LeavesAfter, is_failed as is_failed_of, command_fault_of};
+ghost use Rattle.rundown_log.specs.Keeping.{Appends, LeavesSo};
+ghost use Rattle.ncs_core.specs.Commands.{IsCommandStep, HasCause, LeavesAfter, LeavesKeeper, is_failed as is_failed_of, command_fault_of};
 ghost use Rattle.ncs_core.specs.State.{ncs_of, devices_of, states};
 
 use crate::accepting::{accept_edit, let_go, undo};
@@ -25,6 +25,7 @@ fn keep_and_give<K: Keeper>(
 ) -> Result<(), KeepFault>
     requires { IsSound (edit_message edit.now) }
     ensures appends { Appends (K.kept keeper.old) (K.kept keeper.new) (K.faults keeper.old) (K.faults keeper.new) (entry_of edit.now) result }
+    ensures leaves { LeavesSo K.appended keeper.old keeper.new (entry_of edit.now) result }
     ensures rises { K.faults keeper.old ≤ K.faults keeper.new }
     ensures journal { OnOk result (journal.new ≡ journal.old ++ entry_of edit.now ∷ []) }
     ensures peers { OnOk result (states peers.new ≡ (λ d. peer_given (entry_of edit.now) (entry_count journal.old (entry_of edit.now).ro) (states peers.old d))) }
@@ -68,6 +69,7 @@ impl<K: Keeper> Ncs<K> {
         ensures step { IsCommandStep (ncs_of self.old) (entry_of edit.now) result (ncs_of self.new) }
         ensures cause { HasCause (ncs_of self.old) (entry_of edit.now) self.new.server.faults result }
         ensures leaves { LeavesAfter (ncs_of self.old) (ncs_of self.new) self.old.kept self.new.kept (entry_of edit.now) result }
+        ensures keeper { LeavesKeeper K.appended self.old.keeper self.new.keeper (entry_of edit.now) result }
         ensures devices { devices_of self.new ≡ devices_of self.old }
     {
         self.orders.has_ascending_ids();
@@ -103,6 +105,7 @@ impl<K: Keeper> Ncs<K> {
         ensures step { IsCommandStep (ncs_of self.old) (entry_of edit.now) result (ncs_of self.new) }
         ensures cause { HasCause (ncs_of self.old) (entry_of edit.now) self.new.server.faults result }
         ensures leaves { LeavesAfter (ncs_of self.old) (ncs_of self.new) self.old.kept self.new.kept (entry_of edit.now) result }
+        ensures keeper { LeavesKeeper K.appended self.old.keeper self.new.keeper (entry_of edit.now) result }
         ensures devices { devices_of self.new ≡ devices_of self.old }
     {
         if self.stopped {

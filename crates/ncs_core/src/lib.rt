@@ -11,6 +11,7 @@ mod giving;
 mod hearing;
 mod keeping;
 mod limits;
+mod listing;
 mod ncs;
 mod orders;
 mod reading;

@@ -117,6 +117,7 @@ impl<K: Keeper> Ncs<K> {
         ensures loaded { OnOk result (AreKept self.old.kept self.new.server.journal) }
         ensures accepted { OnOk result (IsAccepted [] self.new.server.journal) }
         ensures kept { self.new.kept ≡ self.old.kept }
+        ensures keeper { OnOk result (K.loaded self.old.keeper self.new.keeper) }
         ensures rises { self.old.server.faults ≤ self.new.server.faults }
         ensures fault { IfErr result (λ f. IsStartCause self.old.kept self.old.server.faults self.new.server.faults f) }
     {
@@ -144,6 +145,7 @@ impl<K: Keeper> Ncs<K> {
         ensures loaded { IfOk result (λ n. AreKept (K.kept keeper) n.server.journal) }
         ensures accepted { IfOk result (λ n. IsAccepted [] n.server.journal) }
         ensures kept { IfOk result (λ n. n.kept ≡ K.kept keeper) }
+        ensures keeper { IfOk result (λ n. K.loaded keeper n.keeper) }
         ensures rises { IfOk result (λ n. K.faults keeper ≤ n.server.faults) }
         ensures fault { IfErr result (λ f. IsStartCause (K.kept keeper) (K.faults keeper) (K.faults f.keeper) f.cause) }
         ensures kept_err { IfErr result (λ f. K.kept f.keeper ≡ K.kept keeper) }
@@ -167,6 +169,7 @@ impl<K: Keeper> Ncs<K> {
         ensures loaded { IfOk result (λ n. AreKept (K.kept keeper) n.server.journal) }
         ensures accepted { IfOk result (λ n. IsAccepted [] n.server.journal) }
         ensures kept { IfOk result (λ n. n.kept ≡ K.kept keeper) }
+        ensures keeper { IfOk result (λ n. K.loaded keeper n.keeper) }
         ensures rises { IfOk result (λ n. K.faults keeper ≤ n.server.faults) }
         ensures fault { IfErr result (λ f. IsStartCause (K.kept keeper) (K.faults keeper) (K.faults f.keeper) f.cause) }
         ensures kept_err { IfErr result (λ f. K.kept f.keeper ≡ K.kept keeper) }
@@ -194,6 +197,7 @@ impl<K: Keeper> Ncs<K> {
         ensures loaded { IfOk result (λ n. AreKept (K.kept keeper) n.server.journal) }
         ensures accepted { IfOk result (λ n. IsAccepted [] n.server.journal) }
         ensures kept { IfOk result (λ n. n.kept ≡ K.kept keeper) }
+        ensures keeper { IfOk result (λ n. K.loaded keeper n.keeper) }
         ensures rises { IfOk result (λ n. K.faults keeper ≤ n.server.faults) }
         ensures fault { IfErr result (λ f. IsStartCause (K.kept keeper) (K.faults keeper) (K.faults f.keeper) f.cause) }
         ensures kept_err { IfErr result (λ f. K.kept f.keeper ≡ K.kept keeper) }
@@ -210,6 +214,7 @@ impl<K: Keeper> Ncs<K> {
         ensures loaded { IfOk result (λ n. AreKept self.kept n.server.journal) }
         ensures accepted { IfOk result (λ n. IsAccepted [] n.server.journal) }
         ensures kept { IfOk result (λ n. n.kept ≡ self.kept) }
+        ensures keeper { IfOk result (λ n. K.loaded self.keeper n.keeper) }
         ensures rises { IfOk result (λ n. self.server.faults ≤ n.server.faults) }
         ensures fault { IfErr result (λ f. IsStartCause self.kept self.server.faults (K.faults f.keeper) f.cause) }
         ensures kept_err { IfErr result (λ f. K.kept f.keeper ≡ self.kept) }

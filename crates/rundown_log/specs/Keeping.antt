@@ -26,3 +26,10 @@ abbrev pub Loads : Option (List Entry) → ℕ → ℕ → Result (List Entry) K
 Loads kept faults_before faults_after (Ok entries) = AreKept kept entries
 Loads kept faults_before faults_after (Err Failed) = Rose faults_before faults_after
 Loads kept faults_before faults_after (Err NoMemory) = Unit {0}
+
+-- What an append makes of the keeper, by the keeper's own account, where it came to one. Of an append for which memory ran
+-- out nothing is said.
+abbrev pub LeavesSo : {K : Type 0} → (K → Entry → Result (Unit {0}) KeepFault → K → Type 0) → K → K → Entry → Result (Unit {0}) KeepFault → Type 0
+LeavesSo appended k m e (Ok done) = appended k e (Ok done) m
+LeavesSo appended k m e (Err Failed) = appended k e (Err Failed) m
+LeavesSo appended k m e (Err NoMemory) = Unit {0}

@@ -5,7 +5,7 @@ ghost use Rattle.std.specs.Vec.{vec_capacity};
 ghost use Rattle.mos_edits.specs.Entries.{entry_of, entry_count as entry_count_of};
 ghost use Rattle.mos_machines.specs.Values.{edit_message};
 ghost use Rattle.mos_values.specs.Sound.{IsSound};
-ghost use Rattle.rundown_log.specs.Keeping.{Appends};
+ghost use Rattle.rundown_log.specs.Keeping.{Appends, LeavesSo};
 ghost use Rattle.rundown_log.specs.Positions.{positions};
 
 use crate::entry::{Entry, edit_ro, let_go};
@@ -70,6 +70,7 @@ fn append_in<K: Keeper>(
     requires entry_room { vec_len entries.old < vec_capacity entries.old }
     requires place_room { vec_len places.old < vec_capacity places.old }
     ensures appends { Appends (K.kept keeper.old) (K.kept keeper.new) (K.faults keeper.old) (K.faults keeper.new) entry result }
+    ensures leaves { K.appended keeper.old entry result keeper.new }
     ensures rises { K.faults keeper.old ≤ K.faults keeper.new }
     ensures entries { OnOk result (entries.new.items ≡ entries.old.items ++ entry ∷ []) }
     ensures places { OnOk result (places.new.items ≡ places.old.items ++ length entries.old.items ∷ []) }
@@ -118,6 +119,7 @@ fn keep_in<K: Keeper>(
 ) -> Result<(), KeepFault>
     requires { IsSound (edit_message edit.now) }
     ensures appends { Appends (K.kept keeper.old) (K.kept keeper.new) (K.faults keeper.old) (K.faults keeper.new) (entry_of edit.now) result }
+    ensures leaves { LeavesSo K.appended keeper.old keeper.new (entry_of edit.now) result }
     ensures rises { K.faults keeper.old ≤ K.faults keeper.new }
     ensures entries { OnOk result (entries.new.items ≡ entries.old.items ++ entry_of edit.now ∷ []) }
     ensures places { OnOk result (places.new.items ≡ places.old.items ++ length entries.old.items ∷ []) }
@@ -204,6 +206,7 @@ impl Journal {
     pub fn keep<K: Keeper>(&mut self, keeper: &mut K, edit: &Edit) -> Result<(), KeepFault>
         requires { IsSound (edit_message edit.now) }
         ensures appends { Appends (K.kept keeper.old) (K.kept keeper.new) (K.faults keeper.old) (K.faults keeper.new) (entry_of edit.now) result }
+        ensures leaves { LeavesSo K.appended keeper.old keeper.new (entry_of edit.now) result }
         ensures rises { K.faults keeper.old ≤ K.faults keeper.new }
         ensures ok { OnOk result (self.new ≡ self.old ++ entry_of edit.now ∷ []) }
         ensures err { OnErr result (self.new ≡ self.old) }

@@ -1,9 +1,10 @@
 //! What entries are written to.
-ghost use Rattle.std.specs.Prelude.{◌≡◌, ℕ, ◌≤◌, List, Option};
+ghost use Rattle.std.specs.Prelude.{◌≡◌, ℕ, ◌≤◌, List, Option, Result};
 ghost use Rattle.mos_edits.specs.Entries.{Entry as JournalEntry};
 ghost use Rattle.mos_machines.specs.Values.{edit_message};
 ghost use Rattle.mos_values.specs.Sound.{IsSound};
 ghost use Rattle.rundown_log.specs.Keeping.{Appends, Loads};
+ghost use Rattle.rundown_log.specs.declared.keeper.KeepFault.{KeepFault as KeepFaultOf};
 
 use crate::entry::Entry;
 use mos_values::Sequence;
@@ -41,15 +42,22 @@ pub trait Keeper {
 
     ghost faults: { Self → ℕ };
 
+    // What an append of an entry, answered so, makes of the keeper; and what a load leaves of it.
+    ghost appended: { Self → JournalEntry → Result (Unit {0}) KeepFaultOf → Self → Type 0 };
+
+    ghost loaded: { Self → Self → Type 0 };
+
     /// Keeps one more entry, at the end. After `Failed` it stands there or doesn't; `NoMemory` keeps and counts nothing.
     fn append(&mut self, e: &Entry) -> Result<(), KeepFault>
         requires { IsSound (edit_message e.now.edit) }
         ensures appends { Appends (kept self.old) (kept self.new) (faults self.old) (faults self.new) e.now result }
+        ensures leaves { appended self.old e.now result self.new }
         ensures rises { faults self.old ≤ faults self.new };
 
     /// The entries that are kept. They stay there.
     fn load(&mut self) -> Result<Entries, KeepFault>
         ensures loads { Loads (kept self.old) (faults self.old) (faults self.new) result }
         ensures stay { kept self.new ≡ kept self.old }
+        ensures leaves { loaded self.old self.new }
         ensures rises { faults self.old ≤ faults self.new };
 }

@@ -3,7 +3,7 @@ ghost use Rattle.std.specs.Prelude.{◌≡◌, ◌↔◌, ◌≤◌, [], ◌∷�
 ghost use Rattle.std.specs.List.{list_any};
 ghost use Rattle.mos_io.specs.Counts.{counted};
 ghost use Rattle.rundown_log.specs.Keeping.{Appends};
-ghost use Rattle.rundown_log.specs.Memory.{fails_next as fails_next_of, kept_if, doubtful_if, failed, appended, settled_by, settled};
+ghost use Rattle.rundown_log.specs.Memory.{fails_next as fails_next_of, kept_if, doubtful_if, failed, appended, settled_by, settled, IsAppended, IsLoaded};
 
 use crate::entry::{Entry, let_go};
 use crate::keeper::{Entries, KeepFault, Keeper};
@@ -162,18 +162,20 @@ impl MemKeeper {
 }
 
 impl Keeper for MemKeeper {
+    ghost use Rattle.rundown_log.specs.Memory.{IsAppended, IsLoaded};
+
     ghost kept = { λ k. Some k.kept };
 
     ghost faults = { λ k. k.faults };
 
+    ghost appended = { IsAppended };
+
+    ghost loaded = { IsLoaded };
+
     fn append(&mut self, e: &Entry) -> Result<(), KeepFault>
         ensures appends { Appends (Some self.old.kept) (Some self.new.kept) self.old.faults self.new.faults e.now result }
         ensures rises { self.old.faults ≤ self.new.faults }
-
-        // Exactly the chosen appends fail.
-        ensures ok { OnOk result ((self.new ≡ appended self.old e.now) × (fails_next_of self.old ≡ false)) }
-        ensures fault { result ≡ Err KeepFault.Failed → (self.new ≡ failed self.old e.now) × (fails_next_of self.old ≡ true) }
-        ensures no_memory { result ≡ Err KeepFault.NoMemory → self.new ≡ self.old }
+        ensures leaves { IsAppended self.old e.now result self.new }
     {
         let entry = e.try_clone()?;
         if self.fails_next() {
@@ -188,6 +190,7 @@ impl Keeper for MemKeeper {
         ensures loads { IfOk result (λ entries. entries ≡ self.old.kept) }
         ensures fault { result ≡ Err KeepFault.Failed → ⊥ }
         ensures stay { self.new ≡ self.old }
+        ensures leaves { IsLoaded self.old self.new }
     {
         let entries = copies(self.alloc, self.kept.as_slice())?;
         Ok(entries)

@@ -8,6 +8,7 @@ mod answers;
 mod changes;
 mod due;
 mod hearing;
+mod known;
 mod peer;
 mod sends;
 mod statuses;

@@ -22,3 +22,4 @@ pub mod SafeRun
 pub mod RunWords
 pub mod Runs
 pub mod MachineCalls
+pub mod Reaching

@@ -8,6 +8,8 @@ ghost use Rattle.mos_machines.specs.Steps.{ServerEvent, started, server_step};
 ghost use Rattle.world_laws.specs.World.{World, WorldEvent, PairingEvent, opening, has_device, kept_journal, world_step, run};
 ghost use Rattle.world_laws.specs.Machines.{server_of, server_call, device_call, server_after, device_after};
 ghost use Rattle.world_laws.specs.Safe.{IsConsistent, IsSafe};
+ghost use Rattle.world_laws.specs.Reached.{IsReached, HasLinks};
+ghost use Rattle.mos_machines.specs.Views.{IsServerWithin};
 
 /// Prefix consistency: every run is safe, and the world that it ends in is consistent, for any number of devices and any list
 /// of commands, deliveries, cut and lost connections, failed appends and restarts.
@@ -28,4 +30,13 @@ pub fn worlds_run_the_machines()
     ensures device { (w : World) (d : ℕ) (e : PairingEvent) → has_device w d ≡ true → ((world_step w (WorldEvent.AtDevice d e)).0.pairings d).gate ≡ device_after (w.pairings d).gate (device_call (w.count + 1) (w.pairings d) e) }
     ensures command { (w : World) (e : Entry) → server_of (world_step w (WorldEvent.Command e)).0 ≡ (server_step w.failing (server_of w) (ServerEvent.Command e)).1 }
     ensures restart { (w : World) (keeps : Bool) → server_of (world_step w (WorldEvent.Restart keeps)).0 ≡ started (kept_journal w.journal keeps w.uncertain) 0 }
+{}
+
+/// Of each world that a run ends in: each link of an end is a connection that the right end opened, and what the server takes
+/// its devices to hold stays within the journal.
+pub fn reached_worlds_have_links()
+    ensures opening { (devices : ℕ) → IsReached (opening devices) }
+    ensures step { (w : World) (e : WorldEvent) → IsReached w → IsReached (world_step w e).0 }
+    ensures links { (w : World) (d : ℕ) → IsReached w → HasLinks (w.pairings d) }
+    ensures within { (w : World) → IsReached w → IsServerWithin (server_of w) }
 {}

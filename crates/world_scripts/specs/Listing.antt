@@ -1,5 +1,5 @@
 -- The state lines of a listing: what is said of a world behind the lines of its events.
-use Rattle.std.specs.Prelude.{◌≡◌, ◌↔◌, ◌≢◌, ℕ, ◌+◌, List, [], ◌∷◌, ◌++◌, map, Bool, true, false, Option, Some, None, IsTrue, codes, AllPairs, Contains, zero, suc}
+use Rattle.std.specs.Prelude.{◌≡◌, ◌<◌, ◌↔◌, ◌≢◌, ℕ, ◌+◌, List, [], ◌∷◌, ◌++◌, map, Bool, true, false, Option, Some, None, IsTrue, codes, AllPairs, Contains, zero, suc}
 use Rattle.std.specs.List.{flat_map, join_by}
 use Rattle.std.specs.Fmt.{decimal}
 use Rattle.mos_edits.specs.Texts.{Text}
@@ -123,8 +123,9 @@ pub data IsViewed (journal : List Entry) (l : Pairing) (r : Text) : Type 0 where
   HasEntry : Contains (entered journal) r → IsViewed journal l r
   HasView : l.peer.views r ≢ View.Out → IsViewed journal l r
 
--- These bytes are the state lines of a world. What a device knows is listed in the order of the texts.
+-- These bytes are the state lines of a world, whose devices are numbered from 1. What a device knows is listed in the order of
+-- the texts.
 pub record AreStateLines (w : World) (bytes : List ℕ) : Type 0 where
   pub viewed : ℕ → List Text
-  pub lists : (d : ℕ) → Lists (IsViewed w.journal (w.pairings d)) (viewed d)
+  pub lists : (d : ℕ) → d < w.devices → Lists (IsViewed w.journal (w.pairings (suc d))) (viewed (suc d))
   pub lines : bytes ≡ state_lines w viewed

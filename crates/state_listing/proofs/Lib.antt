@@ -1,0 +1,5 @@
+pub mod KnownIds
+pub mod OrderWords
+pub mod ToldOrders
+pub mod DeviceLines
+pub mod WorldLines

@@ -1,0 +1,9 @@
+pub mod FormLemmas
+pub mod NumberTexts
+pub mod WordTexts
+pub mod Loops
+pub mod Distinct
+pub mod Fine
+pub mod OrderTexts
+pub mod MessageTexts
+pub mod EnvelopeTexts

@@ -1,0 +1,12 @@
+use Rattle.std.proofs.Common.{◌≡◌, refl, ap, ◌∙◌}
+use Rattle.std.specs.Str.{bytes_eq}
+use Rattle.mos_edits.specs.Texts.{same_id}
+use Rattle.mos_machines.specs.Messages.{Status, status_text}
+use Rattle.world_parts.proofs.ReadSteps.{units-text}
+use Rattle.world_parts.proofs.applying.is_okay.Goals as goal
+
+pub returns : goal.returns
+returns c =
+    c.eq.ensures
+    ∙ ((λ i. bytes_eq (c.units.ensures.value i) (c.as_slice.ensures i))
+    ∙ (units-text c.text.result.now (status_text Status.Okay) c.units.ensures.allowed refl ∙ ap (λ t. same_id t (status_text Status.Okay)) c.text.ensures.value))

@@ -1,0 +1,6 @@
+pub mod Told
+pub mod Applying
+pub mod Sending
+pub mod Hearing
+pub mod Matching
+pub mod Places
