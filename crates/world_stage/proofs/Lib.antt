@@ -1,0 +1,9 @@
+pub mod OwnLinks
+pub mod Tables
+pub mod ServerSteps
+pub mod ServerSaid
+pub mod GatewaySteps
+pub mod Commanded
+pub mod Matched
+pub mod Plays
+pub mod Runs

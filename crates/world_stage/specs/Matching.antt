@@ -1,0 +1,59 @@
+-- How the parts of a world in memory stand for the world's definition.
+use Rattle.std.specs.Prelude.{◌≡◌, ℕ, ◌+◌, ◌<◌, [], length, slice_get, false, Option, Some, None}
+use Rattle.mos_edits.specs.Entries.{Entry, IsEntry, AreEntries}
+use Rattle.rundown_log.specs.Memory.{MemoryKeeper}
+use Rattle.ncs_core.specs.State.{NcsTables, ncs_of, devices_of}
+use Rattle.world_laws.specs.World.{Pairing, World}
+use Rattle.world_laws.specs.Reached.{IsReached}
+use Rattle.world_parts.specs.Matching.{HasGateway, MatchesConnections}
+use Rattle.world_stage.specs.declared.play.Play.{Play}
+
+-- Device `d`, from 0: what the server keeps for it, the device, and its connections. In the world's definition devices are
+-- numbered from 1.
+pub record MatchesPairing (t : Play) (d : ℕ) (l : Pairing) : Type 0 where
+  pub peer : (ncs_of t.ncs).peers d ≡ l.peer
+  pub gateway : HasGateway (slice_get t.gateways.items d) l
+  pub connections : MatchesConnections t.connections.items (d + 1) l.connections
+
+-- the keeper, whose entries are those of the journal
+pub record MatchesKeeper (k : MemoryKeeper) (w : World) : Type 0 where
+  pub kept : k.kept ≡ w.journal
+  pub doubtful : k.doubtful ≡ w.uncertain
+  pub failing : k.failing ≡ w.failing
+  pub fails : k.fails ≡ []
+  pub stands : k.stands ≡ false
+
+-- the server, but for its devices
+pub record MatchesServer (n : NcsTables MemoryKeeper) (w : World) : Type 0 where
+  pub journal : n.server.journal ≡ w.journal
+  pub stopped : n.server.stopped ≡ w.stopped
+  pub keeper : MatchesKeeper n.keeper w
+  pub kept : n.kept ≡ Some w.journal
+
+-- all but the pairings
+pub record MatchesRest (t : Play) (w : World) : Type 0 where
+  pub server : MatchesServer t.ncs w
+  pub count : length t.connections.items ≡ w.count
+  pub devices : devices_of t.ncs ≡ w.devices
+  pub gateways : length t.gateways.items ≡ w.devices
+
+-- The parts stand for those of the world, whose entries have the roIDs of their edits.
+pub record MatchesParts (t : Play) (w : World) : Type 0 where
+  pub rest : MatchesRest t w
+  pub pairings : (d : ℕ) → d < w.devices → MatchesPairing t d (w.pairings (d + 1))
+  pub entries : AreEntries w.journal
+  pub uncertain : (e : Entry) → w.uncertain ≡ Some e → IsEntry e
+
+-- The same of a world that some run ends in.
+pub record Matches (t : Play) (w : World) : Type 0 where
+  pub parts : MatchesParts t w
+  pub reached : IsReached w
+
+-- each device has its gateway
+abbrev pub IsSized : Play → Type 0
+IsSized t = length t.gateways.items ≡ devices_of t.ncs
+
+-- A world in memory, where memory didn't run out.
+abbrev pub Shows : Option Play → World → Type 0
+Shows None w = ⊥
+Shows (Some t) w = Matches t w
