@@ -1,14 +1,14 @@
 -- Connections in a list and those of the world's definition, where one of them is written anew or one more comes.
-use Rattle.std.proofs.Common.{◌≡◌, ℕ, ◌+◌, ◌<◌, ◌≤◌, ◌==◌, zero, suc, List, [], ◌∷◌, ◌++◌, length, get_or, set, Bool, true, false, Option, Some, None, refl, arith, if◌then◌else◌, sym, ap, ◌∙◌, subst, eq-eqb}
+use Rattle.std.proofs.Common.{◌≡◌, ℕ, ◌<◌, ◌==◌, zero, suc, List, [], ◌∷◌, ◌++◌, length, get_or, set, Bool, true, false, Option, Some, None, refl, arith, if◌then◌else◌, sym, ap, ◌∙◌, subst, eq-eqb}
 use Rattle.std.specs.List.{slice_get}
 use Rattle.std.proofs.Math.Dec.{eqb-suc-zero, eqb-zero-suc, eqb-suc-suc}
 use Rattle.std.proofs.lemmas.Bool.{eqb-true}
 use Rattle.std.proofs.lemmas.List.{set-get_or}
 use Rattle.std.proofs.lemmas.Option.{slice_get_read}
 use Rattle.mos_edits.specs.Texts.{set_number}
-use Rattle.world_laws.specs.World.{Connection as Line, Opener as Openers}
+use Rattle.world_laws.specs.World.{Connection as Line}
 use Rattle.world_parts.specs.declared.connection.Connection.{Connection}
-use Rattle.world_parts.specs.Matching.{MatchesConnection, MatchesLine, own, connection_at, MatchesConnections, LeavesOthers}
+use Rattle.world_parts.specs.Matching.{MatchesConnection, MatchesLine, own, MatchesConnections, LeavesOthers}
 use Rattle.world_parts.specs.Places.{IsPlace}
 
 -- ---- one element of a list

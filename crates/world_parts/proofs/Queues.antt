@@ -1,5 +1,5 @@
 -- What a connection in memory and the one that it stands for come to, by one step on either.
-use Rattle.std.proofs.Common.{◌≡◌, ℕ, ◌+◌, ◌==◌, ◌<◌, zero, suc, List, [], ◌∷◌, ◌++◌, length, get_or, set, take, Bool, true, false, Option, Some, None, Result, Ok, Err, IfNone, IfSome, OnOk, refl, if◌then◌else◌, sym, ap, ◌∙◌, subst}
+use Rattle.std.proofs.Common.{◌≡◌, ℕ, ◌==◌, ◌<◌, zero, suc, List, [], ◌∷◌, ◌++◌, length, get_or, set, take, Bool, true, false, Option, Some, None, Result, Ok, Err, IfNone, IfSome, OnOk, refl, if◌then◌else◌, sym, ap, ◌∙◌, subst}
 use Rattle.mos_edits.specs.Texts.{set_number}
 use Rattle.mos_machines.specs.Messages.{Packet as Said}
 use Rattle.world_laws.specs.World.{Connection as Line, Opener as Openers, Direction, front, rest, lose, new_connection, write_device, write_server}
@@ -73,35 +73,43 @@ server-front x line e m = empty-front x.to_server.items line.to_server e m.to_se
 pub device-taken : (x y : Connection) (p : Packet) (line : Line) → y ≡ record x { to_device = y.to_device } → x.to_device.items ≡ p ∷ y.to_device.items → MatchesConnection x line
     → (q : Said) × (front line.to_device ≡ Some q) × Carries p q × MatchesConnection y (record line { to_device = rest line.to_device })
 device-taken x y p line e s m =
-    let f = first-carried p y.to_device.items line.to_device (subst (λ (ps : List Packet). CarriesAll ps line.to_device) s m.to_device) in
-    (f.0, f.1, f.2, subst (λ (z : Connection). MatchesConnection z (record line { to_device = rest line.to_device })) (sym e) (record {
-      opener = m.opener;
-      accepted = m.accepted;
-      to_device = f.3;
-      to_server = m.to_server;
-      lost_device = m.lost_device;
-      lost_server = m.lost_server;
-    }))
+    let f = first-carried p y.to_device.items line.to_device (subst (λ (ps : List Packet). CarriesAll ps line.to_device) s m.to_device) in (
+      f.0,
+      f.1,
+      f.2,
+      subst (λ (z : Connection). MatchesConnection z (record line { to_device = rest line.to_device })) (sym e) (record {
+        opener = m.opener;
+        accepted = m.accepted;
+        to_device = f.3;
+        to_server = m.to_server;
+        lost_device = m.lost_device;
+        lost_server = m.lost_server;
+      }),
+    )
 
 pub server-taken : (x y : Connection) (p : Packet) (line : Line) → y ≡ record x { to_server = y.to_server } → x.to_server.items ≡ p ∷ y.to_server.items → MatchesConnection x line
     → (q : Said) × (front line.to_server ≡ Some q) × Carries p q × MatchesConnection y (record line { to_server = rest line.to_server })
 server-taken x y p line e s m =
-    let f = first-carried p y.to_server.items line.to_server (subst (λ (ps : List Packet). CarriesAll ps line.to_server) s m.to_server) in
-    (f.0, f.1, f.2, subst (λ (z : Connection). MatchesConnection z (record line { to_server = rest line.to_server })) (sym e) (record {
-      opener = m.opener;
-      accepted = m.accepted;
-      to_device = m.to_device;
-      to_server = f.3;
-      lost_device = m.lost_device;
-      lost_server = m.lost_server;
-    }))
+    let f = first-carried p y.to_server.items line.to_server (subst (λ (ps : List Packet). CarriesAll ps line.to_server) s m.to_server) in (
+      f.0,
+      f.1,
+      f.2,
+      subst (λ (z : Connection). MatchesConnection z (record line { to_server = rest line.to_server })) (sym e) (record {
+        opener = m.opener;
+        accepted = m.accepted;
+        to_device = m.to_device;
+        to_server = f.3;
+        lost_device = m.lost_device;
+        lost_server = m.lost_server;
+      }),
+    )
 
 pub device-written : (x y : Connection) (p : Packet) (q : Said) (line : Line) → y ≡ record x { to_device = y.to_device } → y.to_device.items ≡ with_written x.lost_device p x.to_device.items → Carries p q → MatchesConnection x line → MatchesConnection y (write_device q line)
 device-written x y p q line e s c m = subst (λ (z : Connection). MatchesConnection z (write_device q line)) (sym e) (record {
   opener = m.opener;
   accepted = m.accepted;
   to_device = subst (λ (ps : List Packet). CarriesAll ps (write_device q line).to_device) (sym s)
-    (subst (λ (b : Bool). CarriesAll (with_written x.lost_device p x.to_device.items) (if b then line.to_device else line.to_device ++ q ∷ [])) m.lost_device (carries-written x.lost_device x.to_device.items line.to_device p q m.to_device c));
+      (subst (λ (b : Bool). CarriesAll (with_written x.lost_device p x.to_device.items) (if b then line.to_device else line.to_device ++ q ∷ [])) m.lost_device (carries-written x.lost_device x.to_device.items line.to_device p q m.to_device c));
   to_server = m.to_server;
   lost_device = m.lost_device;
   lost_server = m.lost_server;
@@ -113,7 +121,7 @@ server-written x y p q line e s c m = subst (λ (z : Connection). MatchesConnect
   accepted = m.accepted;
   to_device = m.to_device;
   to_server = subst (λ (ps : List Packet). CarriesAll ps (write_server q line).to_server) (sym s)
-    (subst (λ (b : Bool). CarriesAll (with_written x.lost_server p x.to_server.items) (if b then line.to_server else line.to_server ++ q ∷ [])) m.lost_server (carries-written x.lost_server x.to_server.items line.to_server p q m.to_server c));
+      (subst (λ (b : Bool). CarriesAll (with_written x.lost_server p x.to_server.items) (if b then line.to_server else line.to_server ++ q ∷ [])) m.lost_server (carries-written x.lost_server x.to_server.items line.to_server p q m.to_server c));
   lost_device = m.lost_device;
   lost_server = m.lost_server;
 })

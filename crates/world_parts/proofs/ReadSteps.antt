@@ -1,5 +1,5 @@
 -- What is applied after a packet was read, by what the answer in memory says.
-use Rattle.std.proofs.Common.{◌≡◌, ℕ, ◌+◌, Bool, true, false, ◌||◌, Option, Some, None, codes, refl, sym, ap, ◌∙◌, if◌then◌else◌}
+use Rattle.std.proofs.Common.{◌≡◌, ℕ, ◌+◌, Bool, true, false, ◌||◌, Option, Some, None, refl, sym, ap, ◌∙◌, if◌then◌else◌}
 use Rattle.std.specs.Str.{bytes_eq}
 use Rattle.mos_fields.specs.Characters.{are_allowed, units_of}
 use Rattle.mos_fields.proofs.OrderLemmas.{same_by_units}
@@ -7,7 +7,6 @@ use Rattle.mos_edits.specs.Texts.{Text, same_id, set_order}
 use Rattle.mos_edits.specs.KeyedLists.ActFault.{Missing, AlreadyThere}
 use Rattle.mos_edits.specs.Orders.{Edit}
 use Rattle.mos_edits.specs.Entries.{Kind, kind}
-use Rattle.mos_edits.specs.Entries.Kind.{IsWhole, IsAction, IsReady, IsNotReady}
 use Rattle.mos_machines.specs.Device.{GateState, is_in}
 use Rattle.mos_machines.specs.Messages.{Status, status_text, Message, Packet as Said, Tag as kinds}
 use Rattle.mos_machines.specs.Messages.Status.{Okay, NoDeck, NotInStep, Faulty, Full, StoreFault, Stopped, NotNow, NoRunningOrder, NotSupported, OtherStatus}

@@ -1,5 +1,5 @@
 -- How packets, connections and gateways in memory stand for those of the world's definition.
-use Rattle.std.specs.Prelude.{◌≡◌, ℕ, zero, suc, List, [], ◌∷◌, slice_get, Bool, Option, Some, None, ◌==◌, if◌then◌else◌}
+use Rattle.std.specs.Prelude.{◌≡◌, ℕ, zero, suc, List, [], ◌∷◌, slice_get, Option, Some, None, ◌==◌, if◌then◌else◌}
 use Rattle.mos_machines.specs.Messages.{Packet as Said}
 use Rattle.mos_machines.specs.Tables.{look, gate_of}
 use Rattle.mos_machines.specs.Values.{message_of, IsWritten}

@@ -1,7 +1,7 @@
 -- What is told of a packet that was written.
-use Rattle.std.specs.Prelude.{ℕ, List, length, Bool, true, false, ◌||◌, Option, Some, None}
+use Rattle.std.specs.Prelude.{ℕ, length, Bool, true, false, ◌||◌, Option, Some, None}
 use Rattle.mos_edits.specs.Texts.{Text, same_id}
-use Rattle.mos_machines.specs.Messages.{Tag as kinds, Status, status_text}
+use Rattle.mos_machines.specs.Messages.{Tag as kinds, status_text}
 use Rattle.mos_machines.specs.Messages.Status.{Okay, NoDeck}
 use Rattle.mos_values.specs.declared.message.Message.{Message}
 use Rattle.mos_values.specs.declared.message.Message.TheVariants as carried

@@ -18,11 +18,7 @@ pub fn take_first(queue: &mut VecDeque<Packet>) -> Option<Packet>
 }
 
 /// Writes a packet at the end, where none is lost.
-pub fn write_last(
-    queue: &mut VecDeque<Packet>,
-    lost: bool,
-    packet: Packet,
-) -> Result<(), NoMemory>
+pub fn write_last(queue: &mut VecDeque<Packet>, lost: bool, packet: Packet) -> Result<(), NoMemory>
     ensures { OnOk result (queue.new.items ≡ with_written lost packet queue.old.items) }
 {
     if lost {

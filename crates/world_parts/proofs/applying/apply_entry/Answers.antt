@@ -1,4 +1,4 @@
-use Rattle.std.proofs.Common.{◌≡◌, ℕ, ◌+◌, ap, ◌∙◌, arith}
+use Rattle.std.proofs.Common.{◌≡◌, ◌+◌, ap, ◌∙◌, arith}
 use Rattle.mos_edits.specs.Texts.{set_order}
 use Rattle.mos_machines.specs.Tables.{look}
 use Rattle.mos_machines.proofs.RowTables.{look-put}

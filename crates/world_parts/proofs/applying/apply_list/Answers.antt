@@ -1,4 +1,4 @@
-use Rattle.std.proofs.Common.{◌≡◌, sym, ap, ◌∙◌}
+use Rattle.std.proofs.Common.{sym, ap, ◌∙◌}
 use Rattle.mos_machines.specs.Tables.{look}
 use Rattle.mos_machines.proofs.RowTables.{look-put}
 use Rattle.mos_machines.specs.Messages.Step.{Taken}

@@ -1,9 +1,7 @@
-use Rattle.std.proofs.Common.{◌≡◌, ℕ, suc, List, get_or, sym, ap, ◌∙◌}
+use Rattle.std.proofs.Common.{get_or, ap, ◌∙◌}
 use Rattle.std.proofs.lemmas.Option.{IfSome_then}
-use Rattle.world_laws.specs.World.{Connection as Line, rest}
+use Rattle.world_laws.specs.World.{rest}
 use Rattle.world_parts.specs.declared.connection.Connection.{Connection}
-use Rattle.world_parts.specs.Matching.{MatchesConnection}
-use Rattle.world_parts.specs.Places.{IsPlace}
 use Rattle.world_parts.proofs.Lines.{device-at, line-at, line-put, others-put, put-same}
 use Rattle.world_parts.proofs.Queues.{on-none, device-kept, device-front, device-taken}
 use Rattle.world_parts.proofs.connections.take_to_device.Goals as goal
@@ -29,13 +27,12 @@ returns-in-Some-clause-some c =
     let e = ap (get_or xs i) c.index-connections-i.is in
     IfSome_then c.take_for_device.result c.take_for_device.ensures.some
     (λ k t lines h.
-      let f = device-taken x y k (lines c.args.c) t.0 t.1 (line-at xs c.args.d c.args.c i x lines p e h) in
-      (
-        f.0,
-        f.1,
-        f.2,
-        line-put xs c.args.d c.args.c i y lines (record (lines c.args.c) { to_device = rest (lines c.args.c).to_device }) p (ap (λ (z : Connection). z.device) t.0 ∙ device-at xs c.args.d c.args.c i x p e) f.3 h,
-      ))
+    let f = device-taken x y k (lines c.args.c) t.0 t.1 (line-at xs c.args.d c.args.c i x lines p e h) in (
+      f.0,
+      f.1,
+      f.2,
+      line-put xs c.args.d c.args.c i y lines (record (lines c.args.c) { to_device = rest (lines c.args.c).to_device }) p (ap (λ (z : Connection). z.device) t.0 ∙ device-at xs c.args.d c.args.c i x p e) f.3 h,
+    ))
 
 pub returns-in-Some-clause-others : goal.returns-in-Some-clause-others
 returns-in-Some-clause-others c =

@@ -1,8 +1,6 @@
-use Rattle.std.proofs.Common.{◌≡◌, ℕ, suc, List, get_or, sym, ap, ◌∙◌}
-use Rattle.world_laws.specs.World.{Connection as Line, write_device}
+use Rattle.std.proofs.Common.{get_or, ap, ◌∙◌}
+use Rattle.world_laws.specs.World.{write_device}
 use Rattle.world_parts.specs.declared.connection.Connection.{Connection}
-use Rattle.world_parts.specs.Matching.{MatchesConnection}
-use Rattle.world_parts.specs.Places.{IsPlace}
 use Rattle.world_parts.proofs.Lines.{device-at, line-at, line-put, others-put}
 use Rattle.world_parts.proofs.Queues.{on-ok, device-written}
 use Rattle.world_parts.proofs.connections.write_to_device.Goals as goal
@@ -17,8 +15,8 @@ returns-in-Some-clause-own c =
     let e = ap (get_or xs i) c.index-connections-i.is in
     on-ok c.write_for_device.result c.write_for_device.ensures
     (λ t lines q h o k.
-      line-put xs c.args.d c.args.c i y lines (write_device q (lines c.args.c)) p (ap (λ (z : Connection). z.device) t.0 ∙ device-at xs c.args.d c.args.c i x p e)
-      (device-written x y c.args.packet q (lines c.args.c) t.0 t.1 k (line-at xs c.args.d c.args.c i x lines p e h)) h)
+    line-put xs c.args.d c.args.c i y lines (write_device q (lines c.args.c)) p (ap (λ (z : Connection). z.device) t.0 ∙ device-at xs c.args.d c.args.c i x p e)
+    (device-written x y c.args.packet q (lines c.args.c) t.0 t.1 k (line-at xs c.args.d c.args.c i x lines p e h)) h)
 
 pub returns-in-Some-clause-others : goal.returns-in-Some-clause-others
 returns-in-Some-clause-others c =

@@ -1,4 +1,4 @@
-use Rattle.std.proofs.Common.{◌≡◌, ◌∙◌}
+use Rattle.std.proofs.Common.{◌∙◌}
 use Rattle.world_parts.proofs.Telling.{if-ok-then, packet-told}
 use Rattle.world_parts.proofs.packet.told.Goals as goal
 
