@@ -1,35 +1,42 @@
--- What the commands tell of the messages of a stream.
-use Rattle.std.specs.Prelude.{◌≡◌, ℕ, List}
+-- What the commands do: what is read, told and written.
+use Rattle.std.specs.Prelude.{◌≡◌, ℕ, List, Option}
 use Rattle.mos_lexer.specs.Units.{Found}
-use Rattle.mos_lexer.specs.declared.kind.Kind.{Kind}
 use Rattle.mos_values.specs.declared.message.Envelope.{Envelope}
 use Rattle.stream_commands.specs.Lines.{count_line, refused_line}
 use Rattle.stream_commands.specs.Listings.{IsListed, IsCounted, no_last}
+use Rattle.stream_commands.specs.Running.{IsDone, IsRefused}
 use Rattle.device_answers.specs.Taking.{AreMessages, take_output, refused_text}
+use Rattle.script_plays.specs.Played.{Telling, IsReplayed, IsScriptRefused, IsMade}
+use Rattle.world_stage.specs.declared.play.Play.{Play}
 
 pub data Command : Type 0 where
   Take : Command
   Show : Command
   Check : Command
+  Replay : Command
+  Make : (count : ℕ) → Command
 
 -- the values that were found are those of messages, and this is what a device answers to them
 abbrev pub AreAnswered : List Found → List ℕ → Type 0
 AreAnswered found text = (es : List Envelope) × AreMessages found es × (text ≡ take_output es)
 
--- what is told of messages
-abbrev pub told_by : Command → List Found → List ℕ → Type 0
-told_by Take = AreAnswered
-told_by Show = IsListed
-told_by Check = IsCounted
+-- Once all was read and written, with what the stage told and the world that it shows. `make` reads nothing.
+abbrev pub DoneBy : Command → Telling → Option (Option Play) → Option (List ℕ) → Option (List ℕ) → Option (List ℕ) → Option (List ℕ) → Type 0
+DoneBy Take told shown left_before left_after written_before written_after = IsDone AreAnswered no_last left_before left_after written_before written_after
+DoneBy Show told shown left_before left_after written_before written_after = IsDone IsListed no_last left_before left_after written_before written_after
+DoneBy Check told shown left_before left_after written_before written_after = IsDone IsCounted count_line left_before left_after written_before written_after
+DoneBy Replay told shown left_before left_after written_before written_after = IsReplayed told shown left_before left_after written_before written_after
+DoneBy (Make count) told shown left_before left_after written_before written_after = IsMade told shown count written_before written_after × (left_after ≡ left_before)
 
--- what is told behind the last one, of so many messages and code units
-abbrev pub last_by : Command → ℕ → ℕ → List ℕ
-last_by Take = no_last
-last_by Show = no_last
-last_by Check = count_line
+-- Where the input is refused. `make` refuses nothing.
+abbrev pub RefusedBy : Command → Option (List ℕ) → Option (List ℕ) → Option (List ℕ) → Option (List ℕ) → Type 0
+RefusedBy Take left_before left_after written_before written_after = IsRefused AreAnswered refused_text left_before left_after written_before written_after
+RefusedBy Show left_before left_after written_before written_after = IsRefused IsListed refused_line left_before left_after written_before written_after
+RefusedBy Check left_before left_after written_before written_after = IsRefused IsCounted refused_line left_before left_after written_before written_after
+RefusedBy Replay left_before left_after written_before written_after = IsScriptRefused left_before left_after written_before written_after
+RefusedBy (Make count) left_before left_after written_before written_after = ⊥
 
--- what is told of a rejection
-abbrev pub refusal_by : Command → ℕ → Kind → List ℕ
-refusal_by Take = refused_text
-refusal_by Show = refused_line
-refusal_by Check = refused_line
+-- whether the command reads the input
+abbrev pub Reads : Command → Type 0
+Reads (Make count) = ⊥
+Reads c = Unit {0}

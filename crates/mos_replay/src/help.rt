@@ -10,8 +10,8 @@ usage: mos_replay take | show | check | replay | make N
   take      answers the messages on standard input as a device does
   show      lists the messages on standard input
   check     counts the messages on standard input
-  replay    runs the script on standard input (not yet)
-  make N    makes a script of N events and runs it (not yet)
+  replay    plays the script on standard input on a server and its gateways
+  make N    makes a script of N events, at most 200000, and plays it
 
 Messages are UCS-2, high byte first: those of Profiles 0, 1, 2 and 4, in any
 encoding, and others as they are written.
@@ -21,10 +21,14 @@ soon as it is whole, in UCS-2. `show` writes one line for each message: where
 it begins in 16-bit code units (the byte is twice that), its name, mosID,
 ncsID, and its roID or objID.
 
+A script is lines of ASCII: `devices D`, then an event a line, as `cmd create
+r A B`, `open 1` or `read 1`. `replay` writes a line for each event, and what
+both ends hold at the end. `make` writes counts, and what both ends hold.
+
 The program ends with
-  0  all was read and answered
+  0  all was read and written
   1  the input is rejected; the last line says REFUSED, the place in code
-     units and the kind
+     units and the kind, or for a script the number of the line
   2  the words aren't a command
   3  standard input failed, or has a gibibyte or more
   4  standard output failed

@@ -1,9 +1,11 @@
-//! Shows, checks and replays the traffic of MOS messages. So far `mos_replay show` and `mos_replay check` list and count
-//! the messages on standard input, and `mos_replay take` answers them as a device does.
+//! Shows, checks and replays the traffic of MOS messages. `mos_replay show` and `mos_replay check` list and count the
+//! messages on standard input, `mos_replay take` answers them as a device does, `mos_replay replay` plays a script of edits,
+//! deliveries, cuts and restarts, and `mos_replay make N` plays one that it makes.
 #![tactic(auto)]
 
 mod help;
 mod run;
+mod words;
 
 use help::{USAGE, about};
 use mos_io::{Capped, StdSink, StdSource};
@@ -13,6 +15,7 @@ use std::env;
 use std::io::Lock;
 use std::process::ExitCode;
 use stream_commands::Status;
+use world_stage::WorldStage;
 
 /// The most bytes that a run reads. It ends with a fault of reading where there are as many.
 const MOST: u64 = 1_073_741_824;
@@ -21,11 +24,12 @@ const MOST: u64 = 1_073_741_824;
 fn run_with(rt: &HostRuntime, words: &[String]) -> Status {
     let mut source = Capped::new(StdSource::new(rt.stdin().lock()), MOST);
     let mut sink = StdSink::new(rt.stdout().lock());
-    mos_run(rt.alloc(), words, &mut source, &mut sink)
+    let mut stage = WorldStage::new(rt.alloc());
+    mos_run(rt.alloc(), words, &mut source, &mut sink, &mut stage)
 }
 
 /// The words behind the program's name.
-fn words(rt: &HostRuntime) -> Result<Vec<String>, AllocError> {
+fn arguments(rt: &HostRuntime) -> Result<Vec<String>, AllocError> {
     match env::args(rt) {
         Ok(args) => args.skip(1).collect(rt.alloc()),
         Err(_) => Err(AllocError),
@@ -41,7 +45,7 @@ fn print_text(rt: &HostRuntime, text: &str) -> Status {
 }
 
 fn main(rt: HostRuntime) -> ExitCode {
-    let status = match words(&rt) {
+    let status = match arguments(&rt) {
         Ok(words) => match about(&words) {
             Some(text) => print_text(&rt, text),
             None => run_with(&rt, words.as_slice()),

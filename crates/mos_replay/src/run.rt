@@ -1,30 +1,28 @@
 //! The call that the program makes.
-ghost use Rattle.std.specs.Prelude.{◌≡◌, ◌≢◌, [], ◌∷◌, MatchBool, map, string_bytes};
+ghost use Rattle.std.specs.Prelude.{◌≡◌, ◌≢◌, map, string_bytes};
 ghost use Rattle.mos_io.specs.Counts.{Rose};
 ghost use Rattle.stream_commands.specs.Running.{IsBounded, IsDone, IsRefused};
-ghost use Rattle.mos_replay.specs.Commands.{Command, told_by, last_by, refusal_by};
-ghost use Rattle.mos_replay.specs.Words.{Asks, IsWord};
+ghost use Rattle.stream_commands.specs.Lines.{count_line, refused_line};
+ghost use Rattle.stream_commands.specs.Listings.{IsCounted, IsListed, no_last};
+ghost use Rattle.device_answers.specs.Taking.{refused_text};
+ghost use Rattle.script_plays.specs.Played.{IsMade, IsReplayed, IsScriptRefused};
+ghost use Rattle.mos_replay.specs.Commands.{AreAnswered, Command, DoneBy, Reads, RefusedBy};
+ghost use Rattle.mos_replay.specs.Endings.{ending_status};
+ghost use Rattle.mos_replay.specs.Words.{AreWords, Asks, command_of};
 
+use crate::words::{Asked, asked_for};
 use device_answers::Device;
 use mos_io::{Sink, Source};
+use script_plays::{Ending, make as make_script, replay as replay_script};
 use std::alloc::Global;
 use stream_commands::{Counter, Lister, Status, run_stream};
-
-/// Whether the words are this word alone.
-fn is_word(words: &[String], text: &str) -> bool
-    ensures { MatchBool result (map string_bytes words.now ≡ text.now ∷ []) (map string_bytes words.now ≡ text.now ∷ [] → ⊥) }
-{
-    match words {
-        [word] => word.as_str() == text,
-        _ => false,
-    }
-}
+use world_stage::Stage;
 
 /// `take`.
 fn take<S: Source, K: Sink>(alloc: Global, source: &mut S, sink: &mut K) -> Status
     requires { IsBounded (S.bound source.old) }
-    ensures done { result ≡ Status.Done → IsDone (told_by Command.Take) (last_by Command.Take) (S.left source.old) (S.left source.new) (K.written sink.old) (K.written sink.new) }
-    ensures refused { result ≡ Status.Refused → IsRefused (told_by Command.Take) (refusal_by Command.Take) (S.left source.old) (S.left source.new) (K.written sink.old) (K.written sink.new) }
+    ensures done { result ≡ Status.Done → IsDone AreAnswered no_last (S.left source.old) (S.left source.new) (K.written sink.old) (K.written sink.new) }
+    ensures refused { result ≡ Status.Refused → IsRefused AreAnswered refused_text (S.left source.old) (S.left source.new) (K.written sink.old) (K.written sink.new) }
     ensures usage { result ≢ Status.Usage }
     ensures read_fault { result ≡ Status.ReadFault → Rose (S.faults source.old) (S.faults source.new) }
     ensures write_fault { result ≡ Status.WriteFault → Rose (K.faults sink.old) (K.faults sink.new) }
@@ -36,8 +34,8 @@ fn take<S: Source, K: Sink>(alloc: Global, source: &mut S, sink: &mut K) -> Stat
 /// `show`.
 fn show<S: Source, K: Sink>(alloc: Global, source: &mut S, sink: &mut K) -> Status
     requires { IsBounded (S.bound source.old) }
-    ensures done { result ≡ Status.Done → IsDone (told_by Command.Show) (last_by Command.Show) (S.left source.old) (S.left source.new) (K.written sink.old) (K.written sink.new) }
-    ensures refused { result ≡ Status.Refused → IsRefused (told_by Command.Show) (refusal_by Command.Show) (S.left source.old) (S.left source.new) (K.written sink.old) (K.written sink.new) }
+    ensures done { result ≡ Status.Done → IsDone IsListed no_last (S.left source.old) (S.left source.new) (K.written sink.old) (K.written sink.new) }
+    ensures refused { result ≡ Status.Refused → IsRefused IsListed refused_line (S.left source.old) (S.left source.new) (K.written sink.old) (K.written sink.new) }
     ensures usage { result ≢ Status.Usage }
     ensures read_fault { result ≡ Status.ReadFault → Rose (S.faults source.old) (S.faults source.new) }
     ensures write_fault { result ≡ Status.WriteFault → Rose (K.faults sink.old) (K.faults sink.new) }
@@ -48,8 +46,8 @@ fn show<S: Source, K: Sink>(alloc: Global, source: &mut S, sink: &mut K) -> Stat
 /// `check`.
 fn check<S: Source, K: Sink>(alloc: Global, source: &mut S, sink: &mut K) -> Status
     requires { IsBounded (S.bound source.old) }
-    ensures done { result ≡ Status.Done → IsDone (told_by Command.Check) (last_by Command.Check) (S.left source.old) (S.left source.new) (K.written sink.old) (K.written sink.new) }
-    ensures refused { result ≡ Status.Refused → IsRefused (told_by Command.Check) (refusal_by Command.Check) (S.left source.old) (S.left source.new) (K.written sink.old) (K.written sink.new) }
+    ensures done { result ≡ Status.Done → IsDone IsCounted count_line (S.left source.old) (S.left source.new) (K.written sink.old) (K.written sink.new) }
+    ensures refused { result ≡ Status.Refused → IsRefused IsCounted refused_line (S.left source.old) (S.left source.new) (K.written sink.old) (K.written sink.new) }
     ensures usage { result ≢ Status.Usage }
     ensures read_fault { result ≡ Status.ReadFault → Rose (S.faults source.old) (S.faults source.new) }
     ensures write_fault { result ≡ Status.WriteFault → Rose (K.faults sink.old) (K.faults sink.new) }
@@ -57,43 +55,111 @@ fn check<S: Source, K: Sink>(alloc: Global, source: &mut S, sink: &mut K) -> Sta
     run_stream(alloc, &mut Counter, source, sink)
 }
 
-/// Reads a stream of messages from `source` to its end, and writes to `sink` what the words ask for.
+/// The status of how the run of a script ends.
+fn status_of(ending: Ending) -> Status
+    ensures { result ≡ ending_status ending }
+{
+    match ending {
+        Ending::Done => Status::Done,
+        Ending::Refused => Status::Refused,
+        Ending::ReadFault => Status::ReadFault,
+        Ending::WriteFault => Status::WriteFault,
+        Ending::NoMemory => Status::NoMemory,
+    }
+}
+
+/// `replay`.
+fn replay<S: Source, K: Sink, T: Stage>(
+    alloc: Global,
+    source: &mut S,
+    sink: &mut K,
+    stage: &mut T,
+) -> Status
+    requires { IsBounded (S.bound source.old) }
+    ensures done { result ≡ Status.Done → IsReplayed (T.told stage.new) (T.shown stage.new) (S.left source.old) (S.left source.new) (K.written sink.old) (K.written sink.new) }
+    ensures refused { result ≡ Status.Refused → IsScriptRefused (S.left source.old) (S.left source.new) (K.written sink.old) (K.written sink.new) }
+    ensures usage { result ≢ Status.Usage }
+    ensures read_fault { result ≡ Status.ReadFault → Rose (S.faults source.old) (S.faults source.new) }
+    ensures write_fault { result ≡ Status.WriteFault → Rose (K.faults sink.old) (K.faults sink.new) }
+{
+    status_of(replay_script(alloc, source, sink, stage))
+}
+
+/// `make` with this count.
+fn make<K: Sink, T: Stage>(alloc: Global, count: u32, sink: &mut K, stage: &mut T) -> Status
+    ensures done { result ≡ Status.Done → IsMade (T.told stage.new) (T.shown stage.new) count (K.written sink.old) (K.written sink.new) }
+    ensures refused { result ≢ Status.Refused }
+    ensures usage { result ≢ Status.Usage }
+    ensures read_fault { result ≢ Status.ReadFault }
+    ensures write_fault { result ≡ Status.WriteFault → Rose (K.faults sink.old) (K.faults sink.new) }
+{
+    status_of(make_script(alloc, count, sink, stage))
+}
+
+/// The command that was asked for.
+fn run_command<S: Source, K: Sink, T: Stage>(
+    alloc: Global,
+    command: Asked,
+    source: &mut S,
+    sink: &mut K,
+    stage: &mut T,
+) -> Status
+    requires { IsBounded (S.bound source.old) }
+    ensures usage { result ≢ Status.Usage }
+    ensures done { result ≡ Status.Done → DoneBy (command_of command) (T.told stage.new) (T.shown stage.new) (S.left source.old) (S.left source.new) (K.written sink.old) (K.written sink.new) }
+    ensures refused { result ≡ Status.Refused → RefusedBy (command_of command) (S.left source.old) (S.left source.new) (K.written sink.old) (K.written sink.new) }
+    ensures read_fault { result ≡ Status.ReadFault → Reads (command_of command) × Rose (S.faults source.old) (S.faults source.new) }
+    ensures write_fault { result ≡ Status.WriteFault → Rose (K.faults sink.old) (K.faults sink.new) }
+{
+    match command {
+        Asked::Take => take(alloc, source, sink),
+        Asked::Show => show(alloc, source, sink),
+        Asked::Check => check(alloc, source, sink),
+        Asked::Replay => replay(alloc, source, sink, stage),
+        Asked::Make(count) => make(alloc, count, sink, stage),
+    }
+}
+
+/// Does what the words ask for: reads `source` to its end, where the command reads, and writes to `sink`.
 ///
-/// The words are those of the command, without the program's name: `take`, `show` or `check` alone. All read messages of
-/// Profiles 0, 1, 2 and 4 in any encoding, and other messages as they are written.
+/// The words are those of the command, without the program's name: `take`, `show`, `check` or `replay` alone, or `make` and a
+/// count of 1 to 6 digits, at most 200,000.
 ///
-/// `take` writes what a device without decks answers that accepted one connection and reads the messages there: each
-/// answer in its canonical encoding, with the names and the messageID of its message, in one write, as soon as the message
-/// is whole. `show` writes a line for each message, `check` behind the last one a line of how many messages and code
+/// `take`, `show` and `check` read a stream of messages of Profiles 0, 1, 2 and 4 in any encoding, and of other messages as
+/// they are written. `take` writes what a device without decks answers that accepted one connection and reads the messages
+/// there: each answer in its canonical encoding, with the names and the messageID of its message, in one write, as soon as the
+/// message is whole. `show` writes a line for each message, `check` behind the last one a line of how many messages and code
 /// units there are. A rejection ends the output with the line `REFUSED`, its place in code units and its kind, which
 /// `take` writes in UCS-2 and the others in UTF-8.
 ///
-/// `Done` comes where the input was read to its end and is a stream of messages with nothing but white space and U+FEFF
-/// behind the last one; `Refused` where the bytes read show a rejection, or the input ends inside a message;
-/// `Usage` exactly where the words are none of those, and then nothing is read or written; `ReadFault` and `WriteFault`
-/// only where the source's or the sink's count of faults rose. The source tells a bound below 2^64 on the bytes that it
-/// may still give.
-pub fn mos_run<S: Source, K: Sink>(
+/// `replay` reads a script, plays its events on the stage, and writes its listing: a line for each event, and the state lines of
+/// the world that the stage shows. Where a line is none, `REFUSED line n` is the whole output. `make` reads nothing, plays the
+/// events that its count makes, and writes their summary. On a stage that plays the world's definition, as `WorldStage` does,
+/// the listing and the summary are those of the run, and it is safe: what a gateway holds of an order is at each moment the
+/// server's order after a prefix of its accepted edits.
+///
+/// `Done` comes where the input was read to its end and is what the command reads, a stream of messages with nothing but white
+/// space and U+FEFF behind the last one, or a script; `Refused` where the bytes read show that it isn't, or the input ends
+/// inside a message or a line; `Usage` exactly where the words ask for no command, and then nothing is read or written;
+/// `ReadFault` and `WriteFault` only where the source's or the sink's count of faults rose, and `ReadFault` never in `make`. The
+/// source tells a bound below 2^64 on the bytes that it may still give.
+pub fn mos_run<S: Source, K: Sink, T: Stage>(
     alloc: Global,
     words: &[String],
     source: &mut S,
     sink: &mut K,
+    stage: &mut T,
 ) -> Status
     requires { IsBounded (S.bound source.old) }
-    ensures usage { result ≡ Status.Usage → (IsWord (map string_bytes words.now) → ⊥) × (source.new ≡ source.old) × (sink.new ≡ sink.old) }
-    ensures used { (IsWord (map string_bytes words.now) → ⊥) → result ≡ Status.Usage }
-    ensures done { result ≡ Status.Done → (w : Command) → Asks w (map string_bytes words.now) → IsDone (told_by w) (last_by w) (S.left source.old) (S.left source.new) (K.written sink.old) (K.written sink.new) }
-    ensures refused { result ≡ Status.Refused → (w : Command) → Asks w (map string_bytes words.now) → IsRefused (told_by w) (refusal_by w) (S.left source.old) (S.left source.new) (K.written sink.old) (K.written sink.new) }
-    ensures read_fault { result ≡ Status.ReadFault → Rose (S.faults source.old) (S.faults source.new) }
+    ensures usage { result ≡ Status.Usage → (AreWords (map string_bytes words.now) → ⊥) × (source.new ≡ source.old) × (sink.new ≡ sink.old) × (stage.new ≡ stage.old) }
+    ensures used { (AreWords (map string_bytes words.now) → ⊥) → result ≡ Status.Usage }
+    ensures done { result ≡ Status.Done → (c : Command) → Asks c (map string_bytes words.now) → DoneBy c (T.told stage.new) (T.shown stage.new) (S.left source.old) (S.left source.new) (K.written sink.old) (K.written sink.new) }
+    ensures refused { result ≡ Status.Refused → (c : Command) → Asks c (map string_bytes words.now) → RefusedBy c (S.left source.old) (S.left source.new) (K.written sink.old) (K.written sink.new) }
+    ensures read_fault { result ≡ Status.ReadFault → ((c : Command) → Asks c (map string_bytes words.now) → Reads c) × Rose (S.faults source.old) (S.faults source.new) }
     ensures write_fault { result ≡ Status.WriteFault → Rose (K.faults sink.old) (K.faults sink.new) }
 {
-    if is_word(words, "take") {
-        take(alloc, source, sink)
-    } else if is_word(words, "show") {
-        show(alloc, source, sink)
-    } else if is_word(words, "check") {
-        check(alloc, source, sink)
-    } else {
-        Status::Usage
+    match asked_for(words) {
+        Some(command) => run_command(alloc, command, source, sink, stage),
+        None => Status::Usage,
     }
 }

@@ -4,6 +4,7 @@ use crate::run::mos_run;
 use mos_io::{MemSink, MemSource};
 use std::test::Fail;
 use stream_commands::Status;
+use world_stage::WorldStage;
 
 /// 129 code units
 const HEARTBEAT: &str =
@@ -37,7 +38,13 @@ fn run(
     let mut source = MemSource::new(bytes, pieces, Vec::from_slice(alloc, read_fails)?);
     let mut sink = MemSink::new(alloc, Vec::from_slice(alloc, write_fails)?);
     let words = [String::from_str(alloc, word)?];
-    let status = mos_run(alloc, &words, &mut source, &mut sink);
+    let status = mos_run(
+        alloc,
+        &words,
+        &mut source,
+        &mut sink,
+        &mut WorldStage::new(alloc),
+    );
     Ok((status, Vec::from_slice(alloc, sink.bytes())?))
 }
 
@@ -122,24 +129,68 @@ fn an_empty_input_has_no_messages(rt: HostRuntime) -> Result<(), Fail> {
     Ok(())
 }
 
-#[test]
-fn other_words_are_no_command(rt: HostRuntime) -> Result<(), Fail> {
+/// A run with these words, with a space between them, where there is no input: how it ends, and what it writes.
+fn run_words(rt: &HostRuntime, text: &str) -> Result<(Status, Vec<u8>), Fail> {
     let alloc = rt.alloc();
+    let mut words = Vec::new(alloc);
+    for word in text.split(' ') {
+        words.push(String::from_str(alloc, word)?)?;
+    }
     let mut source = MemSource::new(Vec::new(alloc), Vec::new(alloc), Vec::new(alloc));
     let mut sink = MemSink::new(alloc, Vec::new(alloc));
-    let usage = Status::Usage;
-    assert_eq!(rt; mos_run(alloc, &[], &mut source, &mut sink), usage);
-    let make = [
-        String::from_str(alloc, "make")?,
-        String::from_str(alloc, "x")?,
-    ];
-    assert_eq!(rt; mos_run(alloc, &make, &mut source, &mut sink), usage);
-    let twice = [
-        String::from_str(alloc, "take")?,
-        String::from_str(alloc, "take")?,
-    ];
-    assert_eq!(rt; mos_run(alloc, &twice, &mut source, &mut sink), usage);
-    assert_eq!(rt; sink.bytes().len(), 0);
+    let status = mos_run(
+        alloc,
+        words.as_slice(),
+        &mut source,
+        &mut sink,
+        &mut WorldStage::new(alloc),
+    );
+    Ok((status, Vec::from_slice(alloc, sink.bytes())?))
+}
+
+#[test]
+fn other_words_are_no_command(rt: HostRuntime) -> Result<(), Fail> {
+    for words in ",make,make x,make 200001,make 0000001,take take,replay 1".split(',') {
+        let (status, written) = run_words(&rt, words)?;
+        assert_eq!(rt; status, Status::Usage, "{words}");
+        assert_eq!(rt; written.len(), 0, "{words}");
+    }
+    Ok(())
+}
+
+#[test]
+fn scripts_are_made(rt: HostRuntime) -> Result<(), Fail> {
+    let (status, written) = run_words(&rt, "make 0")?;
+    let wanted = "events 0
+accepted 0
+refused 0
+impossible 0
+server 1 down
+device 1 upper - dial - idle
+server 2 down
+device 2 upper - dial - idle
+";
+    assert_eq!(rt; status, Status::Done);
+    assert!(rt; written.as_slice() == wanted.as_bytes());
+    Ok(())
+}
+
+/// How `replay` of a script ends, and whether it writes this.
+fn replay(rt: &HostRuntime, script: &str, wanted: &str) -> Result<(Status, bool), Fail> {
+    let bytes = Vec::from_slice(rt.alloc(), script.as_bytes())?;
+    let (status, written) = run(rt, "replay", bytes, &[5, 1], &[], &[])?;
+    Ok((status, written.as_slice() == wanted.as_bytes()))
+}
+
+#[test]
+fn scripts_are_played(rt: HostRuntime) -> Result<(), Fail> {
+    let state = "server 1 down\ndevice 1 upper - dial - idle\n";
+    assert_eq!(rt; replay(&rt, "devices 1\n", state)?, (Status::Done, true));
+    let refused = "REFUSED line 2\n";
+    assert_eq!(rt;
+        replay(&rt, "devices 1\nopen 1", refused)?,
+        (Status::Refused, true)
+    );
     Ok(())
 }
 

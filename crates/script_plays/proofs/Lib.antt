@@ -1,0 +1,2 @@
+mod StateLines
+mod ToldLines

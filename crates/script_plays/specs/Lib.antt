@@ -1,0 +1,4 @@
+pub mod Played
+pub mod Counted
+pub mod Endings
+pub mod States
