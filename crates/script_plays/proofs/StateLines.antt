@@ -1,5 +1,5 @@
 -- The state lines of a world in memory.
-use Rattle.std.proofs.Common.{◌≡◌, ℕ, zero, suc, ◌+◌, ◌<◌, List, [], ◌∷◌, ◌++◌, slice_get, Bool, true, false, ◌==◌, if◌then◌else◌, Option, Some, None, Result, Ok, Err, OnOk, refl, sym, ap, ◌∙◌, subst, arith, eq-eqb}
+use Rattle.std.proofs.Common.{◌≡◌, ℕ, zero, suc, ◌+◌, ◌<◌, List, [], ◌++◌, slice_get, Bool, true, false, ◌==◌, if◌then◌else◌, Option, Some, None, Result, Ok, Err, OnOk, refl, sym, ap, ◌∙◌, subst, arith, eq-eqb}
 use Rattle.std.specs.List.{flat_map}
 use Rattle.std.specs.Option.{option_map}
 use Rattle.std.proofs.lemmas.Bool.Decides.{nat_tests}
@@ -15,7 +15,7 @@ use Rattle.world_laws.specs.World.{Pairing, World, no_pairing}
 use Rattle.world_parts.specs.Matching.{HasGateway}
 use Rattle.world_parts.specs.declared.gateway.Gateway.{Gateway}
 use Rattle.world_scripts.specs.Listing.{IsViewed, Lists, device_lines, devices_lines, entered, order_line}
-use Rattle.world_stage.specs.Matching.{Matches, Shows, MatchesPairing}
+use Rattle.world_stage.specs.Matching.{Matches, MatchesPairing}
 use Rattle.world_stage.specs.Worlds.{applied_shown, gate_shown, ncs_shown}
 use Rattle.world_stage.specs.declared.play.Play.{Play}
 use Rattle.state_listing.specs.Told.{AreDeviceLines}

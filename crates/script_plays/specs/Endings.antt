@@ -2,7 +2,7 @@
 use Rattle.std.specs.Prelude.{ℕ}
 use Rattle.mos_io.specs.Counts.{Rose}
 use Rattle.script_plays.specs.declared.commands.Ending.{Ending}
-use Rattle.script_plays.specs.declared.commands.Ending.TheVariants.{Done, Refused, ReadFault, WriteFault, NoMemory}
+use Rattle.script_plays.specs.declared.commands.Ending.TheVariants.{WriteFault, NoMemory}
 
 -- the sink's count of faults rose, or memory ran out
 abbrev pub IsWriteEnding : ℕ → ℕ → Ending → Type 0

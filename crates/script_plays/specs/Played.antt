@@ -9,8 +9,8 @@ use Rattle.world_scripts.specs.Listing.{AreStateLines}
 use Rattle.world_scripts.specs.Made.{made_events}
 use Rattle.world_scripts.specs.Results.{event_lines, listing, summary}
 use Rattle.world_scripts.specs.Scripts.{script_of}
-use Rattle.world_scripts.specs.Scripts.Script.{Plays, RefusedAt}
-use Rattle.world_stage.specs.Stages.{IsPlayed, ShowsStage}
+use Rattle.world_scripts.specs.Scripts.Script.{RefusedAt}
+use Rattle.world_stage.specs.Stages.{ShowsStage}
 use Rattle.world_stage.specs.declared.play.Play.{Play}
 use Rattle.script_reader.specs.Reading.{IsScriptRead, Reads, ReadsAll}
 

@@ -1,4 +1,4 @@
-use Rattle.std.proofs.Common.{◌≡◌, ℕ, [], length, IsSome}
+use Rattle.std.proofs.Common.{ℕ, [], length, IsSome}
 use Rattle.world_scripts.specs.Made.{made_events}
 use Rattle.script_plays.proofs.ToldLines.{AreCounted, AreTold}
 use Rattle.script_plays.proofs.playing.play_made.Given as goal

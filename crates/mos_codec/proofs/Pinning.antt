@@ -1,0 +1,37 @@
+-- The envelope that is made of an encoding's events is the one that was encoded.
+use Rattle.std.proofs.Common.{◌≡◌, ℕ, List, Option, Some, None, Result, Ok, Err, sym, ap, subst, ◌∙◌}
+use Rattle.mos_fields.specs.Characters.{units_in}
+use Rattle.mos_lexer.specs.Encodings.{Encodes}
+use Rattle.mos_lexer.specs.Units.{Found as FoundOf}
+use Rattle.mos_message_reading.specs.Values.{IsNamed}
+use Rattle.mos_reader.specs.declared.found.Found.{Found}
+use Rattle.mos_reader.specs.declared.found.ReadFault.{ReadFault}
+use Rattle.mos_reader.specs.declared.found.ReadFault.TheVariants.{Rejected, NoMemory}
+use Rattle.mos_values.specs.MessageViews.{envelope_events}
+use Rattle.mos_values.specs.Sound.{IsSound}
+use Rattle.mos_values.specs.declared.message.Envelope.{Envelope}
+use Rattle.value_laws.specs.Laws.{EventsPinEnvelopes}
+use Rattle.value_laws.specs.Ranges.{IsInRange}
+use Rattle.mos_codec.specs.declared.decoder.Placed.{Placed}
+use Rattle.mos_codec.specs.Codec.{encoding_units, encoding, EncodesEnvelope, IsEncodedBy}
+use Rattle.mos_codec.specs.Decoding.{ComesFirst, DecoderState, OnPlaced, Says}
+use Rattle.mos_codec.proofs.ByteLemmas.{units_back}
+use Rattle.mos_codec.proofs.First.{AnswersFirst}
+use Rattle.mos_codec.proofs.Sound.{sound_named}
+
+pub first_placed : EventsPinEnvelopes → (a : Result (Option Found) ReadFault) (r : Result (Option Placed) ReadFault) (t : DecoderState) → Says a r → OnPlaced r (λ p. IsNamed p.envelope.message) → OnPlaced r (λ p. IsInRange p.envelope.message)
+    → (e : Envelope) (us rest : List ℕ) → EncodesEnvelope us e → AnswersFirst a t.bytes.stream (envelope_events e) rest → ComesFirst e rest r t
+first_placed law (Ok (Some f)) (Ok (Some p)) t s named in_range e us rest h a = (law p.envelope e named h.named in_range h.in_range (ap (λ (z : FoundOf). z.value) s ∙ a.0), a.1)
+first_placed law (Ok (Some f)) (Ok None) t s named in_range e us rest h a = elim s [ ]
+first_placed law (Ok (Some f)) (Err (Rejected place k)) t s named in_range e us rest h a = elim s [ ]
+first_placed law (Ok None) r t s named in_range e us rest h a = elim a [ ]
+first_placed law (Err (Rejected place k)) r t s named in_range e us rest h a = elim a [ ]
+first_placed law (Ok (Some f)) (Err NoMemory) t s named in_range e us rest h a = tt
+first_placed law (Err NoMemory) r t s named in_range e us rest h a = subst (λ (z : Result (Option Placed) ReadFault). ComesFirst e rest z t) (sym s) tt
+
+pub encoded_by : (bytes : List ℕ) (e : Envelope) → bytes ≡ encoding e → IsSound e.message → IsInRange e.message → Encodes (envelope_events e) (encoding_units e) → IsEncodedBy bytes e
+encoded_by bytes e canonical sound small encodes = record {
+  named = sound_named e.message sound;
+  in_range = small;
+  encodes = subst (λ (z : List ℕ). Encodes (envelope_events e) (units_in z)) (sym canonical) (subst (Encodes (envelope_events e)) (sym (units_back (encoding_units e))) encodes);
+}
