@@ -2,7 +2,6 @@
 use Rattle.std.proofs.Common.{◌≡◌, ℕ, Bool, true, false, List, [], ◌∷◌, ◌++◌, Option, Some, None, IsSome, Result, Ok, Err, OnOk, OnErr, IfOk, IfErr, refl, sym, ap, ◌∙◌, subst, if◌then◌else◌}
 use Rattle.std.proofs.lemmas.List.{append_assoc}
 use Rattle.mos_edits.specs.Texts.{Text, same_id, set_order}
-use Rattle.mos_edits.specs.KeyedLists.{Applied}
 use Rattle.mos_edits.specs.KeyedLists.Applied.{Done}
 use Rattle.mos_edits.specs.Orders.{Order, HeaderPatch, Edit, apply}
 use Rattle.mos_edits.specs.Entries.{Entry, entry_of, IsEntry, result_or, order_now, refusal, over_limit, over_list, over, acceptance, IsAccepted}
@@ -106,6 +105,13 @@ module _ (rows : List (Text × Option Order)) (e : Entry) (r : Text) (o : Option
 
   pub done-acceptance : r ≡ e.ro → applied_to rows e ≡ Done o → refusal (Done o) (rows_over (put_row r o rows) r) ≡ rows_acceptance rows e
   done-acceptance n h = λ i. refusal (sym h i) (rows_over (done-rows n h i) (n i))
+
+-- an order that is edited outside its row, which is empty meanwhile
+pub edited-rows : (rows known after back : List (Text × Option Order)) (r : Text) (o : Option Order) → ((x : Option Order) → put_row r x known ≡ put_row r x rows) → after ≡ put_row r None known → back ≡ put_row r o after → back ≡ put_row r o rows
+edited-rows rows known after back r o k a b = b ∙ (ap (put_row r o) a ∙ (put-put r None o known ∙ k o))
+
+pub held-order : (rows known : List (Text × Option Order)) (r q : Text) (o : Option Order) → look None known ≡ look None rows → find_row r known ≡ Some o → r ≡ q → o ≡ look None rows q
+held-order rows known r q o same h n = sym (found-order known r o h) ∙ (ap (λ (l : Text → Option Order). l r) same ∙ ap (look None rows) n)
 
 -- The table after an entry was added, or an edit was undone, where `a` is the entry `e`.
 pub entry-is : (e : Entry) (d : Edit) → IsEntry e → d ≡ e.edit → entry_of d ≡ e

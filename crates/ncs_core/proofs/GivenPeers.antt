@@ -1,10 +1,9 @@
 -- Devices that are made room at, or given an accepted edit, one after the other.
-use Rattle.std.proofs.Common.{◌≡◌, ℕ, zero, suc, ◌+◌, ◌<◌, ◌≤◌, Bool, true, false, List, [], ◌∷◌, ◌++◌, length, get_or, set, inl, inr, refl, sym, ap, ◌∙◌, subst, if◌then◌else◌, ◌&&◌, arith}
+use Rattle.std.proofs.Common.{◌≡◌, ℕ, zero, suc, ◌+◌, ◌<◌, ◌≤◌, Bool, true, false, List, [], ◌∷◌, ◌++◌, length, get_or, set, inl, inr, refl, sym, ap, ◌∙◌, subst, if◌then◌else◌, arith}
 use Rattle.std.proofs.lemmas.Bool.{cases_lt, cases_eq}
 use Rattle.std.proofs.lemmas.List.{get_or-set_same, get_or-set_other}
 use Rattle.mos_edits.specs.Texts.{Text, same_id}
-use Rattle.mos_edits.specs.Entries.{Entry}
-use Rattle.mos_machines.specs.Server.{PeerState, View, no_peer}
+use Rattle.mos_machines.specs.Server.{PeerState, no_peer}
 use Rattle.mos_machines.specs.Server.View.{Out}
 use Rattle.mos_machines.specs.Steps.{started}
 use Rattle.mos_machines.specs.Tables.{PeerTables, ServerTables, no_peer_tables, peer_of, server_state}

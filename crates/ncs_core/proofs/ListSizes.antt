@@ -1,5 +1,5 @@
 -- Stories whose items have numbers of samples that fit, one story after the other.
-use Rattle.std.proofs.Common.{◌≡◌, ℕ, zero, suc, ◌+◌, List, [], ◌∷◌, drop, slice_get, Option, Some, None, subst, arith}
+use Rattle.std.proofs.Common.{◌≡◌, ℕ, zero, suc, ◌+◌, List, [], ◌∷◌, drop, slice_get, Some, subst, arith}
 use Rattle.mos_edits.specs.Orders.{Story}
 use Rattle.size_laws.specs.Small.{AreSmallItems, AreSmallStories}
 

@@ -1,5 +1,5 @@
 -- The rows of the orders that a listing tells.
-use Rattle.std.proofs.Common.{◌≡◌, ℕ, zero, suc, ◌+◌, ◌≤◌, List, [], ◌∷◌, length, drop, slice_get, Bool, true, false, ◌||◌, ◌&&◌, Option, Some, None, Result, Ok, Err, OnOk, IfOk, if◌then◌else◌, refl, sym, ap, ◌∙◌, subst, arith}
+use Rattle.std.proofs.Common.{◌≡◌, ℕ, zero, suc, ◌+◌, ◌≤◌, List, [], ◌∷◌, length, drop, slice_get, Bool, true, false, ◌||◌, ◌&&◌, Some, Result, Ok, Err, OnOk, IfOk, if◌then◌else◌, refl, sym, ap, ◌∙◌, subst, arith}
 use Rattle.mos_edits.specs.Texts.{Text, same_id, has_id}
 use Rattle.mos_edits.specs.Entries.{Entry, is_before, insert_id}
 use Rattle.mos_edits.proofs.Identifiers.{same-true}

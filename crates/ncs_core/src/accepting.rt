@@ -143,6 +143,26 @@ pub fn accept_edit(
     }
 }
 
+/// Does an edit on its order in place, where the edit is accepted. After an error the orders may be any: nothing is copied to
+/// be put back.
+pub fn edit_order(alloc: Global, orders: &mut Orders, edit: &Edit) -> Result<(), CommandFault>
+    ensures rows { OnOk result (orders.new ≡ rows_after orders.old (entry_of edit.now)) }
+    ensures accepted { OnOk result (rows_acceptance orders.old (entry_of edit.now) ≡ None) }
+    ensures fault { IfErr result (λ f. IsRefusal (rows_acceptance orders.old (entry_of edit.now)) f) }
+{
+    let ro = edit_ro(edit);
+    know(orders, ro)?;
+    let mut order = None;
+    orders.exchange(ro, &mut order);
+    let applied = apply(alloc, &mut order, edit);
+    orders.exchange(ro, &mut order);
+    let_go(order);
+    match applied {
+        Ok(()) => within(alloc, orders, ro),
+        Err(fault) => Err(told(fault)),
+    }
+}
+
 // Puts an order in its row, where the orders then pass no limit, and gives what was there.
 fn put_within(
     alloc: Global,

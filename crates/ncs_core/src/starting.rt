@@ -1,20 +1,22 @@
 //! The start of the server.
 ghost use Rattle.std.specs.Prelude.{◌≡◌, ◌≤◌, [], ◌∷◌, ◌++◌, length, false, None, OnOk, OnErr, IfOk, IfErr};
-ghost use Rattle.mos_edits.specs.Entries.{acceptance, IsAccepted};
+ghost use Rattle.mos_edits.specs.Entries.{acceptance, entry_of, IsAccepted};
 ghost use Rattle.mos_machines.specs.Steps.{started};
 ghost use Rattle.rundown_log.specs.Keeping.{AreKept};
-ghost use Rattle.ncs_core.specs.Accepting.{IsRefusal};
+ghost use Rattle.ncs_core.specs.Accepting.{rows_after, rows_acceptance, IsRefusal};
 ghost use Rattle.ncs_core.specs.Starting.{IsStartCause, IsEntryCause, entry_cause_of, load_cause_of};
 ghost use Rattle.ncs_core.specs.State.{ncs_of, devices_of, with_journal, AreNew};
 
-use crate::accepting::{accept_edit, let_go, undo};
+use crate::accepting::{edit_order, let_go};
 use crate::fault::{CommandFault, StartCause, StartFault};
 use crate::ncs::Ncs;
+use crate::orders::Orders;
 use mos_fields::NoMemory;
 use order_table::OrderTable;
 use rundown_log::{Entry, Journal, KeepFault, Keeper};
 use server_peer::Peer;
 use std::alloc::Global;
+use std::mem::replace;
 
 // Devices without connections.
 fn new_peers(alloc: Global, devices: u32) -> Result<Vec<Peer>, NoMemory>
@@ -48,6 +50,28 @@ fn load_cause(fault: KeepFault) -> StartCause
     }
 }
 
+// Adds an entry to the orders and to the journal, where it is accepted. After an error both may be any.
+fn add_to(orders: &mut Orders, journal: &mut Journal, entry: &Entry) -> Result<(), CommandFault>
+    ensures rows { OnOk result (orders.new ≡ rows_after orders.old (entry_of entry.now.edit)) }
+    ensures journal { OnOk result (journal.new ≡ journal.old ++ entry.now ∷ []) }
+    ensures accepted { OnOk result (rows_acceptance orders.old (entry_of entry.now.edit) ≡ None) }
+    ensures fault { IfErr result (λ f. IsRefusal (rows_acceptance orders.old (entry_of entry.now.edit)) f) }
+{
+    edit_order(journal.allocator(), orders, entry.edit())?;
+    journal.add(entry)?;
+    Ok(())
+}
+
+// Lets all orders and entries go.
+fn forget(orders: &mut Orders, journal: &mut Journal)
+    ensures orders { orders.new ≡ [] }
+    ensures journal { journal.new ≡ [] }
+{
+    let alloc = journal.allocator();
+    let_go(replace(orders, OrderTable::new(alloc)));
+    let_go(replace(journal, Journal::new(alloc)));
+}
+
 impl<K: Keeper> Ncs<K> {
     // A server of no entries.
     fn empty(alloc: Global, keeper: K, peers: Vec<Peer>) -> Self
@@ -63,27 +87,20 @@ impl<K: Keeper> Ncs<K> {
         }
     }
 
-    // Adds an entry that was kept, where it is accepted.
+    // Adds an entry that was kept, where it is accepted. Where it isn't, all entries are let go.
     fn add(&mut self, entry: &Entry) -> Result<(), CommandFault>
         ensures ok { OnOk result (self.new ≡ with_journal self.old (self.old.server.journal ++ entry.now ∷ [])) }
         ensures accepted { OnOk result (acceptance self.old.server.journal entry.now ≡ None) }
         ensures fault { IfErr result (λ f. IsRefusal (acceptance self.old.server.journal entry.now) f) }
-        ensures err { OnErr result (self.new ≡ self.old) }
+        ensures err { OnErr result (self.new ≡ with_journal self.old []) }
     {
         entry.has_ro_of_edit();
         self.orders.has_ascending_ids();
-        let order = match accept_edit(self.journal.allocator(), &mut self.orders, entry.edit()) {
-            Ok(order) => order,
-            Err(fault) => return Err(fault),
-        };
-        match self.journal.add(entry) {
-            Ok(()) => {
-                let_go(order);
-                Ok(())
-            }
-            Err(NoMemory) => {
-                undo(&mut self.orders, entry.ro(), order);
-                Err(CommandFault::NoMemory)
+        match add_to(&mut self.orders, &mut self.journal, entry) {
+            Ok(()) => Ok(()),
+            Err(fault) => {
+                forget(&mut self.orders, &mut self.journal);
+                Err(fault)
             }
         }
     }

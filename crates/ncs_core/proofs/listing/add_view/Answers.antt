@@ -1,5 +1,4 @@
 use Rattle.std.proofs.Common.{sym, ap, ◌∙◌}
-use Rattle.mos_edits.specs.Texts.{Text}
 use Rattle.mos_machines.specs.Tables.{row_ids, peer_of}
 use Rattle.ncs_core.specs.Listed.{is_seen}
 use Rattle.ncs_core.proofs.ListedIds.{seen-none, seen-other, seen-told}

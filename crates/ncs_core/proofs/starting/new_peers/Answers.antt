@@ -1,4 +1,4 @@
-use Rattle.std.proofs.Common.{◌≡◌, ◌≤◌, ◌++◌, ◌∷◌, [], length, sym, ap, subst, arith}
+use Rattle.std.proofs.Common.{◌≡◌, ◌++◌, ◌∷◌, [], length, sym, ap, subst, arith}
 use Rattle.std.proofs.lemmas.List.{length_push}
 use Rattle.ncs_core.specs.State.{AreNew}
 use Rattle.ncs_core.proofs.GivenPeers.{new-more}

@@ -1,4 +1,4 @@
-use Rattle.std.proofs.Common.{◌+◌, ◌<◌, length, arith}
+use Rattle.std.proofs.Common.{◌<◌, length, arith}
 use Rattle.ncs_core.proofs.AddedEntries.{one-added, one-accepted}
 use Rattle.ncs_core.proofs.ncs.Ncs.add_all.Goals as goal
 

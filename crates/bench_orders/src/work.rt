@@ -1,0 +1,77 @@
+//! What is timed. Each function answers None where memory runs out.
+
+use crate::stories::{id_of, ids_of, let_go, stories_of};
+use element_action::act;
+use mos_fields::OptId;
+use mos_values::Action;
+use running_order::Order;
+use std::alloc::Global;
+
+/// Looks for a story this many times. The sum of its places.
+pub fn find(alloc: Global, order: &Order, number: u32, calls: u64) -> Option<u64> {
+    let id = id_of(alloc, number)?;
+    let mut sum: u64 = 0;
+    for _ in 0..calls {
+        let place = order.story_place(&id)?;
+        sum = sum.wrapping_add(place as u64);
+    }
+    Some(sum)
+}
+
+// Does two actions in turn.
+fn in_turn(
+    alloc: Global,
+    order: &mut Order,
+    one: &Action,
+    two: &Action,
+    calls: u64,
+) -> Option<u64> {
+    for call in 0..calls {
+        let action = if call % 2 == 0 { one } else { two };
+        act(alloc, order, action).ok()?;
+    }
+    Some(0)
+}
+
+/// Moves the last story to the front, and back to the end, and so on.
+pub fn shift(alloc: Global, order: &mut Order, last: u32, calls: u64) -> Option<u64> {
+    let front = id_of(alloc, 0)?;
+    let end = OptId::try_new(alloc, &[]).ok()?;
+    let there = ids_of(alloc, last)?;
+    let back = ids_of(alloc, last)?;
+    let to_front = Action::MoveStories {
+        target: front,
+        sources: there,
+    };
+    let to_end = Action::MoveStories {
+        target: end,
+        sources: back,
+    };
+    let done = in_turn(alloc, order, &to_front, &to_end, calls);
+    let_go(to_front);
+    let_go(to_end);
+    done
+}
+
+/// Exchanges the first and the last story.
+pub fn exchange(alloc: Global, order: &mut Order, last: u32, calls: u64) -> Option<u64> {
+    let first = id_of(alloc, 0)?;
+    let second = id_of(alloc, last)?;
+    let swap = Action::SwapStories { first, second };
+    let done = in_turn(alloc, order, &swap, &swap, calls);
+    let_go(swap);
+    done
+}
+
+/// Puts a new story in before the one in the middle, and removes it, and so on.
+pub fn cycle(alloc: Global, order: &mut Order, count: u32, calls: u64) -> Option<u64> {
+    let target = id_of(alloc, count / 2)?;
+    let sources = stories_of(alloc, count, count.saturating_add(1))?;
+    let ids = ids_of(alloc, count)?;
+    let insert = Action::InsertStories { target, sources };
+    let delete = Action::DeleteStories { sources: ids };
+    let done = in_turn(alloc, order, &insert, &delete, calls);
+    let_go(insert);
+    let_go(delete);
+    done
+}
