@@ -7,3 +7,4 @@ pub mod GivenPeers
 pub mod ListSizes
 pub mod AddedEntries
 pub mod ListedIds
+pub mod KeptUnits

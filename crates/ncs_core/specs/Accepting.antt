@@ -4,15 +4,15 @@ use Rattle.mos_edits.specs.Texts.{Text}
 use Rattle.mos_edits.specs.KeyedLists.{Applied, ActFault}
 use Rattle.mos_edits.specs.Orders.{Order, apply}
 use Rattle.mos_edits.specs.Entries.{Entry, Refusal, refusal, result_or, over_list, over}
-use Rattle.mos_edits.specs.Sizes.{list_all_limit, list_all_units}
+use Rattle.mos_edits.specs.Sizes.{list_all_limit}
 use Rattle.mos_machines.specs.Tables.{look, put_row}
-use Rattle.ncs_core.specs.State.{row_headers}
+use Rattle.ncs_core.specs.State.{all_units}
 use Rattle.ncs_core.specs.declared.fault.CommandFault.{CommandFault}
 use Rattle.ncs_core.specs.declared.fault.CommandFault.TheVariants.{Stopped, Missing, AlreadyThere, Full, StoreFault, NoMemory}
 
 -- the code units with which all orders pass their limit, and those of one order or else of all
 abbrev pub all_over : List (Text × Option Order) → Option ℕ
-all_over rows = over list_all_limit (list_all_units (row_headers rows)) None
+all_over rows = over list_all_limit (all_units rows) None
 
 abbrev pub rows_over : List (Text × Option Order) → Text → Option ℕ
 rows_over rows r = over_list (look None rows r) (all_over rows)

@@ -3,6 +3,7 @@ use Rattle.std.specs.Prelude.{◌≡◌, ℕ, ◌<◌, Bool, List, [], ◌∷◌
 use Rattle.mos_edits.specs.Texts.{Text, set_order}
 use Rattle.mos_edits.specs.Orders.{Order, HeaderPatch}
 use Rattle.mos_edits.specs.Entries.{Entry, order_now}
+use Rattle.mos_edits.specs.Sizes.{list_all_units}
 use Rattle.mos_machines.specs.Server.{PeerState, no_peer, is_open, view_given}
 use Rattle.mos_machines.specs.Steps.{ServerState, StepAnswer}
 use Rattle.mos_machines.specs.Steps.StepAnswer.{Sent as Sends, Nothing as NothingDue}
@@ -45,6 +46,10 @@ one_header (Some o) = patch_of o.header ∷ []
 abbrev pub row_headers : List (Text × Option Order) → List HeaderPatch
 row_headers [] = []
 row_headers (x ∷ xs) = one_header x.1 ++ row_headers xs
+
+-- the code units of the list of all of them
+abbrev pub all_units : List (Text × Option Order) → ℕ
+all_units rows = list_all_units (row_headers rows)
 
 -- what is sent, as the call answers it
 abbrev pub sent_by : StepAnswer → Sent

@@ -8,17 +8,21 @@ ghost use Rattle.mos_edits.specs.KeyedLists.Applied.{Done};
 ghost use Rattle.mos_edits.specs.Orders.{Order as Made, edit_ro as edit_ro_of};
 ghost use Rattle.mos_machines.specs.Tables.{look, put_row};
 ghost use Rattle.order_table.specs.Rows.{find_row};
+ghost use Rattle.mos_edits.specs.Sizes.{at_most_64_bits};
+ghost use Rattle.ncs_core.specs.State.{all_units};
 ghost use Rattle.ncs_core.specs.Accepting.{applied_to, rows_over, rows_after, rows_acceptance, IsRefusal};
 
 use crate::fault::CommandFault;
-use crate::limits::overrun;
-use crate::orders::{Orders, order_in};
+use crate::limits::{exchanged_units, overrun, units_alone};
+use crate::orders::{NO_ORDERS, Orders, Table, order_in};
 use element_action::{ActFault, apply};
 use mos_fields::{Id, NoMemory};
 use mos_values::{Edit, OrderBody};
+use order_table::OrderTable;
 use rundown_log::edit_ro;
 use running_order::Order;
 use std::alloc::Global;
+use std::mem::replace;
 
 // Lets a value go. What is let go here is dropped by a function of its type, and not variant by variant on each path.
 pub fn let_go<T: Drop>(_value: T) {}
@@ -61,7 +65,7 @@ fn told(fault: ActFault) -> CommandFault
 }
 
 // What an edit makes of its order.
-fn edited(alloc: Global, orders: &Orders, edit: &Edit) -> Result<Option<Order>, CommandFault>
+fn edited(alloc: Global, orders: &Table, edit: &Edit) -> Result<Option<Order>, CommandFault>
     ensures made { IfOk result (λ o. applied_to orders.now (entry_of edit.now) ≡ Done o) }
     ensures fault { IfErr result (λ f. (units : Option ℕ) → IsRefusal (refusal (applied_to orders.now (entry_of edit.now)) units) f) }
 {
@@ -76,46 +80,58 @@ fn edited(alloc: Global, orders: &Orders, edit: &Edit) -> Result<Option<Order>, 
 }
 
 // Gives an order a row, where it has none. Only that takes memory.
-fn know(orders: &mut Orders, ro: &Id) -> Result<(), NoMemory>
+fn know(orders: &mut Table, ro: &Id) -> Result<(), NoMemory>
     ensures there { OnOk result (IsSome (find_row ro.now orders.new)) }
     ensures rows { OnOk result ((order : Option Made) → put_row ro.now order orders.new ≡ put_row ro.now order orders.old) }
     ensures same { look None orders.new ≡ look None orders.old }
+    ensures units { all_units orders.new ≡ all_units orders.old }
 {
+    orders.has_ascending_ids();
     match orders.find(ro) {
         Some(_) => Ok(()),
         None => orders.put(ro, None),
     }
 }
 
-// Whether no limit is passed.
-fn within(alloc: Global, orders: &Orders, ro: &Id) -> Result<(), CommandFault>
+// Whether no limit is passed, where the list of all orders has so many code units.
+fn within(orders: &Table, ro: &Id, units: u64) -> Result<(), CommandFault>
+    requires { units ≡ at_most_64_bits (all_units orders.now) }
     ensures within { OnOk result (rows_over orders.now ro.now ≡ None) }
+    ensures units { OnOk result (units ≡ all_units orders.now) }
     ensures full { IfErr result (λ f. (order : Option Made) → IsRefusal (refusal (Done order) (rows_over orders.now ro.now)) f) }
 {
-    match overrun(alloc, orders, ro)? {
+    match overrun(orders, ro, units) {
         Some(units) => Err(CommandFault::Full { units }),
         None => Ok(()),
     }
 }
 
-// Exchanges an order for another, where the orders then pass no limit; where they would, or without memory, all orders
-// stay as they were.
+// Exchanges an order for another, where the orders then pass no limit, and gives how many code units the list of all has
+// then; where they would, or without memory, all orders stay as they were.
 fn exchange_within(
     alloc: Global,
-    orders: &mut Orders,
+    orders: &mut Table,
+    units: u64,
     ro: &Id,
     order: &mut Option<Order>,
-) -> Result<(), CommandFault>
-    requires { IsSome (find_row ro.now orders.old) }
+) -> Result<u64, CommandFault>
+    requires there { IsSome (find_row ro.now orders.old) }
+    requires units { units ≡ all_units orders.old }
     ensures order { OnOk result (order.new ≡ look None orders.old ro.now) }
     ensures rows { OnOk result (orders.new ≡ put_row ro.now order.old orders.old) }
     ensures within { OnOk result (rows_over (put_row ro.now order.old orders.old) ro.now ≡ None) }
+    ensures units { IfOk result (λ units. units ≡ all_units orders.new) }
     ensures fault { IfErr result (λ f. IsRefusal (refusal (Done order.old) (rows_over (put_row ro.now order.old orders.old) ro.now)) f) }
     ensures err { OnErr result (look None orders.new ≡ look None orders.old) }
+    ensures kept { OnErr result (all_units orders.new ≡ all_units orders.old) }
 {
+    orders.has_ascending_ids();
+    let former = units_alone(alloc, order_in(orders, ro))?;
+    let new = units_alone(alloc, order.as_ref())?;
+    let units = exchanged_units(units, former, new);
     orders.exchange(ro, order);
-    match within(alloc, orders, ro) {
-        Ok(()) => Ok(()),
+    match within(orders, ro, units) {
+        Ok(()) => Ok(units),
         Err(fault) => {
             orders.exchange(ro, order);
             Err(fault)
@@ -137,29 +153,9 @@ pub fn accept_edit(
     ensures fault { IfErr result (λ f. IsRefusal (rows_acceptance orders.old (entry_of edit.now)) f) }
     ensures err { OnErr result (look None orders.new ≡ look None orders.old) }
 {
-    match edited(alloc, orders, edit) {
+    match edited(alloc, &orders.table, edit) {
         Ok(order) => put_within(alloc, orders, edit_ro(edit), order),
         Err(fault) => Err(fault),
-    }
-}
-
-/// Does an edit on its order in place, where the edit is accepted. After an error the orders may be any: nothing is copied to
-/// be put back.
-pub fn edit_order(alloc: Global, orders: &mut Orders, edit: &Edit) -> Result<(), CommandFault>
-    ensures rows { OnOk result (orders.new ≡ rows_after orders.old (entry_of edit.now)) }
-    ensures accepted { OnOk result (rows_acceptance orders.old (entry_of edit.now) ≡ None) }
-    ensures fault { IfErr result (λ f. IsRefusal (rows_acceptance orders.old (entry_of edit.now)) f) }
-{
-    let ro = edit_ro(edit);
-    know(orders, ro)?;
-    let mut order = None;
-    orders.exchange(ro, &mut order);
-    let applied = apply(alloc, &mut order, edit);
-    orders.exchange(ro, &mut order);
-    let_go(order);
-    match applied {
-        Ok(()) => within(alloc, orders, ro),
-        Err(fault) => Err(told(fault)),
     }
 }
 
@@ -176,17 +172,71 @@ fn put_within(
     ensures fault { IfErr result (λ f. IsRefusal (refusal (Done order) (rows_over (put_row ro.now order orders.old) ro.now)) f) }
     ensures err { OnErr result (look None orders.new ≡ look None orders.old) }
 {
-    know(orders, ro)?;
+    know(&mut orders.table, ro)?;
     let mut held = order;
-    exchange_within(alloc, orders, ro, &mut held)?;
+    let units = exchange_within(alloc, &mut orders.table, orders.units, ro, &mut held)?;
+    orders.units = units;
     Ok(held)
 }
 
-/// Puts back what was there before an edit. It takes no memory.
-pub fn undo(orders: &mut Orders, ro: &Id, order: Option<Order>)
-    requires { IsSome (find_row ro.now orders.old) }
+// What an edit makes of its order, in place, where it is accepted; and how many code units the list of all orders has then.
+// After an error the orders may be any.
+fn edit_row(alloc: Global, orders: &mut Table, units: u64, edit: &Edit) -> Result<u64, CommandFault>
+    requires { units ≡ all_units orders.old }
+    ensures rows { OnOk result (orders.new ≡ rows_after orders.old (entry_of edit.now)) }
+    ensures units { IfOk result (λ units. units ≡ all_units orders.new) }
+    ensures accepted { OnOk result (rows_acceptance orders.old (entry_of edit.now) ≡ None) }
+    ensures fault { IfErr result (λ f. IsRefusal (rows_acceptance orders.old (entry_of edit.now)) f) }
+{
+    let ro = edit_ro(edit);
+    know(orders, ro)?;
+    orders.has_ascending_ids();
+    let mut order = None;
+    orders.exchange(ro, &mut order);
+    let former = units_alone(alloc, order.as_ref());
+    let applied = apply(alloc, &mut order, edit);
+    let new = units_alone(alloc, order.as_ref());
+    orders.exchange(ro, &mut order);
+    let_go(order);
+    match applied {
+        Ok(()) => {
+            let units = exchanged_units(units, former?, new?);
+            match within(orders, ro, units) {
+                Ok(()) => Ok(units),
+                Err(fault) => Err(fault),
+            }
+        }
+        Err(fault) => Err(told(fault)),
+    }
+}
+
+/// Does an edit on its order in place, where the edit is accepted. After an error no orders are left: nothing is copied to be
+/// put back.
+pub fn edit_order(alloc: Global, orders: &mut Orders, edit: &Edit) -> Result<(), CommandFault>
+    ensures rows { OnOk result (orders.new ≡ rows_after orders.old (entry_of edit.now)) }
+    ensures accepted { OnOk result (rows_acceptance orders.old (entry_of edit.now) ≡ None) }
+    ensures fault { IfErr result (λ f. IsRefusal (rows_acceptance orders.old (entry_of edit.now)) f) }
+{
+    match edit_row(alloc, &mut orders.table, orders.units, edit) {
+        Ok(units) => {
+            orders.units = units;
+            Ok(())
+        }
+        Err(fault) => {
+            let_go(replace(&mut orders.table, OrderTable::new(alloc)));
+            orders.units = NO_ORDERS;
+            Err(fault)
+        }
+    }
+}
+
+/// Puts back what was there before an edit, when the list of all orders had so many code units. It takes no memory.
+pub fn undo(orders: &mut Orders, ro: &Id, order: Option<Order>, units: u64)
+    requires there { IsSome (find_row ro.now orders.old) }
+    requires units { units ≡ all_units (put_row ro.now order orders.old) }
     ensures { orders.new ≡ put_row ro.now order orders.old }
 {
     let mut held = order;
-    orders.exchange(ro, &mut held);
+    orders.table.exchange(ro, &mut held);
+    orders.units = units;
 }

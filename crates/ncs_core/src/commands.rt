@@ -73,6 +73,7 @@ impl<K: Keeper> Ncs<K> {
         ensures devices { devices_of self.new ≡ devices_of self.old }
     {
         self.orders.has_ascending_ids();
+        let units = self.orders.units();
         let order = match accept_edit(self.journal.allocator(), &mut self.orders, edit) {
             Ok(order) => order,
             Err(fault) => return Err(fault),
@@ -83,7 +84,7 @@ impl<K: Keeper> Ncs<K> {
                 Ok(())
             }
             Err(fault) => {
-                undo(&mut self.orders, edit_ro(edit), order);
+                undo(&mut self.orders, edit_ro(edit), order, units);
                 self.stopped = is_failed(fault);
                 Err(command_fault(fault))
             }

@@ -1,13 +1,13 @@
 //! The limits of lists.
-ghost use Rattle.std.specs.Prelude.{◌≡◌, ◌<◌, ℕ, length, slice_get, Some, None, IfOk};
+ghost use Rattle.std.specs.Prelude.{◌≡◌, ◌+◌, ◌-◌, ◌<◌, ◌≤◌, ℕ, length, slice_get, Some, None, IfOk};
 ghost use Rattle.std.specs.Option.{option_copied};
 ghost use Rattle.mos_edits.specs.Entries.{over as over_of, over_list};
 ghost use Rattle.mos_edits.specs.Sizes.{list_units, list_all_units as list_all_units_of, at_most_64_bits};
 ghost use Rattle.size_laws.specs.Small.{IsSmall, IsSmallItem, AreSmallItems, IsSmallOrder};
-ghost use Rattle.ncs_core.specs.Accepting.{all_over, rows_over};
-ghost use Rattle.ncs_core.specs.State.{row_headers};
+ghost use Rattle.ncs_core.specs.Accepting.{rows_over};
+ghost use Rattle.ncs_core.specs.State.{all_units, one_header};
 
-use crate::orders::{Orders, headers_in, order_in};
+use crate::orders::{Table, header_of, order_in};
 use mos_fields::{Id, NoMemory, Samples};
 use mos_values::{Item, Story, list_all_units};
 use running_order::Order;
@@ -82,13 +82,21 @@ fn order_units(order: &Order) -> u64
     order.size_units()
 }
 
-// The code units of the list of all orders.
-fn all_units(alloc: Global, orders: &Orders) -> Result<u64, NoMemory>
-    ensures { IfOk result (λ units. units ≡ at_most_64_bits (list_all_units_of (row_headers orders.now))) }
+/// The code units of the list of all orders where there is at most this one.
+pub fn units_alone(alloc: Global, order: Option<&Order>) -> Result<u64, NoMemory>
+    ensures { IfOk result (λ units. units ≡ at_most_64_bits (list_all_units_of (one_header (option_copied order.entry)))) }
 {
     limits_count_canonical_encodings();
-    let headers = headers_in(alloc, orders.rows())?;
+    let headers = header_of(alloc, order)?;
     Ok(list_all_units(&headers))
+}
+
+/// The code units of the list of all orders once one is exchanged for another, from those of the list of each of both alone.
+pub fn exchanged_units(units: u64, former: u64, new: u64) -> u64
+    requires { former ≤ units }
+    ensures { result ≡ at_most_64_bits (units - former + new) }
+{
+    (units - former).saturating_add(new)
 }
 
 // The code units, where they pass a limit.
@@ -109,20 +117,13 @@ fn order_overrun(order: Option<&Order>) -> Option<u64>
     }
 }
 
-// The code units with which the list of all orders passes its limit.
-fn all_overrun(alloc: Global, orders: &Orders) -> Result<Option<u64>, NoMemory>
-    ensures { IfOk result (λ units. units ≡ all_over orders.now) }
+/// The code units with which the list of an order passes its limit, or else that of all orders, which has so many.
+pub fn overrun(table: &Table, ro: &Id, units: u64) -> Option<u64>
+    requires { units ≡ at_most_64_bits (all_units table.now) }
+    ensures { result ≡ rows_over table.now ro.now }
 {
-    let units = all_units(alloc, orders)?;
-    Ok(past(LIST_ALL_LIMIT, units))
-}
-
-/// The code units with which the list of an order passes its limit, or else that of all orders.
-pub fn overrun(alloc: Global, orders: &Orders, ro: &Id) -> Result<Option<u64>, NoMemory>
-    ensures { IfOk result (λ units. units ≡ rows_over orders.now ro.now) }
-{
-    match order_overrun(order_in(orders, ro)) {
-        Some(units) => Ok(Some(units)),
-        None => all_overrun(alloc, orders),
+    match order_overrun(order_in(table, ro)) {
+        Some(units) => Some(units),
+        None => past(LIST_ALL_LIMIT, units),
     }
 }

@@ -5,7 +5,7 @@ ghost use Rattle.mos_edits.specs.Entries.{entry_count, order_now};
 ghost use Rattle.server_peer.specs.Parts.{upper_of, view_of};
 ghost use Rattle.ncs_core.specs.State.{ncs_of, devices_of};
 
-use crate::orders::{Orders, order_in};
+use crate::orders::Orders;
 use mos_fields::Id;
 use rundown_log::{Journal, Keeper};
 use running_order::Order;
@@ -64,7 +64,7 @@ impl<K: Keeper> Ncs<K> {
     pub fn order(&self, ro: &Id) -> Option<&Order>
         ensures { option_copied result ≡ order_now self.now.server.journal ro.now }
     {
-        order_in(&self.orders, ro)
+        self.orders.order(ro)
     }
 
     /// How many entries an order has. It takes no memory.

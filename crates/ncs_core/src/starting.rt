@@ -12,7 +12,6 @@ use crate::fault::{CommandFault, StartCause, StartFault};
 use crate::ncs::Ncs;
 use crate::orders::Orders;
 use mos_fields::NoMemory;
-use order_table::OrderTable;
 use rundown_log::{Entry, Journal, KeepFault, Keeper};
 use server_peer::Peer;
 use std::alloc::Global;
@@ -68,7 +67,7 @@ fn forget(orders: &mut Orders, journal: &mut Journal)
     ensures journal { journal.new ≡ [] }
 {
     let alloc = journal.allocator();
-    let_go(replace(orders, OrderTable::new(alloc)));
+    let_go(replace(orders, Orders::new(alloc)));
     let_go(replace(journal, Journal::new(alloc)));
 }
 
@@ -81,7 +80,7 @@ impl<K: Keeper> Ncs<K> {
         Ncs {
             keeper,
             journal: Journal::new(alloc),
-            orders: OrderTable::new(alloc),
+            orders: Orders::new(alloc),
             peers,
             stopped: false,
         }

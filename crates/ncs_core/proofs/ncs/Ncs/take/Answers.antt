@@ -7,6 +7,7 @@ use Rattle.ncs_core.specs.Accepting.{IsRefusal}
 use Rattle.ncs_core.specs.State.{NcsTables, states}
 use Rattle.ncs_core.proofs.AcceptedRows.{orders-same, acceptance-here, orders-added, edited-there, orders-undone}
 use Rattle.ncs_core.proofs.CommandSteps.{refused-tables, taken-tables, unkept-tables}
+use Rattle.ncs_core.proofs.KeptUnits.{undone-units}
 use Rattle.ncs_core.proofs.ncs.Ncs.take.Goals as goal
 
 pub invariant_of-self : goal.invariant_of-self
@@ -19,8 +20,13 @@ invariant_of-self-in-Ok-keep_and_give g c =
     let few : length (with_items c.self.inside.peers c.keep_and_give.new.peers).items ≤ 64 = subst (λ (n : ℕ). n ≤ 64) (sym count) c.self.invariant.1 in
     (orders-added c.self.inside.journal c.keep_and_give.new.journal (entry_of c.args.edit.now) (entry_of c.args.edit.now) c.self.inside.orders c.accept_edit.new.orders c.self.invariant.0 refl c.in-Ok.ensures.rows c.in-Ok-keep_and_give.ensures.journal, few)
 
-pub undo-requires : goal.undo-requires
-undo-requires g c = edited-there c.self.inside.orders c.accept_edit.new.orders (entry_of c.args.edit.now) c.edit_ro.result.now c.in-Ok.ensures.rows c.edit_ro.ensures
+pub undo-requires-clause-there : goal.undo-requires-clause-there
+undo-requires-clause-there g c = edited-there c.self.inside.orders c.accept_edit.new.orders (entry_of c.args.edit.now) c.edit_ro.result.now c.in-Ok.ensures.rows c.edit_ro.ensures
+
+pub undo-requires-clause-units : goal.undo-requires-clause-units
+undo-requires-clause-units g c =
+    c.units-units.ensures
+    ∙ sym (undone-units c.self.inside.orders c.accept_edit.new.orders (entry_of c.args.edit.now) c.edit_ro.result.now c.in-Ok.order c.has_ascending_ids.ensures c.in-Ok.ensures.rows c.edit_ro.ensures c.in-Ok.ensures.order)
 
 pub invariant_of-self-in-Err-keep_and_give : goal.invariant_of-self-in-Err-keep_and_give
 invariant_of-self-in-Err-keep_and_give g c =
