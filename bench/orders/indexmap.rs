@@ -65,10 +65,11 @@ fn main() {
     let mut order: Order = (0..count).map(|number| (id_of(number), story_of(number))).collect();
     let (zero, middle, last) = (id_of(0), id_of(count / 2), id_of(count - 1));
     let new = story_of(count);
+    let ids: Vec<Vec<u16>> = (0..count).map(id_of).collect();
     let mut sum: u64 = 0;
     for call in 0..calls {
         match (work, call % 2) {
-            ("find", _) => sum += order.get_index_of(black_box(last.as_slice())).unwrap() as u64,
+            ("find", _) => sum += order.get_index_of(black_box(ids[(call % u64::from(count)) as usize].as_slice())).unwrap() as u64,
             ("move", 0) => shift(&mut order, black_box(&last), Some(&zero)),
             ("move", _) => shift(&mut order, black_box(&last), None),
             ("swap", _) => exchange(&mut order, black_box(&zero), &last),

@@ -1,7 +1,7 @@
-//! Look-ups and edits of one order, to be timed: `bench_orders WORK STORIES CALLS`. WORK is `find` (the place of the last
-//! story), `move` (the last story to the front and back), `swap` (the first and the last) or `cycle` (INSERT of a story
-//! before the one in the middle, and DELETE of it). Prints the sum of the places found, and the code units of the order.
-//! `bench/orders/run` takes the time.
+//! Look-ups and edits of one order, to be timed: `bench_orders WORK STORIES CALLS`. WORK is `find` (the place of one story
+//! after another), `move` (the last story to the front and back), `swap` (the first and the last) or `cycle` (INSERT of a
+//! story before the one in the middle, and DELETE of it). Prints the sum of the places found, and the code units of the
+//! order. `bench/orders/run` takes the time.
 #![tactic(auto)]
 
 mod stories;
@@ -16,7 +16,7 @@ fn run(alloc: Global, work: &str, count: u32, calls: u64) -> Option<(u64, u64)> 
     let mut order = stories::order_of(alloc, count)?;
     let last = count.saturating_sub(1);
     let found = match work {
-        "find" => find(alloc, &order, last, calls)?,
+        "find" => find(alloc, &order, count, calls)?,
         "move" => shift(alloc, &mut order, last, calls)?,
         "swap" => exchange(alloc, &mut order, last, calls)?,
         _ => cycle(alloc, &mut order, count, calls)?,

@@ -7,13 +7,24 @@ use mos_values::Action;
 use running_order::Order;
 use std::alloc::Global;
 
-/// Looks for a story this many times. The sum of its places.
-pub fn find(alloc: Global, order: &Order, number: u32, calls: u64) -> Option<u64> {
-    let id = id_of(alloc, number)?;
+// The IDs of so many stories.
+fn all_ids(alloc: Global, count: u32) -> Option<Vec<OptId>> {
+    let mut ids = Vec::new(alloc);
+    for number in 0..count {
+        ids.push(id_of(alloc, number)?).ok()?;
+    }
+    Some(ids)
+}
+
+/// Looks for the stories one after another, this many times in all. The sum of their places.
+pub fn find(alloc: Global, order: &Order, count: u32, calls: u64) -> Option<u64> {
+    let ids = all_ids(alloc, count)?;
     let mut sum: u64 = 0;
+    let mut next = 0;
     for _ in 0..calls {
-        let place = order.story_place(&id)?;
+        let place = order.story_place(ids.get(next)?)?;
         sum = sum.wrapping_add(place as u64);
+        next = if next < ids.len() - 1 { next + 1 } else { 0 };
     }
     Some(sum)
 }
