@@ -1,5 +1,5 @@
 -- What a decoder of envelopes answers.
-use Rattle.std.specs.Prelude.{◌≡◌, ℕ, ◌+◌, ◌++◌, Bool, true, false, List, [], ◌∷◌, Option, Some, None, Result, Ok, Err, ⊤}
+use Rattle.std.specs.Prelude.{◌≡◌, ℕ, ◌++◌, Bool, true, false, List, [], ◌∷◌, Option, Some, None, Result, Ok, Err, ⊤}
 use Rattle.mos_fields.specs.Characters.{units_in}
 use Rattle.mos_lexer.specs.Units.{Found as FoundOf, Reader, StreamReader, reads_stream, rejects_stream, start_stream, stream_units}
 use Rattle.mos_reader.specs.declared.found.Found.{Found}
@@ -43,12 +43,6 @@ abbrev pub OnPlaced : Result (Option Placed) ReadFault → (Placed → Type 0) �
 OnPlaced (Ok (Some p)) P = P p
 OnPlaced (Ok None) P = ⊤
 OnPlaced (Err k) P = ⊤
-
--- how many messages were handed out behind an answer, where there were so many before
-abbrev pub placed_count : Result (Option Placed) ReadFault → ℕ → ℕ
-placed_count (Ok (Some p)) n = n + 1
-placed_count (Ok None) n = n
-placed_count (Err k) n = n
 
 -- An answer about events says the same of an envelope, or that there is no memory for it.
 abbrev pub Says : Result (Option Found) ReadFault → Result (Option Placed) ReadFault → Type 0

@@ -8,7 +8,7 @@ ghost use Rattle.mos_reader.specs.Answers.{fed};
 ghost use Rattle.mos_values.specs.declared.message.Envelope.{Envelope as Enveloped};
 ghost use Rattle.value_laws.specs.Ranges.{IsInRange};
 ghost use Rattle.mos_codec.specs.Codec.{EncodesEnvelope};
-ghost use Rattle.mos_codec.specs.Decoding.{ComesFirst, HasHandedOut, IsReading, OnPlaced, Says, TellsEnvelope, TellsLast, fed_more, is_want as is_want_of, placed_count, placed_events, start_decoder};
+ghost use Rattle.mos_codec.specs.Decoding.{ComesFirst, HasHandedOut, IsReading, OnPlaced, Says, TellsEnvelope, TellsLast, fed_more, is_want as is_want_of, placed_events, start_decoder};
 
 use mos_decoder::EventDecoder;
 use mos_fields::NoMemory;
