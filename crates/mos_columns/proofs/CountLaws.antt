@@ -1,15 +1,16 @@
 -- What counts show is what the fields seen show.
 use Rattle.std.proofs.Common.{◌≡◌, ℕ, Bool, true, false, cond, List, [], ◌∷◌, ◌++◌, Some, None, refl, ap, ◌∙◌}
-use Rattle.std.specs.Prelude.{nat_lt, ◌&&◌, not}
+use Rattle.std.specs.Prelude.{Option, nat_lt, ◌&&◌, not}
 use Rattle.mos_fields.specs.Characters.{Text}
 use Rattle.mos_fields.specs.declared.field.Field.{Field}
 use Rattle.mos_tables.specs.declared.column.Column.{Column}
 use Rattle.mos_tables.specs.declared.table.Table.{Table}
 use Rattle.mos_tables.specs.declared.table.Table.TheVariants.{Envelope, Body, HeaderPatch, Story, Item, MosObj, Heartbeat, NoFields, ListMachInfo, SupportedProfiles, MosAck, MosReqObj, MosReqAll, MosListAll, OneOrder, RoListAll, ElementStat, Action, Target, Source, ReadyToAir, RoAck, StorySend}
 use Rattle.mos_tables.specs.Tables.{columns, is_ack, ack_columns, group_columns}
-use Rattle.mos_grammar.specs.Records.{times, least_count, is_named, lack_of, any_seen, lacking, repeated, before_column, field_fault, wanted, seen_behind}
+use Rattle.mos_grammar.specs.Records.{times, least_count, is_named, lack_of, any_seen, lacking, repeated, before_column, field_fault, or_else, wanted, seen_behind}
 use Rattle.mos_fields.specs.Fields.{same_field}
 use Rattle.mos_fields.specs.declared.field.Field.TheVariants as fields
+use Rattle.mos_grammar.specs.declared.fault.Fault.{Fault}
 use Rattle.mos_grammar.proofs.Seen.{times_push}
 use Rattle.mos_columns.specs.Counts.{counts_of, any_counted, lacking_by, repeated_by, before_by, tag_fault_by, end_fault_by, bumped, noted_by}
 
@@ -84,3 +85,7 @@ noted_is t ks seen f e = ap (λ (z : List ℕ). noted_by t z f) e ∙ go (is_ack
     go : (b : Bool) → cond b (bumped (columns t) (bumped (columns t) (counts_of (columns t) []) fields.RoID) fields.RoStatus) (bumped (columns t) (counts_of (columns t) seen) f) ≡ counts_of (columns t) (cond b (fields.RoID ∷ fields.RoStatus ∷ []) (seen ++ f ∷ []))
     go true = ap (λ (z : List ℕ). bumped (columns t) z fields.RoStatus) (bumped_is (columns t) [] fields.RoID) ∙ bumped_is (columns t) (fields.RoID ∷ []) fields.RoStatus
     go false = bumped_is (columns t) seen f
+
+pub or_none : (k : Option Fault) → k ≡ or_else k None
+or_none None = refl
+or_none (Some f) = refl

@@ -1,8 +1,10 @@
 //! What a tag shows by the fields that were seen.
-ghost use Rattle.std.specs.Prelude.{◌≡◌, List, drop, nat_lt, Option, Some, None};
+ghost use Rattle.std.specs.Prelude.{◌≡◌, ◌&&◌, List, cond, drop, nat_lt, Option, Some, None};
 ghost use Rattle.mos_fields.specs.declared.field.Field.{Field as FieldOf};
 ghost use Rattle.mos_tables.specs.Tables.{columns as columns_of, ack_columns as ack_columns_of};
-ghost use Rattle.mos_grammar.specs.Records.{column_of, is_named as is_named_of, field_fault, wanted, lacking as lacking_of, lack_of, least_count as least_count_of, is_single as is_single_of};
+ghost use Rattle.mos_grammar.specs.Records.{column_of, is_named as is_named_of, field_fault, wanted, lacking as lacking_of, lack_of, least_count as least_count_of, is_single as is_single_of, or_else};
+ghost use Rattle.mos_grammar.specs.declared.fault.Fault.{Fault as FaultOf};
+ghost use Rattle.mos_grammar.specs.declared.fault.Fault.TheVariants.{Twice as twice, Order as out_of_order};
 ghost use Rattle.mos_columns.specs.Counts.{counts_of, any_counted as any_counted_of, lacking_by, repeated_by, before_by, tag_fault_by, end_fault_by};
 
 use crate::names::is_name;
@@ -90,42 +92,59 @@ fn is_single(often: Often) -> bool
     }
 }
 
-fn repeated(columns: &[Column], counts: &[usize], name: &[u16]) -> Option<Fault>
-    ensures { result ≡ repeated_by columns.now counts.now name.now }
+/// The first required field that lacks, where one may have lacked before this column.
+fn first_lack(lacked: Option<Fault>, column: &Column, count: usize) -> Option<Fault>
+    ensures { (rest : Option FaultOf) → or_else result rest ≡ or_else lacked (cond (nat_lt count (least_count_of (column.now).often)) (Some (lack_of (column.now).field)) rest) }
 {
-    match columns {
-        [] => None,
-        [c, cs @ ..] => match counts {
-            [] => None,
-            [k, ks @ ..] => {
-                if !is_named(c, name) {
-                    repeated(cs, ks, name)
-                } else if is_single(c.often) && *k > 0 {
-                    Some(Fault::Twice(c.field))
-                } else if any_counted(ks) {
-                    Some(Fault::Order(c.field))
-                } else {
-                    None
-                }
+    match lacked {
+        Some(fault) => Some(fault),
+        None => {
+            if lacks(column, count) {
+                Some(lack(column.field))
+            } else {
+                None
             }
-        },
+        }
     }
 }
 
-fn lacking_before(columns: &[Column], counts: &[usize], name: &[u16]) -> Option<Fault>
-    ensures { result ≡ before_by columns.now counts.now name.now }
+/// What a field of this column shows that is seen again or too late; else what lacked before it.
+fn fault_here(
+    column: &Column,
+    count: usize,
+    later: &[usize],
+    lacked: Option<Fault>,
+) -> Option<Fault>
+    ensures { result ≡ or_else (cond (is_single_of (column.now).often && nat_lt 0 count) (Some (twice (column.now).field)) (cond (any_counted_of later.now) (Some (out_of_order (column.now).field)) None)) lacked }
+{
+    if is_single(column.often) && count > 0 {
+        Some(Fault::Twice(column.field))
+    } else if any_counted(later) {
+        Some(Fault::Order(column.field))
+    } else {
+        lacked
+    }
+}
+
+/// What the tag of a field shows, where a required field may have lacked before these columns.
+#[tactic(auto, using(crate::proofs::CountLaws::or_none))]
+fn fault_from(
+    columns: &[Column],
+    counts: &[usize],
+    name: &[u16],
+    lacked: Option<Fault>,
+) -> Option<Fault>
+    ensures { result ≡ or_else (repeated_by columns.now counts.now name.now) (or_else lacked (before_by columns.now counts.now name.now)) }
 {
     match columns {
-        [] => None,
+        [] => lacked,
         [c, cs @ ..] => match counts {
-            [] => None,
+            [] => lacked,
             [k, ks @ ..] => {
                 if is_named(c, name) {
-                    None
-                } else if lacks(c, *k) {
-                    Some(lack(c.field))
+                    fault_here(c, *k, ks, lacked)
                 } else {
-                    lacking_before(cs, ks, name)
+                    fault_from(cs, ks, name, first_lack(lacked, c, *k))
                 }
             }
         },
@@ -135,10 +154,7 @@ fn lacking_before(columns: &[Column], counts: &[usize], name: &[u16]) -> Option<
 fn tag_fault(columns: &[Column], counts: &[usize], name: &[u16]) -> Option<Fault>
     ensures { result ≡ tag_fault_by columns.now counts.now name.now }
 {
-    match repeated(columns, counts, name) {
-        Some(fault) => Some(fault),
-        None => lacking_before(columns, counts, name),
-    }
+    fault_from(columns, counts, name, None)
 }
 
 /// What the tag of a field shows behind the fields seen, which the counts count: that it was there already, that a later

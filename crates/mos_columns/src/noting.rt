@@ -78,7 +78,7 @@ fn push_zeros(columns: &[Column], out: &mut Vec<usize>) -> Result<(), NoMemory>
 pub fn start_counts(alloc: Global, columns: &[Column]) -> Result<Vec<usize>, NoMemory>
     ensures { IfOk result (λ v. v.items ≡ counts_of columns.now []) }
 {
-    let mut counts = Vec::new(alloc);
+    let mut counts = Vec::with_capacity(alloc, columns.len())?;
     push_zeros(columns, &mut counts)?;
     Ok(counts)
 }
@@ -91,7 +91,7 @@ fn bumped_counts(
 ) -> Result<Vec<usize>, NoMemory>
     ensures { IfOk result (λ v. v.items ≡ bumped columns.now counts.now field) }
 {
-    let mut out = Vec::new(alloc);
+    let mut out = Vec::with_capacity(alloc, counts.len())?;
     push_counts(columns, counts, field, &mut out)?;
     Ok(out)
 }

@@ -1,7 +1,9 @@
 -- Bytes in pairs.
-use Rattle.std.proofs.Common.{◌≡◌, ℕ, ◌+◌, ◌*◌, ◌<◌, ◌≤◌, Bool, true, false, List, [], ◌∷◌, ◌++◌, length, take, drop, ◌-◌, refl, sym, ap, ◌∙◌, arith, add-one, length-drop, drop-cons}
+use Rattle.std.proofs.Common.{◌≡◌, ℕ, zero, suc, get_or, inl, inr, ◌+◌, ◌*◌, ◌<◌, ◌≤◌, Bool, true, false, List, [], ◌∷◌, ◌++◌, length, take, drop, ◌-◌, refl, sym, ap, ◌∙◌, arith, add-one, length-drop, drop-cons}
 use Rattle.std.specs.Prelude.{Option, Some, None, slice_index, ◌==◌}
-use Rattle.std.proofs.lemmas.List.{take_rest}
+use Rattle.std.proofs.Math.ListN.{set}
+use Rattle.std.proofs.lemmas.List.{take_rest, get_or-set_same, get_or-set_other}
+use Rattle.std.proofs.lemmas.Bool.{cases_eq}
 use Rattle.mos_fields.specs.Characters.{units_in}
 use Rattle.mos_decoder.specs.Inputs.{is_odd}
 use Rattle.mos_decoder.specs.Bytes.{behind_odd, odd_in}
@@ -90,3 +92,38 @@ no_bytes (b ∷ bs) h = absurd (omega (arith, h))
 
 pub first_byte : (bytes : List ℕ) → 1 ≤ length bytes → bytes ≡ slice_index bytes 0 ∷ take (length bytes - 1) (drop 1 bytes)
 first_byte bytes h = next_byte bytes 0 (omega (arith, h)) ∙ ap (λ z. slice_index bytes 0 ∷ z) (sym (take_rest bytes 1))
+
+-- as many pairs as a list of units has
+abbrev pub AreUnits : List ℕ → ℕ → List ℕ → ℕ → Type 0
+AreUnits bytes at us n = (j : ℕ) → j < n → get_or us j 0 ≡ slice_index bytes (at + 2 * j) * 256 + slice_index bytes (at + 2 * j + 1)
+
+pub pairs_units : (bytes us : List ℕ) (at : ℕ) → at + 2 * length us ≤ length bytes → AreUnits bytes at us (length us) → us ++ units_in (drop (at + 2 * length us) bytes) ≡ units_in (drop at bytes)
+pairs_units bytes [] at h f = ap (λ k. units_in (drop k bytes)) (let e : at + 2 * 0 ≡ at = omega arith in e)
+pairs_units bytes (u ∷ us) at h f =
+    let e : at + 2 * length (u ∷ us) ≡ (at + 2) + 2 * length us = omega arith in
+    let r = pairs_units bytes us (at + 2) (omega (arith, h)) (λ j l. f (suc j) (omega (arith, l)) ∙ ap (λ k. slice_index bytes k * 256 + slice_index bytes (k + 1)) (let q : at + 2 * suc j ≡ (at + 2) + 2 * j = omega arith in q)) in
+    let i : u ≡ slice_index bytes at * 256 + slice_index bytes (at + 1) = f 0 (omega arith) ∙ ap (λ k. slice_index bytes k * 256 + slice_index bytes (k + 1)) (let q : at + 2 * 0 ≡ at = omega arith in q) in
+    ap (λ k. u ∷ (us ++ units_in (drop k bytes))) e
+    ∙ (ap (λ z. u ∷ z) r
+    ∙ (ap (λ z. z ∷ units_in (drop (at + 2) bytes)) i
+    ∙ sym (ap units_in (next_pair bytes at (omega (arith, h))) ∙ pair_units (slice_index bytes at) (slice_index bytes (at + 1)) (drop (at + 2) bytes))))
+
+pub pairs_odd : (n : ℕ) (bytes : List ℕ) (at : ℕ) → at + 2 * n ≤ length bytes → odd_in (drop (at + 2 * n) bytes) ≡ odd_in (drop at bytes)
+pairs_odd zero bytes at h = ap (λ k. odd_in (drop k bytes)) (let e : at + 2 * 0 ≡ at = omega arith in e)
+pairs_odd (suc n) bytes at h =
+    let e : at + 2 * suc n ≡ (at + 2) + 2 * n = omega arith in
+    ap (λ k. odd_in (drop k bytes)) e
+    ∙ (pairs_odd n bytes (at + 2) (omega (arith, h))
+    ∙ sym (ap odd_in (next_pair bytes at (omega (arith, h))) ∙ pair_odd (slice_index bytes at) (slice_index bytes (at + 1)) (drop (at + 2) bytes)))
+
+-- one more unit is written
+pub units_more : (bytes us : List ℕ) (at k v : ℕ) → k < length us → v ≡ slice_index bytes (at + 2 * k) * 256 + slice_index bytes (at + 2 * k + 1) → AreUnits bytes at us k → AreUnits bytes at (set us k v) (k + 1)
+units_more bytes us at k v w e f j l = elim (cases_eq j k) [
+  | inl i ↦ ap (λ (z : ℕ). get_or (set us k v) z 0) i ∙ (get_or-set_same us k v 0 w ∙ (e ∙ ap (λ (z : ℕ). slice_index bytes (at + 2 * z) * 256 + slice_index bytes (at + 2 * z + 1)) (sym i)))
+  | inr i ↦ get_or-set_other us k j v 0 i ∙ f j (omega (arith, l, i))
+]
+
+-- a block of 32 units
+pub block_is : (bytes us : List ℕ) (at : ℕ) → length us ≡ 32 → at + 64 ≤ length bytes → AreUnits bytes at us 32 → us ++ units_in (drop (at + 64) bytes) ≡ units_in (drop at bytes)
+block_is bytes us at e h f =
+    ap (λ k. us ++ units_in (drop k bytes)) (let q : at + 64 ≡ at + 2 * length us = omega (arith, e) in q) ∙ pairs_units bytes us at (omega (arith, e, h)) (λ j l. f j (omega (arith, e, l)))

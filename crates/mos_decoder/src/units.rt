@@ -1,5 +1,5 @@
 //! Bytes to code units.
-ghost use Rattle.std.specs.Prelude.{◌≡◌, ◌+◌, ◌*◌, ◌++◌, [], ◌∷◌, OnOk, IfOk};
+ghost use Rattle.std.specs.Prelude.{◌≡◌, ◌≤◌, ◌+◌, ◌*◌, ◌++◌, [], ◌∷◌, OnOk, IfOk, drop, length};
 ghost use Rattle.mos_fields.specs.Characters.{units_in};
 ghost use Rattle.mos_decoder.specs.Bytes.{behind_odd, odd_in};
 
@@ -14,8 +14,44 @@ fn push_unit(high: u8, low: u8, units: &mut Vec<u16>) -> Result<(), NoMemory>
     Ok(())
 }
 
-/// Appends the code units of pairs of bytes, and returns the odd byte behind them.
-fn push_pairs(bytes: &[u8], units: &mut Vec<u16>) -> Result<Option<u8>, NoMemory>
+/// The code units of 64 bytes, in a loop with no branch, of which LLVM makes vectors.
+fn block_units(bytes: &[u8], at: usize) -> [u16; 32]
+    requires { at + 64 ≤ length bytes.now }
+    ensures { result ++ units_in (drop (at + 64) bytes.now) ≡ units_in (drop at bytes.now) }
+{
+    let mut units = [0u16; 32];
+    for k in 0..32usize {
+        units[k] = u16::from(bytes[at + 2 * k]) * 256 + u16::from(bytes[at + 2 * k + 1]);
+    }
+    units
+}
+
+/// Appends the code units of 64 bytes.
+fn push_block(bytes: &[u8], at: usize, units: &mut Vec<u16>) -> Result<(), NoMemory>
+    requires { at + 64 ≤ length bytes.now }
+    ensures { OnOk result (units.new.items ++ units_in (drop (at + 64) bytes.now) ≡ units.old.items ++ units_in (drop at bytes.now)) }
+{
+    let block = block_units(bytes, at);
+    units.extend_from_slice(&block)?;
+    Ok(())
+}
+
+/// Appends the code units of blocks of 64 bytes, as many as there are, and returns how many bytes they are.
+fn push_blocks(bytes: &[u8], units: &mut Vec<u16>) -> Result<usize, NoMemory>
+    ensures within { IfOk result (λ at. at ≤ length bytes.now) }
+    ensures odd { IfOk result (λ at. odd_in (drop at bytes.now) ≡ odd_in bytes.now) }
+    ensures units { IfOk result (λ at. units.new.items ++ units_in (drop at bytes.now) ≡ units.old.items ++ units_in bytes.now) }
+{
+    let mut at = 0;
+    'block: while bytes.len() - at >= 64 {
+        push_block(bytes, at, units)?;
+        at += 64;
+    }
+    Ok(at)
+}
+
+/// Appends the code units of pairs of bytes one by one, and returns the odd byte behind them.
+fn push_single_pairs(bytes: &[u8], units: &mut Vec<u16>) -> Result<Option<u8>, NoMemory>
     ensures odd { IfOk result (λ odd. odd ≡ odd_in bytes.now) }
     ensures units { IfOk result (λ odd. units.new.items ≡ units.old.items ++ units_in bytes.now) }
 {
@@ -29,6 +65,23 @@ fn push_pairs(bytes: &[u8], units: &mut Vec<u16>) -> Result<Option<u8>, NoMemory
     } else {
         Ok(None)
     }
+}
+
+/// What stands behind so many bytes.
+fn behind(bytes: &[u8], at: usize) -> &[u8]
+    requires { at ≤ length bytes.now }
+    ensures { result.now ≡ drop at bytes.now }
+{
+    &bytes[at..]
+}
+
+/// Appends the code units of pairs of bytes, and returns the odd byte behind them.
+fn push_pairs(bytes: &[u8], units: &mut Vec<u16>) -> Result<Option<u8>, NoMemory>
+    ensures odd { IfOk result (λ odd. odd ≡ odd_in bytes.now) }
+    ensures units { IfOk result (λ odd. units.new.items ≡ units.old.items ++ units_in bytes.now) }
+{
+    let at = push_blocks(bytes, units)?;
+    push_single_pairs(behind(bytes, at), units)
 }
 
 /// The code units of bytes behind an odd one, and the odd byte behind them.
@@ -63,7 +116,7 @@ pub fn units_behind(
     match odd {
         Some(high) => units_behind_byte(alloc, high, bytes),
         None => {
-            let mut units = Vec::new(alloc);
+            let mut units = Vec::with_capacity(alloc, bytes.len() / 2)?;
             let odd = push_pairs(bytes, &mut units)?;
             Ok((units, odd))
         }

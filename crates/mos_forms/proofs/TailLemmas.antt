@@ -1,5 +1,5 @@
 -- Where the rest of a raw element ends, in characters and in code units.
-use Rattle.std.proofs.Common.{◌≡◌, ℕ, ◌+◌, ◌<◌, Bool, true, false, cond, ◌&&◌, eqb, length, take, drop, List, [], ◌∷◌, ◌++◌, refl, sym, ap, ◌∙◌, subst, arith, append_assoc, eq-eqb, ne_eqb, length-drop}
+use Rattle.std.proofs.Common.{◌≡◌, ℕ, ◌+◌, ◌<◌, Bool, true, false, cond, ◌&&◌, eqb, length, get_or, take, drop, List, [], ◌∷◌, ◌++◌, refl, sym, ap, ◌∙◌, subst, arith, append_assoc, eq-eqb, ne_eqb, length-drop}
 use Rattle.std.specs.Prelude.{◌==◌}
 use Rattle.std.specs.List.{list_all}
 use Rattle.std.proofs.lemmas.Bool.{and_parts, and_from, lt-ltb}
@@ -188,3 +188,8 @@ ends_here n us i h e = rest_at n us i h ∙ (ap (λ b. cond b (is_empty (drop (i
 
 pub goes_on : (n us : Text) (i : ℕ) → i < length us → ends_with (end_text n) (take (i + 1) us) ≡ false → tail_units n (take i us) (drop i us) ≡ tail_units n (take (i + 1) us) (drop (i + 1) us)
 goes_on n us i h e = rest_at n us i h ∙ ap (λ b. cond b (is_empty (drop (i + 1) us)) (tail_units n (take (i + 1) us) (drop (i + 1) us))) e
+
+-- ---- a text that ends otherwise than with `>`
+
+pub no_mark_at : (n us : Text) (i : ℕ) → i < length us → (get_or us i 0 ≡ 62 → ⊥) → ends_with (end_text n) (take (i + 1) us) ≡ false
+no_mark_at n us i h d = end_without_mark n (take (i + 1) us) (λ a e. d (last_is (take i us) a (get_or us i 0) 62 (sym (take_more us i 0 h) ∙ e)))

@@ -1,5 +1,5 @@
 //! The rest of a raw element behind its start tag.
-ghost use Rattle.std.specs.Prelude.{◌≡◌, ◌≢◌, ◌++◌, ◌≤◌, ℕ, List, IfOk, true, MatchOption, take, length, []};
+ghost use Rattle.std.specs.Prelude.{◌≡◌, ◌≢◌, ◌++◌, ◌+◌, ◌<◌, ◌≤◌, ℕ, List, IfOk, true, MatchOption, take, length, []};
 ghost use Rattle.mos_fields.specs.Characters.{IsUtf16, chars_of};
 ghost use Rattle.mos_fields.specs.Names.{is_name};
 ghost use Rattle.mos_fields.specs.Raw.{end_text, ends_with, is_tail as is_tail_of};
@@ -38,11 +38,23 @@ fn front(text: &[u16], end: usize) -> &[u16]
     &text[..end]
 }
 
+/// Whether the end tag of this name ends with the unit at this place. Few units are a `>`, so that is looked at first.
+fn ends_at(name: &[u16], text: &[u16], place: usize) -> bool
+    requires { place < length text.now }
+    ensures { result ≡ ends_with (end_text name.now) (take (place + 1) text.now) }
+{
+    if text[place] == 62 {
+        ends_with_end_tag(name, front(text, place + 1))
+    } else {
+        false
+    }
+}
+
 fn is_tail_by_units(name: &[u16], text: &[u16]) -> bool
     ensures { result ≡ tail_units name.now [] text.now }
 {
     for end in 0..text.len() {
-        if ends_with_end_tag(name, front(text, end + 1)) {
+        if ends_at(name, text, end) {
             return end + 1 == text.len();
         }
     }

@@ -169,7 +169,7 @@ impl Frame {
         ensures { IfOk result (λ v. events_of v.items ≡ closed self) }
     {
         let mut before = self.before;
-        let mut events = Vec::new(alloc);
+        let mut events = Vec::with_capacity(alloc, before.len() + 2)?;
         events.push(Event::Opens {
             name: self.name,
             attribute: self.attribute,

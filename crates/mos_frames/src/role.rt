@@ -4,6 +4,8 @@ ghost use Rattle.mos_fields.specs.Forms.{is_trimmed as is_trimmed_of};
 ghost use Rattle.mos_grammar.specs.Records.{column_of, is_full as is_full_of, is_named, is_optional as is_optional_of, message_of, message_role as message_role_of, other_role, role as role_of_lem, role_at as role_at_of, role_by as role_by_of, with_aim as with_aim_of};
 ghost use Rattle.mos_tables.specs.Events.{Attribute as AttributeOf};
 ghost use Rattle.mos_tables.specs.Tables.{columns as columns_of};
+ghost use Rattle.mos_columns.specs.Counts.{counts_of};
+ghost use Rattle.mos_frames.specs.Opened.{seen_in, times_by};
 ghost use Rattle.mos_frames.specs.Roles.{IsRole};
 
 use crate::frame::Frame;
@@ -51,11 +53,13 @@ fn may_lack(often: Often, form: Form) -> bool
     is_optional(often) && is_trimmed(form)
 }
 
-fn is_full(often: Often, times: usize) -> bool
-    ensures { result ≡ is_full_of often times }
+/// Whether the record has as many elements of this name as its column takes. They are looked up only where there is such a
+/// number.
+fn has_all(frame: &Frame, often: Often, name: &[u16]) -> bool
+    ensures { result ≡ is_full_of often (times_by (columns_of (frame.now).table) (counts_of (columns_of (frame.now).table) (seen_in frame.now)) name.now) }
 {
     match often {
-        Often::Count(most) => usize::from(most) <= times,
+        Often::Count(most) => usize::from(most) <= frame.times(name),
         _ => false,
     }
 }
@@ -135,7 +139,7 @@ pub fn find_role(
     match column {
         None => Ok(role_of_other(others(frame.table(), name))),
         Some(column) => {
-            if is_full(column.often, frame.times(name)) {
+            if has_all(frame, column.often, name) {
                 Ok(Role::OutOfPlace)
             } else {
                 role_at(alloc, frame, column, name, attributes)

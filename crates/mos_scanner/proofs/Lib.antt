@@ -9,4 +9,5 @@ pub mod NumberLemmas
 pub mod HeldLemmas
 pub mod RunLemmas
 pub mod RunSteps
+pub mod StartRuns
 pub mod UnitLemmas

@@ -39,10 +39,10 @@ all_weaker p q f (c ∷ x) e = let h = and_parts (p c) (list_all p x) e in and_f
 
 -- ---- characters of one unit
 
-lone_allowed : (c : ℕ) → is_lone c ≡ true → is_allowed c ≡ true
+pub lone_allowed : (c : ℕ) → is_lone c ≡ true → is_allowed c ≡ true
 lone_allowed c e = grind (arith, nat_tests)
 
-lone_small : (c : ℕ) → is_lone c ≡ true → c < 65279
+pub lone_small : (c : ℕ) → is_lone c ≡ true → c < 65279
 lone_small c e = grind (arith, nat_tests)
 
 lone_units : (x : Text) → list_all is_lone x ≡ true → units_of x ≡ x
@@ -75,17 +75,17 @@ text_in_run held a here next t o w e = let h = t.onward in record { text = (text
 
 -- ---- plain characters
 
-record Plain (p q r c : ℕ) : Type 0 where
-  lone : is_lone c ≡ true
-  first : (c == p) ≡ false
-  second : (c == q) ≡ false
-  third : (c == r) ≡ false
+pub record Plain (p q r c : ℕ) : Type 0 where
+  pub lone : is_lone c ≡ true
+  pub first : (c == p) ≡ false
+  pub second : (c == q) ≡ false
+  pub third : (c == r) ≡ false
 
 not_true : (b : Bool) → not b ≡ true → b ≡ false
 not_true false e = refl
 not_true true e = absurd cc
 
-plain : (p q r c : ℕ) → is_plain_but p q r c ≡ true → Plain p q r c
+pub plain : (p q r c : ℕ) → is_plain_but p q r c ≡ true → Plain p q r c
 plain p q r c e =
     let x = and_parts (is_lone c && not (c == p) && not (c == q)) (not (c == r)) e in
     let y = and_parts (is_lone c && not (c == p)) (not (c == q)) x.0 in

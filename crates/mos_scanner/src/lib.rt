@@ -16,6 +16,7 @@ mod resolved;
 mod runs;
 mod scanned;
 mod scanner;
+mod starts;
 mod tag;
 mod tail;
 mod text;

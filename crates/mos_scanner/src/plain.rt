@@ -11,6 +11,14 @@ fn is_special(u: u16, p: u16, q: u16, r: u16) -> bool
     u < 0x20 || u > 0xD7FF || u == p || u == q || u == r
 }
 
+/// The unit is an allowed character by itself, and none of these two.
+#[inline(always)]
+pub fn is_plain(u: u16, p: u16, q: u16) -> bool
+    ensures { result ≡ is_plain_but p q q u }
+{
+    !is_special(u, p, q, q)
+}
+
 /// None of the 16 units from `from` on is special: a sum with no branch, of which LLVM makes vectors.
 #[inline(always)]
 fn is_plain_block(s: &[u16], from: usize, p: u16, q: u16, r: u16) -> bool

@@ -22,12 +22,8 @@ fn quote_unit(quote: char) -> u16
 }
 
 impl Scanner {
-    /// Reads characters of one unit, U+0020 to U+D7FF, behind each of which the token goes on, from `here` up to the
-    /// place that it gives. It is the same as a step for each of them. The character there may belong to the run too.
-    ///
-    /// # Errors
-    /// `NoMemory` where memory runs out. The scanner has to be given up then.
-    pub fn skip(&mut self, held: &[u16], here: usize) -> Result<usize, NoMemory>
+    /// Reads on in a text, a value, a name or the rest of a raw element.
+    fn skip_plain(&mut self, held: &[u16], here: usize) -> Result<usize, NoMemory>
         requires within { here ≤ length held.now }
         requires sound { IsSound self.old held.now here }
         ensures { IfOk result (λ next. IsRun self.old self.new held.now here next) }
@@ -54,6 +50,20 @@ impl Scanner {
             }
             _ => Ok(here),
         }
+    }
+
+    /// Reads characters of one unit, U+0020 to U+D7FF, behind each of which the token goes on, from `here` up to the
+    /// place that it gives. It is the same as a step for each of them. The character there may belong to the run too.
+    ///
+    /// # Errors
+    /// `NoMemory` where memory runs out. The scanner has to be given up then.
+    pub fn skip(&mut self, held: &[u16], here: usize) -> Result<usize, NoMemory>
+        requires within { here ≤ length held.now }
+        requires sound { IsSound self.old held.now here }
+        ensures { IfOk result (λ next. IsRun self.old self.new held.now here next) }
+    {
+        let begun = self.skip_start(held, here);
+        self.skip_plain(held, begun)
     }
 }
 
