@@ -178,7 +178,7 @@ writes_more (reference {c = c} {y = y} {x = x} m r w) = subst (λ (z : List ℕ)
 abbrev pub a_tag : Token
 a_tag = open_tag (codes "a") [] (codes "<a>")
 
-begin_rest : (q : Position) (ts : List Token) (r : List ℕ) → lex_at q ≡ begin → WritesTokens ts r → LexRest (lex_at q) r ts
+pub begin_rest : (q : Position) (ts : List Token) (r : List ℕ) → lex_at q ≡ begin → WritesTokens ts r → LexRest (lex_at q) r ts
 begin_rest q ts r e w = rw e w
 
 tail_rest_at : (q u : Position) (x : Text) (us : List Token) (r : List ℕ) → message_step q (tail x) ≡ Ok u → WritesTokens (tail x ∷ us) r → LexRest (lex_at q) r (tail x ∷ us)
@@ -199,12 +199,12 @@ tail_last ts q x e m =
     let t = tail_read ts q x e m in
     record { fits = λ b. absurd (tail_inside q t.0 x b t.1); raw = λ r w. tail_rest_at q t.0 x [] r t.1 w; no_tail = λ b. absurd (tail_inside q t.0 x b t.1) }
 
-text_last : (ts : List Token) (q : Position) (x y : Text) → message_run (before_message before_prolog) ts ≡ Ok q → MayFollow ts (text x y) → Last q (text x y) (a_tag ∷ [])
+pub text_last : (ts : List Token) (q : Position) (x y : Text) → message_run (before_message before_prolog) ts ≡ Ok q → MayFollow ts (text x y) → Last q (text x y) (a_tag ∷ [])
 text_last ts q x y e m =
     let b = no_raw_begins ts q e m.0 in
     record { fits = λ i. ((λ o. m.1 (sym (outside_from ts before_prolog q e) ∙ o)), (λ o k. absurd cc), (λ o. refl), tt); raw = λ r w. begin_rest q (text x y ∷ a_tag ∷ []) r b w; no_tail = λ i. tt }
 
-other_last : (ts : List Token) (q : Position) (t : Token) → message_run (before_message before_prolog) ts ≡ Ok q → IsNoRaw ts → Fitting (is_outside q) (t ∷ []) → NotTail (t ∷ []) → Last q t []
+pub other_last : (ts : List Token) (q : Position) (t : Token) → message_run (before_message before_prolog) ts ≡ Ok q → IsNoRaw ts → Fitting (is_outside q) (t ∷ []) → NotTail (t ∷ []) → Last q t []
 other_last ts q t e n f k = let b = no_raw_begins ts q e n in record { fits = λ i. f; raw = λ r w. begin_rest q (t ∷ []) r b w; no_tail = λ i. k }
 
 -- which token comes to an end behind the part, and what is written then
@@ -230,7 +230,7 @@ nothing_written t (c ∷ more) h = record { left = λ r w. none r w; text_left =
 pub a_is : (r : List ℕ) → WritesTokens (a_tag ∷ []) r → r ≡ codes "<a>"
 a_is r w = w.4 ∙ ap (λ (z : List ℕ). w.0 ++ z) w.5 ∙ append-nil w.0 ∙ sym (let k = w.2 in k.4)
 
-a_length : (r : List ℕ) → WritesTokens (a_tag ∷ []) r → length r ≡ 3
+pub a_length : (r : List ℕ) → WritesTokens (a_tag ∷ []) r → length r ≡ 3
 a_length r w = ap length (a_is r w)
 
 text_unfinished : (t : Token) (more : List ℕ) → Unfinished t (a_tag ∷ []) (more ++ 120 ∷ codes "<a>")

@@ -29,9 +29,9 @@ and_parts false b h = absurd cc
 
 -- ---- the characters of references
 
--- a character that may stand in a reference: no `&`, no `>`, and one code unit
+-- a character that may stand in a reference: no `&`, no `>`, no `?`, and one code unit
 abbrev pub is_part : ℕ → Bool
-is_part c = nat_le 35 c && nat_le c 122 && not (eqb c 38) && not (eqb c 62)
+is_part c = nat_le 35 c && nat_le c 122 && not (eqb c 38) && not (eqb c 62) && not (eqb c 63)
 
 digit_part : (c : ℕ) → is_digit c ≡ true → is_part c ≡ true
 digit_part c h = grind (arith, nat_tests)
@@ -112,7 +112,7 @@ abbrev pub BehindAmp : Text → LexState → Type 0
 BehindAmp m (text_reference raw y k) = k ≡ m
 BehindAmp m (value_reference g a q v raw k) = k ≡ m
 BehindAmp m (in_tail n x) = Unit {0}
-BehindAmp m (in_declaration b) = Unit {0}
+BehindAmp m (in_declaration b) = b ≡ false
 BehindAmp m l = ⊥
 
 -- where a character leads, if it is read
@@ -138,22 +138,26 @@ unfolding may_grow
 amp_start m g true raw = tt
 amp_start m g false raw = tt
 
-last_same : (x y : List ℕ) (c d : ℕ) → x ++ c ∷ [] ≡ y ++ d ∷ [] → c ≡ d
-last_same [] [] c d e = cc
-last_same [] (b ∷ y) c d e = absurd (none y e)
+-- the last of a list
+pub last_one : (x y : List ℕ) (c d : ℕ) → x ++ c ∷ [] ≡ y ++ d ∷ [] → (x ≡ y) × (c ≡ d)
+last_one [] [] c d e = (refl, cc)
+last_one [] (b ∷ y) c d e = absurd (none y e)
   where
     none : (y : List ℕ) → c ∷ [] ≡ b ∷ (y ++ d ∷ []) → ⊥
     none [] e = cc
     none (z ∷ y) e = cc
-last_same (a ∷ x) [] c d e = absurd (none x e)
+last_one (a ∷ x) [] c d e = absurd (none x e)
   where
     none : (x : List ℕ) → a ∷ (x ++ c ∷ []) ≡ d ∷ [] → ⊥
     none [] e = cc
     none (z ∷ x) e = cc
-last_same (a ∷ x) (b ∷ y) c d e = last_same x y c d (tails a b (x ++ c ∷ []) (y ++ d ∷ []) e)
+last_one (a ∷ x) (b ∷ y) c d e =
+    let h = heads a b (x ++ c ∷ []) (y ++ d ∷ []) e in
+    let r = last_one x y c d h.1 in
+    (ap (λ (z : ℕ). z ∷ x) h.0 ∙ ap (λ (z : List ℕ). b ∷ z) r.0, r.1)
   where
-    tails : (a b : ℕ) (x y : List ℕ) → (a ∷ x) ≡ (b ∷ y) → x ≡ y
-    tails a b x y e = cc
+    heads : (a b : ℕ) (x y : List ℕ) → (a ∷ x) ≡ (b ∷ y) → (a ≡ b) × (x ≡ y)
+    heads a b x y e = (cc, cc)
 
 ends_front : (e z : Text) → ends_with e z ≡ true → (y : Text) × (z ≡ y ++ e)
 ends_front e [] h = ([], sym (same-is e [] h))
@@ -171,7 +175,7 @@ not_end n x c h = go (ends_with (end_text n) (x ++ c ∷ [])) refl
     go false e = e
     go true e =
         let r = ends_front (end_text n) (x ++ c ∷ []) e in
-        let i : c ≡ 62 = last_same x (r.0 ++ 60 ∷ 47 ∷ n) c 62 (r.1 ∙ sym (append_assoc r.0 (60 ∷ 47 ∷ n) (62 ∷ []))) in
+        let i : c ≡ 62 = (last_one x (r.0 ++ 60 ∷ 47 ∷ n) c 62 (r.1 ∙ sym (append_assoc r.0 (60 ∷ 47 ∷ n) (62 ∷ [])))).1 in
         absurd (no_both (eqb 62 62) refl (subst (λ (z : ℕ). eqb z 62 ≡ false) i h))
 
 amp_reference : (m : Text) (found : ℕ → LexState) (more : LexState) → AmpStep [] (reference_step (m ++ 38 ∷ []) found more)
@@ -218,11 +222,14 @@ first_amp o (in_question (d ∷ k)) p h = go (eqb 38 d) refl
     go : (b : Bool) → eqb 38 d ≡ b → AmpStep [] (cond b (continues (in_question k)) no_token)
     go true e = (let i : 38 ≡ d = eqb-true 38 d e in absurd (no_both (not (eqb d 38) && has_no_amp k) h (subst (λ (z : ℕ). (not (eqb z 38) && has_no_amp k) ≡ false) i refl)))
     go false e = tt
-first_amp o (in_declaration true) p h = tt
-first_amp o (in_declaration false) p h = tt
+first_amp o (in_declaration true) p h = refl
+first_amp o (in_declaration false) p h = refl
 
 part_not_end : (c : ℕ) → is_part c ≡ true → eqb c 62 ≡ false
 part_not_end c h = grind (arith, nat_tests)
+
+part_not_question : (c : ℕ) → is_part c ≡ true → eqb c 63 ≡ false
+part_not_question c h = grind (arith, nat_tests)
 
 -- a further character
 next_amp : (o : Bool) (m : Text) (l : LexState) (c : ℕ) → BehindAmp m l → reference_of (m ++ c ∷ []) ≡ None → begins_reference (m ++ c ∷ []) ≡ true → is_part c ≡ true → AmpStep (m ++ c ∷ []) (lex_step o l c)
@@ -230,8 +237,8 @@ unfolding lex_step
 next_amp o m (text_reference raw y k) c h n b i = rw (h, n, b) refl
 next_amp o m (value_reference g a q v raw k) c h n b i = rw (h, n, b) refl
 next_amp o m (in_tail k x) c h n b i = rw (not_end k x c (part_not_end c i)) tt
-next_amp o m (in_declaration true) c h n b i = rw (part_not_end c i) tt
-next_amp o m (in_declaration false) c h n b i = tt
+next_amp o m (in_declaration true) c h n b i = absurd (no_both true refl h)
+next_amp o m (in_declaration false) c h n b i = part_not_question c i
 next_amp o m begin c h n b i = absurd h
 next_amp o m (in_text raw y) c h n b i = absurd h
 next_amp o m in_tag c h n b i = absurd h
@@ -282,10 +289,20 @@ amp_run (c ∷ m2) m1 s w rest e r some h run = subst (λ (z : Text). BehindAmp 
         (next_amp (is_outside s.position) m1 s.lex c h (reference_laws.no_front (m1 ++ c ∷ []) (m2 ++ rest) e whole (left m2)) (reference_laws.goes_on (m1 ++ c ∷ []) (m2 ++ rest) e whole (left m2)) part) i) j
     go f None i j = absurd cc
 
--- Behind an `&` and the beginning of a reference no tag is open.
-pub amp_no_tag : (m : Text) (s w : Spot) (p : Text) → Sound (is_outside s.position) s.lex p → begins_reference m ≡ true → reference_of m ≡ None → char_run s (38 ∷ m) ≡ Some w → IsTagState w.lex → ⊥
+-- Behind an `&` and the beginning of a reference the machine is in that reference, or reads none.
+pub amp_behind : (m : Text) (s w : Spot) (p : Text) → Sound (is_outside s.position) s.lex p → begins_reference m ≡ true → reference_of m ≡ None → char_run s (38 ∷ m) ≡ Some w → BehindAmp m w.lex
 unfolding char_run
-amp_no_tag m s w p sound b n run t = go (char_of s.position s.lex 38) refl run
+amp_behind m s w p sound b n run = go (char_of s.position s.lex 38) refl run
+  where
+    go : (o : Option Spot) → char_of s.position s.lex 38 ≡ o → then_spot o (λ u. char_run u m) ≡ Some w → BehindAmp m w.lex
+    go None i j = absurd cc
+    go (Some u) i j =
+        let c = completion m b n in
+        amp_run m [] u w c.rest c.char c.is c.some (led s.position [] (lex_step (is_outside s.position) s.lex 38) u (first_amp (is_outside s.position) s.lex p sound) i) j
+
+-- No tag is open there.
+pub amp_no_tag : (m : Text) (s w : Spot) (p : Text) → Sound (is_outside s.position) s.lex p → begins_reference m ≡ true → reference_of m ≡ None → char_run s (38 ∷ m) ≡ Some w → IsTagState w.lex → ⊥
+amp_no_tag m s w p sound b n run t = clash w.lex (amp_behind m s w p sound b n run) t
   where
     clash : (l : LexState) → BehindAmp m l → IsTagState l → ⊥
     clash (text_reference raw y k) h i = i
@@ -305,9 +322,3 @@ amp_no_tag m s w p sound b n run t = go (char_of s.position s.lex 38) refl run
     clash (end_name k) h i = h
     clash (end_white k) h i = h
     clash (in_question k) h i = h
-
-    go : (o : Option Spot) → char_of s.position s.lex 38 ≡ o → then_spot o (λ u. char_run u m) ≡ Some w → ⊥
-    go None i j = absurd cc
-    go (Some u) i j =
-        let c = completion m b n in
-        clash w.lex (amp_run m [] u w c.rest c.char c.is c.some (led s.position [] (lex_step (is_outside s.position) s.lex 38) u (first_amp (is_outside s.position) s.lex p sound) i) j) t

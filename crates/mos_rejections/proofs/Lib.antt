@@ -2,6 +2,7 @@ mod Shape
 mod Running
 mod AliveRuns
 mod Witness
+mod Tracing
 mod Reaching
 mod Stepping
 mod Amp
@@ -9,3 +10,9 @@ mod Rejecting
 mod Reading
 mod UnitReading
 mod OpenReads
+mod OneFront
+mod Standing
+mod Showing
+mod Answering
+mod OneRejection
+mod RejectionLaws

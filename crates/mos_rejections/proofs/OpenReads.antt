@@ -24,7 +24,7 @@ use Rattle.mos_rejections.proofs.AliveRuns.{ending, fronts_write}
 use Rattle.mos_rejections.proofs.Reading.{complete_run, open_or_complete}
 
 -- tokens that are not all of a message do not complete one
-not_complete : (ts : List Token) (v : List Event) → IsOpenMessage ts → message_run (before_message before_prolog) ts ≡ Ok (inside (complete v)) → ⊥
+pub not_complete : (ts : List Token) (v : List Event) → IsOpenMessage ts → message_run (before_message before_prolog) ts ≡ Ok (inside (complete v)) → ⊥
 not_complete ts v m e = none m.0 m.1 (one_form before_prolog v m.2 ts (m.0 ∷ m.1) (runs_message before_prolog v ts e) m.3).0
   where
     none : (t : Token) (r : List Token) → ◌≡◌ {A = List Token} (t ∷ r) [] → ⊥

@@ -24,6 +24,7 @@ use Rattle.mos_lexer.proofs.Whole.{position_done}
 use Rattle.mos_rejections.specs.Alive.{IsOpenMessage, Fronts, IsNoRaw, MayFollow, is_text, BeginsToken, IsAlive}
 use Rattle.mos_rejections.proofs.Shape.{Sound, IsNotTail, IsTagState, meets_same, not_white}
 use Rattle.mos_rejections.proofs.Running.{tail_inside}
+use Rattle.mos_rejections.proofs.Tracing.{traced}
 use Rattle.mos_rejections.proofs.AliveRuns.{a_tag, a_is, a_written, tail_read, outside_from, push_run}
 use Rattle.mos_rejections.proofs.Witness.{completion}
 
@@ -166,6 +167,7 @@ pub record Reached (c : List ℕ) (p : Position) (l : LexState) (front : List �
   pub tail_at : TailAt p l
   pub sound : Sound (is_outside p) l part
   pub stood : char_run opening_spot c ≡ Some (record { position = p; lex = l })
+  pub begins_at : traced c ≡ front
 
 pub begins_no_raw : (ts : List Token) (p : Position) → message_run (before_message before_prolog) ts ≡ Ok p → lex_at p ≡ begin → IsNoRaw ts
 begins_no_raw ts p e b x m = let t = tail_read ts p x e m in tail_inside p t.0 x b t.1

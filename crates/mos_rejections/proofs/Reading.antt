@@ -25,16 +25,17 @@ use Rattle.mos_rejections.specs.Alive.{IsAlive}
 use Rattle.mos_rejections.specs.Rejections.{BreaksReference, Shows, no_token as shows_no_token}
 use Rattle.mos_rejections.proofs.Shape.{Sound, IsTagState, StepSound, step_sound}
 use Rattle.mos_rejections.proofs.AliveRuns.{alive_runs}
-use Rattle.mos_rejections.proofs.Reaching.{Reached}
+use Rattle.mos_rejections.proofs.Tracing.{trace}
+use Rattle.mos_rejections.proofs.Reaching.{Reached, begins_token}
 use Rattle.mos_rejections.proofs.Stepping.{goes_on, goes_over, goes_to_tag, goes_over_mark}
 use Rattle.mos_rejections.proofs.Amp.{is_part, begun_parts, amp_no_tag}
 use Rattle.mos_rejections.proofs.Rejecting.{stands, whole_shows, text_shows, mark_text_shows, mark_shows, reference_shows, begins_no_token, tag_no_text}
 
 -- ---- from where the machine stands, on
 
-pub start_reached : Reached [] (before_message before_prolog) begin []
-unfolding message_run char_run
-start_reached = record { tokens = []; part = []; whole = refl; fronts = refl; ran = refl; open_at = tt; begun = λ r ts w. w; tail_at = refl; sound = refl; stood = refl }
+unfoldable pub start_reached : Reached [] (before_message before_prolog) begin []
+unfolding message_run char_run trace
+start_reached = record { tokens = []; part = []; whole = refl; fronts = refl; ran = refl; open_at = tt; begun = λ r ts w. w; tail_at = refl; sound = refl; stood = refl; begins_at = refl }
 
 -- what the machine stands at behind one more character, if a message is still open
 pub record Next (c : List ℕ) (w : Spot) : Type 0 where
@@ -124,11 +125,11 @@ run_reached (d ∷ ds) c s w n e o = subst (λ (z : List ℕ). Next z w) (append
         two (inl k) = f u (let h = n.reached in next_reached c s.position s.lex n.front h d u i k) j
         two (inr k) = absurd (subst IsOpenAt (complete_run ds u w k.0 k.1 j) o)
 
-start_next : Next [] opening_spot
+pub start_next : Next [] opening_spot
 start_next = record { front = []; reached = start_reached }
 
 -- a front of characters that are read is read
-front_run : (b ds : List ℕ) (w : Spot) → char_run opening_spot (b ++ ds) ≡ Some w → (u : Spot) × (char_run opening_spot b ≡ Some u) × (char_run u ds ≡ Some w)
+pub front_run : (b ds : List ℕ) (w : Spot) → char_run opening_spot (b ++ ds) ≡ Some w → (u : Spot) × (char_run opening_spot b ≡ Some u) × (char_run u ds ≡ Some w)
 front_run b ds w e = go (char_run opening_spot b) refl (sym (char_run_append b ds opening_spot) ∙ e)
   where
     go : (o : Option Spot) → char_run opening_spot b ≡ o → then_spot o (λ u. char_run u ds) ≡ Some w → (u : Spot) × (char_run opening_spot b ≡ Some u) × (char_run u ds ≡ Some w)
@@ -172,7 +173,7 @@ narrow (c ∷ m) h =
     small c h = grind (arith, nat_tests)
 
 -- the place of an `&`
-amp_place : (c x m : List ℕ) (d k : ℕ) → c ≡ x ++ 38 ∷ m → begins_reference m ≡ true → reference_of m ≡ None → k ≡ length (m ++ d ∷ []) → width_of c - k ≡ width_of x
+pub amp_place : (c x m : List ℕ) (d k : ℕ) → c ≡ x ++ 38 ∷ m → begins_reference m ≡ true → reference_of m ≡ None → k ≡ length (m ++ d ∷ []) → width_of c - k ≡ width_of x
 amp_place c x m d k e b n i =
     let w : width_of c ≡ width_of x + width_of (38 ∷ m) = ap width_of e ∙ width_append x (38 ∷ m) in
     let a : width_of (38 ∷ m) ≡ 1 + width_of m = length-append (encode_utf16 38) (units_of m) in
@@ -235,7 +236,7 @@ lexed_facts c s r d count n = go (lex_step (is_outside s.position) s.lex d) refl
         two : (o : Result Position Fault) → message_step s.position (text raw y) ≡ o → CharFacts c d (at_token s.start o (λ p. at_token s.count (message_step p mark) (rests_at s.count count)))
         two (Ok u) j = three u j (message_step u mark) refl
         two (Err k) j = (r.front, r.start_is, mark_text_shows c s.position s.lex r.front h d raw y k i a.0 a.1 a.2 a.3 a.4 a.5 j)
-    go no_token i a = (r.front, r.start_is, shows_no_token h.tokens r.front h.part s.position (stands c s.position s.lex r.front h) (begins_no_token c s.position s.lex r.front h d i) (tag_no_text c s.position s.lex r.front h a) (tag_no_reference c s.position s.lex r.front h d a))
+    go no_token i a = (r.front, r.start_is, shows_no_token h.tokens r.front h.part s.position (stands c s.position s.lex r.front h) (begins_token c s.position s.lex r.front h) (begins_no_token c s.position s.lex r.front h d i) (tag_no_text c s.position s.lex r.front h a) (tag_no_reference c s.position s.lex r.front h d a))
     go (no_reference k) i a =
         let e : c ≡ (r.front ++ a.before) ++ 38 ∷ a.m = h.whole ∙ ap (λ (z : List ℕ). r.front ++ z) a.whole ∙ sym (append_assoc r.front a.before (38 ∷ a.m)) in
         (r.front ++ a.before, ap (λ (z : ℕ). z - k) r.count_is ∙ amp_place c (r.front ++ a.before) a.m d k e a.begun a.not_whole a.count, reference_shows c s.position s.lex r.front h d k a)

@@ -1,5 +1,5 @@
 -- What a character shows that the machine rejects.
-use Rattle.std.proofs.Common.{◌≡◌, ℕ, Bool, true, false, List, [], ◌∷◌, ◌++◌, Option, Some, Result, Ok, Err, refl, sym, ap, subst, ◌∙◌, append_assoc, codes, inl, inr}
+use Rattle.std.proofs.Common.{◌≡◌, ℕ, Bool, true, false, List, [], ◌∷◌, ◌++◌, Option, Some, Ok, Err, refl, sym, ap, subst, ◌∙◌, append_assoc, codes, inl, inr}
 use Rattle.std.specs.Prelude.{◌||◌}
 use Rattle.mos_fields.specs.Characters.{Text}
 use Rattle.mos_fields.specs.Names.{is_empty}
@@ -18,8 +18,8 @@ use Rattle.mos_lexer.proofs.Forward.{lex_forward}
 use Rattle.mos_lexer.proofs.References.{reference_laws}
 use Rattle.mos_lexer.proofs.Chars.{Fits, Spot}
 use Rattle.mos_rejections.specs.Alive.{IsNoRaw, MayFollow, is_text, BeginsToken}
-use Rattle.mos_rejections.specs.Rejections.{StandsAt, BeginsNoToken, Shows, entity, misfit, misfit_text, misfit_mark}
-use Rattle.mos_rejections.proofs.Shape.{IsTailOf, IsNotTail, IsTagState, WholeSound, BreaksReference as PartBreaks}
+use Rattle.mos_rejections.specs.Rejections.{BreaksReference, StandsAt, BeginsNoToken, Shows, entity, misfit, misfit_text, misfit_mark}
+use Rattle.mos_rejections.proofs.Shape.{IsTailOf, IsNotTail, IsTagState, WholeSound, not_text, BreaksReference as PartBreaks}
 use Rattle.mos_rejections.proofs.Running.{going, fitting_at}
 use Rattle.mos_rejections.proofs.AliveRuns.{outside_from, push_run, fronts_write, ending}
 use Rattle.mos_rejections.proofs.Reaching.{TailAt, lex_begins, Reached, begins_no_raw, open_message, tail_comes, Finish, by_tag, by_text, by_tail, IsTag, finish, one_written}
@@ -58,29 +58,26 @@ tail_place p (end_white m) n t e = absurd e
 tail_place p (in_question k) n t e = absurd e
 tail_place p (in_declaration b) n t e = absurd e
 
+-- the rest of a raw element fits
+pub tail_whole : (c : List ℕ) (p : Position) (l : LexState) (front : List ℕ) (h : Reached c p l front) (d : ℕ) (y : Text) → WholeSound (is_outside p) l h.part d (tail y) → (u : Position) × (message_step p (tail y) ≡ Ok u)
+tail_whole c p l front h d y s = tail_comes p s.0 y (tail_place p l s.0 h.tail_at s.1) (subst (λ (z : Text). is_tail s.0 z ≡ true) (sym s.3) s.2)
+
+-- a token that the character ends may follow
+pub whole_follows : (c : List ℕ) (p : Position) (l : LexState) (front : List ℕ) (h : Reached c p l front) (d : ℕ) (t : Token) → WholeSound (is_outside p) l h.part d t → MayFollow h.tokens t
+whole_follows c p l front h d (open_tag n g raw) s = no_raw c p l front h s
+whole_follows c p l front h d (empty_tag n g raw) s = no_raw c p l front h s
+whole_follows c p l front h d (close_tag n) s = no_raw c p l front h s
+whole_follows c p l front h d declaration s = no_raw c p l front h s
+whole_follows c p l front h d mark s = (no_raw c p l front h s.1, sym (outside_from h.tokens before_prolog p h.ran) ∙ s.0)
+whole_follows c p l front h d (text x y) s = absurd s
+whole_follows c p l front h d (tail y) s =
+    let u = tail_whole c p l front h d y s in
+    message_runs_begin before_prolog (h.tokens ++ tail y ∷ []) u.0 (push_run h.tokens (before_message before_prolog) p (tail y) u.0 h.ran u.1)
+
 -- a whole token that does not fit
 pub whole_shows : (c : List ℕ) (p : Position) (l : LexState) (front : List ℕ) (h : Reached c p l front) (d : ℕ) (t : Token) (k : Fault) → lex_step (is_outside p) l d ≡ whole_token t → WholeSound (is_outside p) l h.part d t → message_step p t ≡ Err k → Shows c d front (kind_of k)
-whole_shows c p l front h d t k e s r = go t s (token_written c p l front h d t e).0 r
-  where
-    misfits : (t : Token) → is_text t ≡ false → MayFollow h.tokens t → Written t (h.part ++ d ∷ []) → message_step p t ≡ Err k → Shows c d front (kind_of k)
-    misfits t n m w r = misfit h.tokens front (h.part ++ d ∷ []) t p k (stands_more c p l front h d) w n m r
-
-    clash : (u : Position) → message_step p t ≡ Ok u → message_step p t ≡ Err k → ⊥
-    clash u a b = no (sym a ∙ b)
-      where
-        no : ◌≡◌ {A = Result Position Fault} (Ok u) (Err k) → ⊥
-        no e = cc
-
-    go : (t : Token) → WholeSound (is_outside p) l h.part d t → Written t (h.part ++ d ∷ []) → message_step p t ≡ Err k → Shows c d front (kind_of k)
-    go (open_tag n g raw) s w r = misfits (open_tag n g raw) refl (no_raw c p l front h s) w r
-    go (empty_tag n g raw) s w r = misfits (empty_tag n g raw) refl (no_raw c p l front h s) w r
-    go (close_tag n) s w r = misfits (close_tag n) refl (no_raw c p l front h s) w r
-    go declaration s w r = misfits declaration refl (no_raw c p l front h s) w r
-    go mark s w r = misfits mark refl (no_raw c p l front h s.1, sym (outside_from h.tokens before_prolog p h.ran) ∙ s.0) w r
-    go (text x y) s w r = absurd s
-    go (tail y) s w r =
-        let u = tail_comes p s.0 y (tail_place p l s.0 h.tail_at s.1) (subst (λ (z : Text). is_tail s.0 z ≡ true) (sym s.3) s.2) in
-        misfits (tail y) refl (message_runs_begin before_prolog (h.tokens ++ tail y ∷ []) u.0 (push_run h.tokens (before_message before_prolog) p (tail y) u.0 h.ran u.1)) w r
+whole_shows c p l front h d t k e s r =
+    misfit h.tokens front (h.part ++ d ∷ []) t p k (stands_more c p l front h d) (token_written c p l front h d t e).0 (not_text (is_outside p) l h.part d t s) (whole_follows c p l front h d t s) r
 
 text_follows : (c : List ℕ) (p : Position) (l : LexState) (front : List ℕ) (h : Reached c p l front) (raw y : Text) → raw ≡ h.part → (is_outside p ≡ true → meets_mark h.part ≡ false) → IsNotTail l → MayFollow h.tokens (text raw y)
 text_follows c p l front h raw y e m n = (no_raw c p l front h n, λ b. subst (λ (z : Text). meets_mark z ≡ false) (sym e) (m (outside_from h.tokens before_prolog p h.ran ∙ b)))
@@ -100,15 +97,18 @@ pub mark_shows : (c : List ℕ) (p : Position) (l : LexState) (front : List ℕ)
 mark_shows c p l front h d raw y q k e is o w s r =
     misfit_mark h.tokens front h.part raw y p q k (stands c p l front h) (mark_written c p l front h d raw y e is) is (sym (outside_from h.tokens before_prolog p h.ran) ∙ o) w s r
 
-pub reference_shows : (c : List ℕ) (p : Position) (l : LexState) (front : List ℕ) (h : Reached c p l front) (d k : ℕ) (b : PartBreaks h.part d k) → Shows c d (front ++ b.before) kinds.Entity
-reference_shows c p l front h d k b = entity (front ++ b.before) (record {
+pub reference_breaks : (c : List ℕ) (p : Position) (l : LexState) (front : List ℕ) (h : Reached c p l front) (d k : ℕ) (b : PartBreaks h.part d k) → BreaksReference c d (front ++ b.before)
+reference_breaks c p l front h d k b = record {
   m = b.m;
   whole = h.whole ∙ ap (λ (z : List ℕ). front ++ z) b.whole ∙ sym (append_assoc front b.before (38 ∷ b.m));
   begun = b.begun;
   not_whole = b.not_whole;
   no_reference = b.no_reference;
   stuck = b.stuck;
-})
+}
+
+pub reference_shows : (c : List ℕ) (p : Position) (l : LexState) (front : List ℕ) (h : Reached c p l front) (d k : ℕ) (b : PartBreaks h.part d k) → Shows c d (front ++ b.before) kinds.Entity
+reference_shows c p l front h d k b = entity (front ++ b.before) (reference_breaks c p l front h d k b)
 
 -- ---- no token
 

@@ -173,7 +173,7 @@ unfolding is_tail
 tail_rest n x us r h sp = (x, sp.1, us, h, sp.4 ∙ ap (λ (z : List ℕ). z ++ sp.1) sp.2, refl, sp.5)
 
 -- how the next token begins
-next_lex : (u q : Position) (ts : List Token) (t : Token) (us : List Token) (r : List ℕ) → message_run u ts ≡ Ok q → Last q t us → WritesTokens (ts ++ t ∷ us) r → LexRest (lex_at u) r (ts ++ t ∷ us)
+pub next_lex : (u q : Position) (ts : List Token) (t : Token) (us : List Token) (r : List ℕ) → message_run u ts ≡ Ok q → Last q t us → WritesTokens (ts ++ t ∷ us) r → LexRest (lex_at u) r (ts ++ t ∷ us)
 next_lex u q [] t us r e last sp = subst (λ (z : Position). LexRest (lex_at z) r (t ∷ us)) (sym (run_nothing u q e)) (last.raw r sp)
 next_lex (before_message g) q (a ∷ ts) t us r e last sp = sp
 next_lex (inside (complete v)) q (a ∷ ts) t us r e last sp = sp
@@ -201,7 +201,7 @@ fitting_at p q l ts t us f e last = tt
 too_long : {A : Type 0} (cs more : List ℕ) → length (cs ++ more) < length more → A
 too_long cs more h = absurd (let e = length-append cs more in omega (arith, h, e))
 
-head_is : (a b : Token) (x y : List Token) → (a ∷ x) ≡ (b ∷ y) → (a ≡ b) × (x ≡ y)
+pub head_is : (a b : Token) (x y : List Token) → (a ∷ x) ≡ (b ∷ y) → (a ≡ b) × (x ≡ y)
 head_is a b x y e = (cc, cc)
 
 -- where the reading of characters comes to, and what is left of the tokens

@@ -9,6 +9,7 @@ use Rattle.mos_fields.specs.Raw.{end_text, ends_with, tail_from, is_tail, is_spa
 use Rattle.mos_fields.specs.Forms.{is_white, behind_white}
 use Rattle.mos_grammar.specs.Tokens.{Token, open_tag, empty_tag, close_tag, text, tail, mark, declaration}
 use Rattle.mos_lexer.specs.Lexing.{byte_order_mark, begins_with, meets_mark}
+use Rattle.mos_rejections.specs.Alive.{is_text}
 use Rattle.mos_lexer.specs.LexMachine.{Tag, LexState, begin, in_text, text_reference, in_tag, start_name, in_start, attribute_name, before_equals, before_value, in_value, value_reference, before_close, end_name, end_white, in_tail, in_question, in_declaration, LexStep, continues, whole_token, text_before, text_before_mark, no_token, no_reference, continues_if, more_attributes, referred, reference_step, start_step, equals_step, lex_step}
 
 -- behind the last `&` stands the beginning of a reference
@@ -89,6 +90,16 @@ WholeSound o l p c declaration = IsNotTail l
 WholeSound o l p c mark = (o ≡ true) × IsNotTail l
 WholeSound o l p c (text raw y) = ⊥
 WholeSound o l p c (tail y) = (n : Text) × IsTailOf n l × (is_tail n (p ++ c ∷ []) ≡ true) × (y ≡ p ++ c ∷ [])
+
+-- no text is whole with its last character
+pub not_text : (o : Bool) (l : LexState) (p : Text) (c : ℕ) (t : Token) → WholeSound o l p c t → is_text t ≡ false
+not_text o l p c (open_tag n g raw) h = refl
+not_text o l p c (empty_tag n g raw) h = refl
+not_text o l p c (close_tag n) h = refl
+not_text o l p c (text raw y) h = absurd h
+not_text o l p c (tail x) h = refl
+not_text o l p c mark h = refl
+not_text o l p c declaration h = refl
 
 -- what one more character comes to
 abbrev pub StepSound : Bool → LexState → Text → ℕ → LexStep → Type 0

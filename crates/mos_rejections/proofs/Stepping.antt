@@ -19,6 +19,7 @@ use Rattle.mos_rejections.specs.Alive.{Fronts}
 use Rattle.mos_rejections.proofs.Shape.{Sound, IsTailOf, KeepsTail}
 use Rattle.mos_rejections.proofs.Running.{sound_at}
 use Rattle.mos_rejections.proofs.AliveRuns.{a_tag, a_is, ends_more, push_run}
+use Rattle.mos_rejections.proofs.Tracing.{fronted, trace_push}
 use Rattle.mos_rejections.proofs.Reaching.{TailAt, lex_begins, Reached}
 
 -- ---- fronts
@@ -45,7 +46,7 @@ fronts_more (k ∷ ts) x p q f = (
   fronts_more ts f.1 p q f.5,
 )
 
-one_front : (t : Token) (y q : List ℕ) → Written t y → Ends t [] q → Fronts (t ∷ []) y q
+pub one_front : (t : Token) (y q : List ℕ) → Written t y → Ends t [] q → Fronts (t ∷ []) y q
 one_front t y q w e = (y, [], w, e, sym (append-nil y), refl)
 
 -- ---- what a whole token is written as
@@ -94,7 +95,7 @@ tail_at_same p (end_white n) m2 y2 t e = absurd e
 tail_at_same p (in_question k) m2 y2 t e = absurd e
 tail_at_same p (in_declaration b) m2 y2 t e = absurd e
 
-tail_kept : (p : Position) (l k : LexState) → TailAt p l → KeepsTail k l → TailAt p k
+pub tail_kept : (p : Position) (l k : LexState) → TailAt p l → KeepsTail k l → TailAt p k
 tail_kept p l (in_tail m y) t e = tail_at_same p l m y t e
 tail_kept p l begin t e = lex_begins p l t e
 tail_kept p l (in_text raw y) t e = lex_begins p l t e
@@ -113,7 +114,7 @@ tail_kept p l (end_white n) t e = lex_begins p l t e
 tail_kept p l (in_question j) t e = lex_begins p l t e
 tail_kept p l (in_declaration b) t e = lex_begins p l t e
 
-pub goes_on : (c : List ℕ) (p : Position) (l : LexState) (front : List ℕ) (h : Reached c p l front) (d : ℕ) (k : LexState) → lex_step (is_outside p) l d ≡ continues k → Sound (is_outside p) k (h.part ++ d ∷ []) → KeepsTail k l → Reached (c ++ d ∷ []) p k front
+unfoldable pub goes_on : (c : List ℕ) (p : Position) (l : LexState) (front : List ℕ) (h : Reached c p l front) (d : ℕ) (k : LexState) → lex_step (is_outside p) l d ≡ continues k → Sound (is_outside p) k (h.part ++ d ∷ []) → KeepsTail k l → Reached (c ++ d ∷ []) p k front
 goes_on c p l front h d k e s kt = record {
   tokens = h.tokens;
   part = h.part ++ d ∷ [];
@@ -125,6 +126,7 @@ goes_on c p l front h d k e s kt = record {
   tail_at = tail_kept p l k h.tail_at kt;
   sound = s;
   stood = run_push c d (record { position = p; lex = l }) h.stood ∙ ap (taken p) e;
+  begins_at = trace_push c d (record { position = p; lex = l }) (record { position = p; lex = k }) front h.stood (ap (taken p) e) h.begins_at ∙ ap (fronted c d front) e;
 }
 
 -- a position's first state
@@ -136,7 +138,7 @@ tail_rests (inside (at (in_field n o) f fs)) = refl
 tail_rests (inside (at (behind_text n o es) f fs)) = refl
 tail_rests (inside (at (in_raw n p tag) f fs)) = refl
 
-pub goes_over : (c : List ℕ) (p : Position) (l : LexState) (front : List ℕ) (h : Reached c p l front) (d : ℕ) (t : Token) (q : Position) → lex_step (is_outside p) l d ≡ whole_token t → message_step p t ≡ Ok q → IsOpenAt q → Reached (c ++ d ∷ []) q (lex_at q) (c ++ d ∷ [])
+unfoldable pub goes_over : (c : List ℕ) (p : Position) (l : LexState) (front : List ℕ) (h : Reached c p l front) (d : ℕ) (t : Token) (q : Position) → lex_step (is_outside p) l d ≡ whole_token t → message_step p t ≡ Ok q → IsOpenAt q → Reached (c ++ d ∷ []) q (lex_at q) (c ++ d ∷ [])
 goes_over c p l front h d t q e s o =
     let w = token_written c p l front h d t e in
     let i : c ++ d ∷ [] ≡ front ++ (h.part ++ d ∷ []) = ap (λ (z : List ℕ). z ++ d ∷ []) h.whole ∙ append_assoc front h.part (d ∷ []) in
@@ -152,9 +154,10 @@ goes_over c p l front h d t q e s o =
       tail_at = tail_rests q;
       sound = sound_at q;
       stood = run_push c d (record { position = p; lex = l }) h.stood ∙ ap (taken p) e ∙ ap (λ (o : Result Position Fault). behind_token o rests) s;
+      begins_at = trace_push c d (record { position = p; lex = l }) (record { position = q; lex = lex_at q }) front h.stood (ap (taken p) e ∙ ap (λ (o : Result Position Fault). behind_token o rests) s) h.begins_at ∙ ap (fronted c d front) e;
     }
 
-pub goes_to_tag : (c : List ℕ) (p : Position) (l : LexState) (front : List ℕ) (h : Reached c p l front) (d : ℕ) (raw y : Text) (q : Position) → lex_step (is_outside p) l d ≡ text_before raw y in_tag → d ≡ 60 → message_step p (text raw y) ≡ Ok q → Reached (c ++ d ∷ []) q in_tag c
+unfoldable pub goes_to_tag : (c : List ℕ) (p : Position) (l : LexState) (front : List ℕ) (h : Reached c p l front) (d : ℕ) (raw y : Text) (q : Position) → lex_step (is_outside p) l d ≡ text_before raw y in_tag → d ≡ 60 → message_step p (text raw y) ≡ Ok q → Reached (c ++ d ∷ []) q in_tag c
 goes_to_tag c p l front h d raw y q e is s =
     let w = text_written c p l front h d raw y e is in
     record {
@@ -169,9 +172,10 @@ goes_to_tag c p l front h d raw y q e is s =
       tail_at = text_begins p raw y q s;
       sound = ap (λ (z : ℕ). z ∷ []) is;
       stood = run_push c d (record { position = p; lex = l }) h.stood ∙ ap (taken p) e ∙ ap (λ (o : Result Position Fault). behind_token o (λ u. Some (record { position = u; lex = in_tag }))) s;
+      begins_at = trace_push c d (record { position = p; lex = l }) (record { position = q; lex = in_tag }) front h.stood (ap (taken p) e ∙ ap (λ (o : Result Position Fault). behind_token o (λ u. Some (record { position = u; lex = in_tag }))) s) h.begins_at ∙ ap (fronted c d front) e;
     }
 
-pub goes_over_mark : (c : List ℕ) (p : Position) (l : LexState) (front : List ℕ) (h : Reached c p l front) (d : ℕ) (raw y : Text) (u q : Position) → lex_step (is_outside p) l d ≡ text_before_mark raw y → d ≡ byte_order_mark
+unfoldable pub goes_over_mark : (c : List ℕ) (p : Position) (l : LexState) (front : List ℕ) (h : Reached c p l front) (d : ℕ) (raw y : Text) (u q : Position) → lex_step (is_outside p) l d ≡ text_before_mark raw y → d ≡ byte_order_mark
     → message_step p (text raw y) ≡ Ok u → message_step u mark ≡ Ok q → IsOpenAt q → Reached (c ++ d ∷ []) q (lex_at q) (c ++ d ∷ [])
 goes_over_mark c p l front h d raw y u q e is s s2 o =
     let w = mark_written c p l front h d raw y e is in
@@ -190,6 +194,7 @@ goes_over_mark c p l front h d raw y u q e is s s2 o =
       tail_at = tail_rests q;
       sound = sound_at q;
       stood = run_push c d (record { position = p; lex = l }) h.stood ∙ ap (taken p) e ∙ ap (λ (o : Result Position Fault). behind_token o (λ w. behind_token (message_step w mark) rests)) s ∙ ap (λ (o : Result Position Fault). behind_token o rests) s2;
+      begins_at = trace_push c d (record { position = p; lex = l }) (record { position = q; lex = lex_at q }) front h.stood (ap (taken p) e ∙ ap (λ (o : Result Position Fault). behind_token o (λ w. behind_token (message_step w mark) rests)) s ∙ ap (λ (o : Result Position Fault). behind_token o rests) s2) h.begins_at ∙ ap (fronted c d front) e;
     }
   where
     or_true : (b : Bool) → (b || true) ≡ true

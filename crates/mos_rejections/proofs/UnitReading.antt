@@ -15,7 +15,7 @@ use Rattle.mos_lexer.specs.Units.{message_limit, is_outside, Reader, start_reade
 use Rattle.mos_lexer.proofs.Chars.{Spot, char_of, char_run, opening_spot, run_message}
 use Rattle.mos_lexer.proofs.Places.{Agrees, read_agrees}
 use Rattle.mos_lexer.proofs.UnitReads.{pair_units, push_allowed, push_units, run_push}
-use Rattle.mos_rejections.specs.Rejections.{waiting, IsWaiting, AreAlive, ShowsUnit, lone_low, lone_high, forbidden, wrong_char, too_many, IsRejection}
+use Rattle.mos_rejections.specs.Rejections.{waiting, IsWaiting, AreAlive, is_character, ShowsUnit, lone_low, lone_high, forbidden, wrong_char, too_many, IsRejection}
 use Rattle.mos_rejections.specs.Laws.{RunIsExact, RunsAreExact, values, StreamIsExact, StreamsAreExact}
 use Rattle.mos_rejections.proofs.Reaching.{Reached, alive_at}
 use Rattle.mos_rejections.proofs.Reading.{start_reached, width_of, width_one, ReaderAt, CharFacts, lexed_facts, dead_at, no_message_at}
@@ -39,8 +39,8 @@ UnitFacts us u (completes began v) = (c : List ℕ) × (are_allowed c ≡ true) 
 UnitFacts us u (rejects place k) = ShowsUnit us u place k
 
 -- a whole character
-char_facts : (us : List ℕ) (u : ℕ) (s : Reader) (h : UnitsAt us s) (place count d : ℕ) → us ++ u ∷ [] ≡ units_of h.chars ++ encode_utf16 d → place ≡ width_of h.chars → count ≡ length (us ++ u ∷ []) → UnitFacts us u (read_char s place count d)
-char_facts us u s h place count d e pl n = go (is_allowed d) refl
+char_facts : (us : List ℕ) (u : ℕ) (s : Reader) (h : UnitsAt us s) (place count d : ℕ) → is_character d ≡ true → us ++ u ∷ [] ≡ units_of h.chars ++ encode_utf16 d → place ≡ width_of h.chars → count ≡ length (us ++ u ∷ []) → UnitFacts us u (read_char s place count d)
+char_facts us u s h place count d ch e pl n = go (is_allowed d) refl
   where
     r : ReaderAt h.chars (record { position = s.position; lex = s.lex; start = s.start; opened = s.opened; count = place; high = None })
     r = h.reader place pl
@@ -81,9 +81,15 @@ char_facts us u s h place count d e pl n = go (is_allowed d) refl
       where
         allowed_read : is_allowed d ≡ true → read_char s place count d ≡ lexed s place count (lex_step (is_outside s.position) s.lex d)
         allowed_read a = rw a refl
-    go false a = rw a (subst (λ (z : ℕ). ShowsUnit us u z kinds.BadChar) (sym pl) (forbidden h.chars d e a))
+    go false a = rw a (subst (λ (z : ℕ). ShowsUnit us u z kinds.BadChar) (sym pl) (forbidden h.chars d h.allowed e ch a))
 
-one_more : (us : List ℕ) (u : ℕ) → length (us ++ u ∷ []) ≡ length us + 1
+pub unit_character : (u : ℕ) → u < 65536 → is_high u ≡ false → is_low u ≡ false → is_character u ≡ true
+unit_character u s a b = grind (arith, nat_tests)
+
+pair_character : (h u : ℕ) → is_high h ≡ true → is_low u ≡ true → is_character (pair_char h u) ≡ true
+pair_character h u a b = grind (arith, nat_tests)
+
+pub one_more : (us : List ℕ) (u : ℕ) → length (us ++ u ∷ []) ≡ length us + 1
 one_more us u = length-append us (u ∷ [])
 
 -- one code unit, behind a high one or not
@@ -98,8 +104,8 @@ unit_facts us s h u small None e = go (is_high u) refl (is_low u) refl
 
     go : (a : Bool) → is_high u ≡ a → (b : Bool) → is_low u ≡ b → UnitFacts us u (unit_read s u None)
     go true a b d = rw a (record { chars = h.chars; allowed = h.allowed; units = ap (λ (z : List ℕ). z ++ u ∷ []) whole; waits = a; reader = h.reader; counted = counts })
-    go false a true d = rw (a, d) (subst (λ (z : ℕ). ShowsUnit us u z kinds.BadUnit) (sym h.counted) (lone_low h.chars whole d))
-    go false a false d = rw (a, d) (char_facts us u s h s.count (s.count + 1) u (ap (λ (z : List ℕ). z ++ u ∷ []) whole ∙ ap (λ (z : List ℕ). units_of h.chars ++ z) (sym (one_unit u small))) (h.counted ∙ ap length whole) counts)
+    go false a true d = rw (a, d) (subst (λ (z : ℕ). ShowsUnit us u z kinds.BadUnit) (sym h.counted) (lone_low h.chars h.allowed whole d))
+    go false a false d = rw (a, d) (char_facts us u s h s.count (s.count + 1) u (unit_character u small a d) (ap (λ (z : List ℕ). z ++ u ∷ []) whole ∙ ap (λ (z : List ℕ). units_of h.chars ++ z) (sym (one_unit u small))) (h.counted ∙ ap length whole) counts)
 unit_facts us s h u small (Some d) e = go (is_low u) refl
   where
     counts : s.count + 1 ≡ length (us ++ u ∷ [])
@@ -115,9 +121,9 @@ unit_facts us s h u small (Some d) e = go (is_low u) refl
     place = (let a = h.counted in let b : length us ≡ width_of h.chars + 1 = ap length whole ∙ one_more (units_of h.chars) d in omega (arith, a, b))
 
     go : (b : Bool) → is_low u ≡ b → UnitFacts us u (unit_read s u (Some d))
-    go true b = rw b (char_facts us u s h (s.count - 1) (s.count + 1) (pair_char d u)
+    go true b = rw b (char_facts us u s h (s.count - 1) (s.count + 1) (pair_char d u) (pair_character d u high b)
         (ap (λ (z : List ℕ). z ++ u ∷ []) whole ∙ append_assoc (units_of h.chars) (d ∷ []) (u ∷ []) ∙ ap (λ (z : List ℕ). units_of h.chars ++ z) (sym (pair_units d u high b))) place counts)
-    go false b = rw b (subst (λ (z : ℕ). ShowsUnit us u z kinds.BadUnit) (sym place) (lone_high h.chars d whole high b))
+    go false b = rw b (subst (λ (z : ℕ). ShowsUnit us u z kinds.BadUnit) (sym place) (lone_high h.chars d h.allowed whole high b))
 
 -- what a step comes to
 abbrev pub StepFacts : List ℕ → ℕ → UnitStep → Type 0
@@ -142,7 +148,7 @@ step_facts us s h fit u small = go (nat_le message_limit s.count) refl (unit_rea
     go false e (reads_on t) f = rw e (f, room e)
     go false e (completes began v) f = rw e (record { chars = f.0; allowed = f.1; units = f.2; encodes = f.3; short = room e })
 
-start_at : UnitsAt [] start_reader
+pub start_at : UnitsAt [] start_reader
 start_at = record { chars = []; allowed = refl; units = refl; waits = tt; reader = λ k i. record { front = []; reached = start_reached; start_is = refl; count_is = i }; counted = refl }
 
 abbrev pub RunFacts : List ℕ → UnitRun → Type 0
@@ -153,7 +159,7 @@ RunFacts us (rejected_at place k) = (x : List ℕ) × (rest : List ℕ) × (us �
 first_unit : (u : ℕ) (ds : List ℕ) → are_units (u ∷ ds) ≡ true → (u < 65536) × (are_units ds ≡ true)
 first_unit u ds w = (let e : (nat_lt u 65536 && are_units ds) ≡ true = w in (grind (arith, nat_tests), grind (arith, nat_tests)))
 
-run_facts : (ds us : List ℕ) (s : Reader) → UnitsAt us s → length us ≤ message_limit → are_units ds ≡ true → RunFacts (us ++ ds) (unit_run s ds)
+pub run_facts : (ds us : List ℕ) (s : Reader) → UnitsAt us s → length us ≤ message_limit → are_units ds ≡ true → RunFacts (us ++ ds) (unit_run s ds)
 unfolding unit_run
 run_facts [] us s h fit w = rw (append-nil us) (h, fit)
 run_facts (u ∷ ds) us s h fit w = let k = first_unit u ds w in go (λ t g f. run_facts ds (us ++ u ∷ []) t g f k.1) (unit_step s u) (step_facts us s h fit u k.0)

@@ -1,6 +1,6 @@
 -- Which code units show that a stream is rejected, where, and as what. All is stated of one message, from the end of the
 -- message before; a place counts code units from there.
-use Rattle.std.specs.Prelude.{◌≡◌, ℕ, true, false, List, [], ◌∷◌, ◌++◌, length, Option, Some, None, Ok, Err, ◌⊎◌, ◌≤◌}
+use Rattle.std.specs.Prelude.{◌≡◌, ℕ, Bool, true, false, List, [], ◌∷◌, ◌++◌, length, Option, Some, None, Ok, Err, ◌⊎◌, ◌≤◌, ◌&&◌, ◌||◌, nat_le}
 use Rattle.std.specs.Char.Escape.{encode_utf16}
 use Rattle.mos_fields.specs.Characters.{Text, is_allowed, are_allowed, is_high, is_low, units_of}
 use Rattle.mos_fields.specs.References.{reference_of, begins_reference}
@@ -14,7 +14,7 @@ use Rattle.mos_lexer.specs.declared.kind.Kind.TheVariants.{BadUnit, BadChar, Ent
 use Rattle.mos_lexer.specs.Lexing.{byte_order_mark, Written}
 use Rattle.mos_lexer.specs.Units.{kind_of, message_limit}
 use Rattle.mos_lexer.specs.Encodings.{EncodesChars}
-use Rattle.mos_rejections.specs.Alive.{IsOpenMessage, Fronts, is_before_mos, MayFollow, is_text, IsAlive}
+use Rattle.mos_rejections.specs.Alive.{IsOpenMessage, Fronts, is_before_mos, MayFollow, is_text, BeginsToken, IsAlive}
 
 -- Behind the characters x stands an `&`, behind it the beginning m of a reference, and the character d shows that no
 -- reference begins so.
@@ -54,8 +54,8 @@ pub data Shows (c : List ℕ) (d : ℕ) : List ℕ → Kind → Type 0 where
   -- U+FEFF that does not fit behind white space that does
   misfit_mark : (ts : List Token) (front x raw y : List ℕ) (p q : Position) (k : Fault) → StandsAt ts front x c p → Written (text raw y) x → d ≡ byte_order_mark → is_before_mos ts ≡ true → is_white raw ≡ true
       → message_step p (text raw y) ≡ Ok q → message_step q mark ≡ Err k → Shows c d c (kind_of k)
-  -- characters that begin no token, where no text and no reference stands before them
-  no_token : (ts : List Token) (front x : List ℕ) (p : Position) → StandsAt ts front x c p → BeginsNoToken ts (x ++ d ∷ []) → ((raw y : Text) → Written (text raw y) x → ⊥) → ((b : List ℕ) → BreaksReference c d b → ⊥)
+  -- the beginning of a token, with which this character begins none, where no text and no reference stands before it
+  no_token : (ts : List Token) (front x : List ℕ) (p : Position) → StandsAt ts front x c p → BeginsToken ts x → BeginsNoToken ts (x ++ d ∷ []) → ((raw y : Text) → Written (text raw y) x → ⊥) → ((b : List ℕ) → BreaksReference c d b → ⊥)
       → Shows c d front Tag
 
 -- Behind characters that are alive the character shows the fault: with it they are neither alive nor a message.
@@ -98,14 +98,18 @@ pub record IsOpen (us : List ℕ) : Type 0 where
   pub alive : AreAlive us
   pub short : length us ≤ message_limit
 
+-- a character, allowed or not: its number is no half of a pair
+abbrev pub is_character : ℕ → Bool
+is_character d = nat_le d 55295 || (nat_le 57344 d && nat_le d 1114111)
+
 -- Behind the code units us the code unit u shows a fault of this kind at this place.
 pub data ShowsUnit (us : List ℕ) (u : ℕ) : ℕ → Kind → Type 0 where
   -- a low unit behind no high one
-  lone_low : (c : List ℕ) → us ≡ units_of c → is_low u ≡ true → ShowsUnit us u (length us) BadUnit
+  lone_low : (c : List ℕ) → are_allowed c ≡ true → us ≡ units_of c → is_low u ≡ true → ShowsUnit us u (length us) BadUnit
   -- a high unit behind which no low one stands
-  lone_high : (c : List ℕ) (h : ℕ) → us ≡ units_of c ++ h ∷ [] → is_high h ≡ true → is_low u ≡ false → ShowsUnit us u (length (units_of c)) BadUnit
+  lone_high : (c : List ℕ) (h : ℕ) → are_allowed c ≡ true → us ≡ units_of c ++ h ∷ [] → is_high h ≡ true → is_low u ≡ false → ShowsUnit us u (length (units_of c)) BadUnit
   -- a character that XML 1.0 forbids
-  forbidden : (c : List ℕ) (d : ℕ) → us ++ u ∷ [] ≡ units_of c ++ encode_utf16 d → is_allowed d ≡ false → ShowsUnit us u (length (units_of c)) BadChar
+  forbidden : (c : List ℕ) (d : ℕ) → are_allowed c ≡ true → us ++ u ∷ [] ≡ units_of c ++ encode_utf16 d → is_character d ≡ true → is_allowed d ≡ false → ShowsUnit us u (length (units_of c)) BadChar
   -- a character that shows a fault, behind those before it
   wrong_char : (c : List ℕ) (d : ℕ) (front : List ℕ) (k : Kind) → are_allowed c ≡ true → us ++ u ∷ [] ≡ units_of c ++ encode_utf16 d → is_allowed d ≡ true → RejectsChar c d front k → ShowsUnit us u (length (units_of front)) k
   -- one code unit too many, which shows no other fault

@@ -1,6 +1,6 @@
-//! Reads each line of standard input as a stream of MOS messages of its own, an ASCII text that is turned into UCS-2, and
-//! prints what `mos_replay show` says of it. `stdin` beside `src/` holds streams for every message, and `stdout` what is
-//! to be said of each, for this software and any other: see `docs/VECTORS.md`.
+//! Reads each line of standard input as a stream of MOS messages of its own, an ASCII text that is turned into UCS-2, in
+//! which `\feff` is the code unit FEFF, and prints what `mos_replay show` says of it. `stdin` beside `src/` holds streams
+//! for every message, and `stdout` what is to be said of each, for this software and any other: see `docs/VECTORS.md`.
 #![tactic(auto)]
 
 use mos_fields::NoMemory;
@@ -12,11 +12,32 @@ use stream_commands::{Lister, run_stream};
 /// The most lines that are read.
 const MOST: u32 = 100_000;
 
-/// The bytes of an ASCII text in UCS-2, high byte first, without the line feed at its end.
+/// The value of a hexadecimal digit, and 0 of any other byte.
+fn digit(byte: u8) -> u16 {
+    match byte {
+        b'0'..=b'9' => u16::from(byte - b'0'),
+        b'a'..=b'f' => u16::from(byte - b'a') + 10,
+        _ => 0,
+    }
+}
+
+/// The bytes of a line in UCS-2, high byte first, without the line feed at its end. A backslash and the four hexadecimal
+/// digits behind it are one code unit, and any other byte is one.
 fn ucs2(alloc: Global, line: &str) -> Result<Vec<u8>, NoMemory> {
     let mut bytes = Vec::new(alloc);
+    let mut digits_left = 0u8;
+    let mut unit = 0u16;
     for byte in line.as_bytes() {
-        if *byte != b'\n' {
+        if digits_left > 0 {
+            digits_left -= 1;
+            unit = (unit << 4) | digit(*byte);
+            if digits_left == 0 {
+                bytes.extend_from_slice(&unit.to_be_bytes())?;
+            }
+        } else if *byte == b'\\' {
+            digits_left = 4;
+            unit = 0;
+        } else if *byte != b'\n' {
             bytes.extend_from_slice(&[0, *byte])?;
         }
     }
@@ -62,3 +83,6 @@ fn main(rt: HostRuntime) -> ExitCode {
     }
     ExitCode::SUCCESS
 }
+
+#[cfg(test)]
+mod tests;

@@ -1,6 +1,6 @@
--- Entries that are added one after the other.
-use Rattle.std.proofs.Common.{◌≡◌, ℕ, zero, suc, ◌+◌, ◌<◌, ◌≤◌, List, [], ◌∷◌, ◌++◌, length, take, get_or, slice_get, Some, None, sym, ap, ◌∙◌, subst, arith}
-use Rattle.std.proofs.lemmas.List.{take_more, take_all}
+-- Entries that are added behind those of a journal, one after the other.
+use Rattle.std.proofs.Common.{◌≡◌, ℕ, zero, suc, ◌+◌, ◌<◌, ◌≤◌, List, [], ◌∷◌, ◌++◌, length, take, get_or, slice_get, Some, None, refl, sym, ap, ◌∙◌, subst, arith}
+use Rattle.std.proofs.lemmas.List.{append-nil, append_assoc, take_more, take_all}
 use Rattle.mos_edits.specs.KeyedLists.{ActFault}
 use Rattle.mos_edits.specs.Entries.{Entry, Refusal, acceptance, IsAccepted}
 use Rattle.ncs_core.specs.Accepting.{IsRefusal}
@@ -10,44 +10,81 @@ use Rattle.ncs_core.specs.declared.fault.CommandFault.{CommandFault}
 use Rattle.ncs_core.specs.declared.fault.CommandFault.TheVariants.{Stopped, Missing, AlreadyThere, Full, StoreFault, NoMemory}
 use Rattle.ncs_core.proofs.AcceptedRows.{accepted-more}
 
+-- the first of a list, and the next one
 more : (es : List Entry) (n : ℕ) (x : Entry) → n < length es → x ≡ get_or es n x → take n es ++ x ∷ [] ≡ take (n + 1) es
 more es n x h e = sym (take_more es n x h ∙ ap (λ (y : Entry). take n es ++ y ∷ []) (sym e))
 
-there : (es : List Entry) (n : ℕ) (x : Entry) → n < length es → x ≡ get_or es n x → slice_get es n ≡ Some x
-there [] n x h e = absurd (omega (arith, h))
-there (y ∷ ys) zero x h e = ap Some (sym e)
-there (y ∷ ys) (suc n) x h e = there ys n x (omega (arith, h)) e
+more-behind : (j es : List Entry) (n : ℕ) (x : Entry) → n < length es → x ≡ get_or es n x → (j ++ take n es) ++ x ∷ [] ≡ j ++ take (n + 1) es
+more-behind j es n x h e = append_assoc j (take n es) (x ∷ []) ∙ ap (λ (ys : List Entry). j ++ ys) (more es n x h e)
+
+split : (es : List Entry) (n : ℕ) (x : Entry) → n < length es → x ≡ get_or es n x → (rest : List Entry) × (es ≡ take n es ++ x ∷ rest)
+split [] n x h e = absurd (omega (arith, h))
+split (y ∷ ys) zero x h e = (ys, ap (λ (z : Entry). z ∷ ys) (sym e))
+split (y ∷ ys) (suc n) x h e = let s = split ys n x (omega (arith, h)) e in (s.0, ap (λ (zs : List Entry). y ∷ zs) s.1)
+
+there : (front rest : List Entry) (x : Entry) → slice_get (front ++ x ∷ rest) (length front) ≡ Some x
+there [] rest x = refl
+there (y ∷ ys) rest x = there ys rest x
+
+front-is : (front rest : List Entry) → take (length front) (front ++ rest) ≡ front
+front-is [] rest = refl
+front-is (y ∷ ys) rest = ap (λ (zs : List Entry). y ∷ zs) (front-is ys rest)
+
+-- the entry behind this front is the first that isn't accepted
+refused-behind : (front rest : List Entry) (x : Entry) (why : Refusal) → IsAccepted [] front → acceptance front x ≡ Some why → IsFirstRefused (front ++ x ∷ rest) (length front)
+refused-behind front rest x why a w =
+    let is = front-is front (x ∷ rest) in
+    record {
+      entry = x;
+      there = there front rest x;
+      before = subst (λ (xs : List Entry). IsAccepted [] xs) (sym is) a;
+      refused = subst (λ (xs : List Entry). IsRefused (acceptance xs x)) (sym is) (subst IsRefused (sym w) tt);
+    }
+
+cause : (front rest all : List Entry) (x : Entry) (n : ℕ) (f : CommandFault) → all ≡ front ++ x ∷ rest → n ≡ length front → IsAccepted [] front → IsRefusal (acceptance front x) f → IsEntryCause all (entry_cause_of n f)
+cause front rest all x n f whole number a w = by f w
+  where
+    bad : (why : Refusal) → acceptance front x ≡ Some why → IsFirstRefused all n
+    bad why w = subst (λ (m : ℕ). IsFirstRefused all m) (sym number) (subst (λ (es : List Entry). IsFirstRefused es (length front)) (sym whole) (refused-behind front rest x why a w))
+
+    by : (f : CommandFault) → IsRefusal (acceptance front x) f → IsEntryCause all (entry_cause_of n f)
+    by Stopped w = absurd w
+    by (Missing id) w = bad (Refusal.Faulty (ActFault.Missing id)) w
+    by (AlreadyThere id) w = bad (Refusal.Faulty (ActFault.AlreadyThere id)) w
+    by (Full units) w = bad (Refusal.Full units) w
+    by StoreFault w = absurd w
+    by NoMemory w = tt
 
 module _ {K : Type 0} where
-  pub none-added : (s : NcsTables K) (es : List Entry) → s.server.journal ≡ [] → s ≡ with_journal s (take 0 es)
-  none-added s es h = λ i. with_journal s (h i)
+  pub none-added : (s : NcsTables K) (es : List Entry) → s ≡ with_journal s (s.server.journal ++ take 0 es)
+  none-added s es = λ i. with_journal s (sym (append-nil s.server.journal) i)
+
+  pub none-accepted : (s : NcsTables K) (es : List Entry) → IsAccepted [] s.server.journal → IsAccepted [] (s.server.journal ++ take 0 es)
+  none-accepted s es a = subst (λ (xs : List Entry). IsAccepted [] xs) (sym (append-nil s.server.journal)) a
 
   journal-is : (first s : NcsTables K) (xs : List Entry) → s ≡ with_journal first xs → s.server.journal ≡ xs
   journal-is first s xs h = ap (λ (n : NcsTables K). n.server.journal) h
 
-  pub one-added : (first s t : NcsTables K) (es : List Entry) (n : ℕ) (x : Entry) → n < length es → x ≡ get_or es n x → s ≡ with_journal first (take n es) → t ≡ with_journal s (s.server.journal ++ x ∷ []) → t ≡ with_journal first (take (n + 1) es)
-  one-added first s t es n x h e b c = c ∙ (ap (λ (n : NcsTables K). with_journal n (n.server.journal ++ x ∷ [])) b ∙ ap (with_journal first) (more es n x h e))
+  pub one-added : (first s t : NcsTables K) (es : List Entry) (n : ℕ) (x : Entry) → n < length es → x ≡ get_or es n x → s ≡ with_journal first (first.server.journal ++ take n es) → t ≡ with_journal s (s.server.journal ++ x ∷ [])
+      → t ≡ with_journal first (first.server.journal ++ take (n + 1) es)
+  one-added first s t es n x h e b c = c ∙ (ap (λ (n : NcsTables K). with_journal n (n.server.journal ++ x ∷ [])) b ∙ ap (with_journal first) (more-behind first.server.journal es n x h e))
 
-  pub all-added : (first s : NcsTables K) (es : List Entry) (n : ℕ) → length es ≤ n → s ≡ with_journal first (take n es) → s ≡ with_journal first es
-  all-added first s es n h b = b ∙ ap (with_journal first) (take_all n es h)
+  pub all-added : (first s : NcsTables K) (es : List Entry) (n : ℕ) → length es ≤ n → s ≡ with_journal first (first.server.journal ++ take n es) → s ≡ with_journal first (first.server.journal ++ es)
+  all-added first s es n h b = b ∙ ap (λ (xs : List Entry). with_journal first (first.server.journal ++ xs)) (take_all n es h)
 
-  pub one-accepted : (first s : NcsTables K) (es : List Entry) (n : ℕ) (x : Entry) → n < length es → x ≡ get_or es n x → s ≡ with_journal first (take n es) → IsAccepted [] (take n es) → acceptance s.server.journal x ≡ None → IsAccepted [] (take (n + 1) es)
+  pub one-accepted : (first s : NcsTables K) (es : List Entry) (n : ℕ) (x : Entry) → n < length es → x ≡ get_or es n x → s ≡ with_journal first (first.server.journal ++ take n es) → IsAccepted [] (first.server.journal ++ take n es) → acceptance s.server.journal x ≡ None
+      → IsAccepted [] (first.server.journal ++ take (n + 1) es)
   one-accepted first s es n x h e b a c =
-      subst (λ (xs : List Entry). IsAccepted [] xs) (more es n x h e) (accepted-more [] (take n es) x a (subst (λ (j : List Entry). acceptance j x ≡ None) (journal-is first s (take n es) b) c))
+      subst (λ (xs : List Entry). IsAccepted [] xs) (more-behind first.server.journal es n x h e)
+      (accepted-more [] (first.server.journal ++ take n es) x a (subst (λ (j : List Entry). acceptance j x ≡ None) (journal-is first s (first.server.journal ++ take n es) b) c))
 
-  pub first-refused : (first s : NcsTables K) (es : List Entry) (n : ℕ) (x : Entry) (f : CommandFault) → n < length es → x ≡ get_or es n x → s ≡ with_journal first (take n es) → IsAccepted [] (take n es) → IsRefusal (acceptance s.server.journal x) f → IsEntryCause es (entry_cause_of n f)
-  first-refused first s es n x f h e b a c = by f (subst (λ (j : List Entry). IsRefusal (acceptance j x) f) (journal-is first s (take n es) b) c)
-    where
-      bad : (why : Refusal) → acceptance (take n es) x ≡ Some why → IsFirstRefused es n
-      bad why w = record { entry = x; there = there es n x h e; before = a; refused = subst IsRefused (sym w) tt }
+  pub first-refused : (first s : NcsTables K) (es : List Entry) (n number : ℕ) (x : Entry) (f : CommandFault) → n < length es → x ≡ get_or es n x → s ≡ with_journal first (first.server.journal ++ take n es) → number ≡ length s.server.journal
+      → IsAccepted [] (first.server.journal ++ take n es) → IsRefusal (acceptance s.server.journal x) f → IsEntryCause (first.server.journal ++ es) (entry_cause_of number f)
+  first-refused first s es n number x f h e b k a c =
+      let j = first.server.journal in
+      let is = journal-is first s (j ++ take n es) b in
+      let s = split es n x h e in
+      cause (j ++ take n es) s.0 (j ++ es) x number f (ap (λ (xs : List Entry). j ++ xs) s.1 ∙ sym (append_assoc j (take n es) (x ∷ s.0))) (k ∙ ap length is) a (subst (λ (xs : List Entry). IsRefusal (acceptance xs x) f) is c)
 
-      by : (f : CommandFault) → IsRefusal (acceptance (take n es) x) f → IsEntryCause es (entry_cause_of n f)
-      by Stopped w = absurd w
-      by (Missing id) w = bad (Refusal.Faulty (ActFault.Missing id)) w
-      by (AlreadyThere id) w = bad (Refusal.Faulty (ActFault.AlreadyThere id)) w
-      by (Full units) w = bad (Refusal.Full units) w
-      by StoreFault w = absurd w
-      by NoMemory w = tt
-
-pub accepted-all : (es : List Entry) (n : ℕ) → length es ≤ n → IsAccepted [] (take n es) → IsAccepted [] es
-accepted-all es n h a = subst (λ (xs : List Entry). IsAccepted [] xs) (take_all n es h) a
+pub accepted-all : (j es : List Entry) (n : ℕ) → length es ≤ n → IsAccepted [] (j ++ take n es) → IsAccepted [] (j ++ es)
+accepted-all j es n h a = subst (λ (xs : List Entry). IsAccepted [] (j ++ xs)) (take_all n es h) a

@@ -8,3 +8,4 @@ pub mod ListSizes
 pub mod AddedEntries
 pub mod ListedIds
 pub mod KeptUnits
+pub mod KnownFronts

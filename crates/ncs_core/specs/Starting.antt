@@ -1,5 +1,5 @@
 -- Why the server wasn't started.
-use Rattle.std.specs.Prelude.{◌≡◌, ℕ, List, [], take, slice_get, Option, Some, None}
+use Rattle.std.specs.Prelude.{◌≡◌, ℕ, Bool, true, false, List, [], ◌++◌, take, slice_get, Option, Some, None}
 use Rattle.mos_edits.specs.Entries.{Entry, Refusal, acceptance, IsAccepted}
 use Rattle.mos_io.specs.Counts.{Rose}
 use Rattle.rundown_log.specs.Keeping.{AreKept}
@@ -46,3 +46,21 @@ entry_cause_of n fault = BadEntry n
 abbrev pub load_cause_of : KeepFault → StartCause
 load_cause_of keeping.Failed = StoreFault
 load_cause_of keeping.NoMemory = NoMemory
+
+-- ---- what of the keeper is known
+
+-- The entries that a keeper keeps begin with the journal; where no append of this run failed, they are the journal.
+abbrev pub IsFront : Bool → Option (List Entry) → List Entry → Type 0
+IsFront stopped None journal = Unit {0}
+IsFront true (Some kept) journal = (rest : List Entry) × (kept ≡ journal ++ rest)
+IsFront false (Some kept) journal = kept ≡ journal
+
+-- a journal that need not be loaded again
+pub record IsLoadedFront (stopped : Bool) (kept : Option (List Entry)) (journal : List Entry) : Type 0 where
+  pub accepted : IsAccepted [] journal
+  pub front : IsFront stopped kept journal
+
+-- it is known, or it isn't known whether it is one
+abbrev pub IsKnown : Bool → Bool → Option (List Entry) → List Entry → Type 0
+IsKnown true stopped kept journal = IsLoadedFront stopped kept journal
+IsKnown false stopped kept journal = Unit {0}

@@ -20,6 +20,9 @@ impl Ncs<MemKeeper> {
         ensures ok { OnOk result (self.new ≡ record self.old { keeper = settled self.old.keeper keeps; kept = Some (settled self.old.keeper keeps).kept }) }
         ensures err { OnErr result (self.new ≡ self.old) }
     {
+        if keeps && !self.stopped {
+            self.is_known = false;
+        }
         self.keeper.settle(keeps)
     }
 }

@@ -24,17 +24,20 @@ pub struct Ncs<K: Keeper> {
     pub(crate) orders: Orders,
     pub(crate) peers: Vec<Peer>,
     pub(crate) stopped: bool,
+    /// whether the journal is known to be the front of what the keeper keeps
+    pub(crate) is_known: bool,
 }
 
 impl<K: Keeper> Model for Ncs<K> {
     ghost use Rattle.std.specs.Prelude.{◌≤◌, length};
     ghost use Rattle.ncs_core.specs.State.{NcsTables, AreOrders};
+    ghost use Rattle.ncs_core.specs.Starting.{IsKnown};
 
     ghost Value = { NcsTables K };
 
     ghost view = { λ n. record { server = record { journal = n.journal; stopped = n.stopped; faults = K.faults n.keeper; peers = n.peers.items }; keeper = n.keeper; kept = K.kept n.keeper } };
 
-    ghost invariant = { λ n. AreOrders n.journal n.orders × (length n.peers.items ≤ 64) };
+    ghost invariant = { λ n. AreOrders n.journal n.orders × (length n.peers.items ≤ 64) × IsKnown n.is_known n.stopped (K.kept n.keeper) n.journal };
 }
 
 impl<K: Keeper> Ncs<K> {

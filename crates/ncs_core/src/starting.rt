@@ -1,10 +1,10 @@
 //! The start of the server.
-ghost use Rattle.std.specs.Prelude.{◌≡◌, ◌≤◌, [], ◌∷◌, ◌++◌, length, false, None, OnOk, OnErr, IfOk, IfErr};
+ghost use Rattle.std.specs.Prelude.{◌≡◌, ◌≤◌, [], ◌∷◌, ◌++◌, length, true, false, None, OnOk, OnErr, IfOk, IfErr};
 ghost use Rattle.mos_edits.specs.Entries.{acceptance, entry_of, IsAccepted};
 ghost use Rattle.mos_machines.specs.Steps.{started};
 ghost use Rattle.rundown_log.specs.Keeping.{AreKept};
 ghost use Rattle.ncs_core.specs.Accepting.{rows_after, rows_acceptance, IsRefusal};
-ghost use Rattle.ncs_core.specs.Starting.{IsStartCause, IsEntryCause, entry_cause_of, load_cause_of};
+ghost use Rattle.ncs_core.specs.Starting.{IsStartCause, IsEntryCause, IsLoadedFront, entry_cause_of, load_cause_of};
 ghost use Rattle.ncs_core.specs.State.{ncs_of, devices_of, with_journal, AreNew};
 
 use crate::accepting::{edit_order, let_go};
@@ -83,6 +83,7 @@ impl<K: Keeper> Ncs<K> {
             orders: Orders::new(alloc),
             peers,
             stopped: false,
+            is_known: false,
         }
     }
 
@@ -95,6 +96,7 @@ impl<K: Keeper> Ncs<K> {
     {
         entry.has_ro_of_edit();
         self.orders.has_ascending_ids();
+        self.is_known = false;
         match add_to(&mut self.orders, &mut self.journal, entry) {
             Ok(()) => Ok(()),
             Err(fault) => {
@@ -104,30 +106,62 @@ impl<K: Keeper> Ncs<K> {
         }
     }
 
-    // Adds entries that were kept, one after the other.
+    // Adds entries that are kept behind those of the journal, one after the other.
     fn add_all(&mut self, entries: &[Entry]) -> Result<(), StartCause>
-        requires { self.old.server.journal ≡ [] }
-        ensures ok { OnOk result (self.new ≡ with_journal self.old entries.now) }
-        ensures accepted { OnOk result (IsAccepted [] entries.now) }
-        ensures fault { IfErr result (λ f. IsEntryCause entries.now f) }
+        requires { IsAccepted [] self.old.server.journal }
+        ensures ok { OnOk result (self.new ≡ with_journal self.old (self.old.server.journal ++ entries.now)) }
+        ensures accepted { OnOk result (IsAccepted [] (self.old.server.journal ++ entries.now)) }
+        ensures fault { IfErr result (λ f. IsEntryCause (self.old.server.journal ++ entries.now) f) }
         ensures keeper { OnErr result (self.new.keeper ≡ self.old.keeper) }
         ensures kept { OnErr result (self.new.kept ≡ self.old.kept) }
         ensures faults { OnErr result (self.new.server.faults ≡ self.old.server.faults) }
     {
-        let mut number = 0;
-        'entries: while number < entries.len() {
-            match self.add(&entries[number]) {
+        let mut at = 0;
+        'entries: while at < entries.len() {
+            let number = self.journal.len() as u64;
+            match self.add(&entries[at]) {
                 Ok(()) => {}
-                Err(fault) => return Err(entry_cause(number as u64, fault)),
+                Err(fault) => return Err(entry_cause(number, fault)),
             }
-            number += 1;
+            at += 1;
         }
         Ok(())
     }
 
-    // Loads the entries that are kept.
+    // The journal is the front of what the keeper keeps, and all of it.
+    fn know(&mut self)
+        requires running { self.old.server.stopped ≡ false }
+        requires kept { AreKept self.old.kept self.old.server.journal }
+        requires accepted { IsAccepted [] self.old.server.journal }
+        ensures { self.new ≡ self.old }
+    {
+        self.is_known = true;
+    }
+
+    // Loads the entries that are kept behind those of the journal.
     fn load_all(&mut self) -> Result<(), StartCause>
-        requires { self.old.server.journal ≡ [] }
+        requires running { self.old.server.stopped ≡ false }
+        requires front { IsLoadedFront true self.old.kept self.old.server.journal }
+        ensures stopped { OnOk result (self.new.server.stopped ≡ false) }
+        ensures peers { OnOk result (self.new.server.peers ≡ self.old.server.peers) }
+        ensures loaded { OnOk result (AreKept self.old.kept self.new.server.journal) }
+        ensures accepted { OnOk result (IsAccepted [] self.new.server.journal) }
+        ensures kept { self.new.kept ≡ self.old.kept }
+        ensures keeper { OnOk result (K.loaded self.old.keeper self.new.keeper) }
+        ensures rises { self.old.server.faults ≤ self.new.server.faults }
+        ensures fault { IfErr result (λ f. IsStartCause self.old.kept self.old.server.faults self.new.server.faults f) }
+    {
+        match self.load_more() {
+            Ok(()) => {
+                self.know();
+                Ok(())
+            }
+            Err(cause) => Err(cause),
+        }
+    }
+
+    fn load_more(&mut self) -> Result<(), StartCause>
+        requires front { IsLoadedFront true self.old.kept self.old.server.journal }
         ensures stopped { OnOk result (self.new.server.stopped ≡ self.old.server.stopped) }
         ensures peers { OnOk result (self.new.server.peers ≡ self.old.server.peers) }
         ensures loaded { OnOk result (AreKept self.old.kept self.new.server.journal) }
@@ -137,7 +171,8 @@ impl<K: Keeper> Ncs<K> {
         ensures rises { self.old.server.faults ≤ self.new.server.faults }
         ensures fault { IfErr result (λ f. IsStartCause self.old.kept self.old.server.faults self.new.server.faults f) }
     {
-        match self.keeper.load() {
+        self.is_known = false;
+        match self.keeper.load_behind(self.journal.len()) {
             Ok(entries) => self.add_all(entries.as_slice()),
             Err(fault) => Err(load_cause(fault)),
         }
@@ -222,8 +257,83 @@ impl<K: Keeper> Ncs<K> {
         Self::begun(alloc, keeper, devices)
     }
 
+    // The same server with new devices, and with what the keeper keeps behind the journal.
+    fn reopened(self, peers: Vec<Peer>) -> Result<Self, StartFault<K>>
+        requires within { length peers.items ≤ 64 }
+        requires new { AreNew peers.items }
+        requires front { IsLoadedFront true self.kept self.server.journal }
+        ensures state { IfOk result (λ n. ncs_of n ≡ started n.server.journal n.server.faults) }
+        ensures devices { IfOk result (λ n. devices_of n ≡ length peers.items) }
+        ensures loaded { IfOk result (λ n. AreKept self.kept n.server.journal) }
+        ensures accepted { IfOk result (λ n. IsAccepted [] n.server.journal) }
+        ensures kept { IfOk result (λ n. n.kept ≡ self.kept) }
+        ensures keeper { IfOk result (λ n. K.loaded self.keeper n.keeper) }
+        ensures rises { IfOk result (λ n. self.server.faults ≤ n.server.faults) }
+        ensures fault { IfErr result (λ f. IsStartCause self.kept self.server.faults (K.faults f.keeper) f.cause) }
+        ensures kept_err { IfErr result (λ f. K.kept f.keeper ≡ self.kept) }
+        ensures rises_err { IfErr result (λ f. self.server.faults ≤ K.faults f.keeper) }
+    {
+        let mut ncs = self.with_new(peers);
+        match ncs.load_all() {
+            Ok(()) => Ok(ncs),
+            Err(cause) => Err(StartFault {
+                keeper: ncs.into_keeper(),
+                cause,
+            }),
+        }
+    }
+
+    // The same server with these devices, as if no append of this run had failed.
+    fn with_new(self, peers: Vec<Peer>) -> Self
+        requires { length peers.items ≤ 64 }
+        ensures { result ≡ record { server = record { journal = self.server.journal; stopped = false; faults = self.server.faults; peers = peers.items }; keeper = self.keeper; kept = self.kept } }
+    {
+        Ncs {
+            keeper: self.keeper,
+            journal: self.journal,
+            orders: self.orders,
+            peers,
+            stopped: false,
+            is_known: false,
+        }
+    }
+
+    // The same of this number of devices.
+    fn begun_again(self, alloc: Global, devices: u32) -> Result<Self, StartFault<K>>
+        requires few { devices ≤ 64 }
+        requires front { IsLoadedFront true self.kept self.server.journal }
+        ensures state { IfOk result (λ n. ncs_of n ≡ started n.server.journal n.server.faults) }
+        ensures devices { IfOk result (λ n. devices_of n ≡ devices) }
+        ensures loaded { IfOk result (λ n. AreKept self.kept n.server.journal) }
+        ensures accepted { IfOk result (λ n. IsAccepted [] n.server.journal) }
+        ensures kept { IfOk result (λ n. n.kept ≡ self.kept) }
+        ensures keeper { IfOk result (λ n. K.loaded self.keeper n.keeper) }
+        ensures rises { IfOk result (λ n. self.server.faults ≤ n.server.faults) }
+        ensures fault { IfErr result (λ f. IsStartCause self.kept self.server.faults (K.faults f.keeper) f.cause) }
+        ensures kept_err { IfErr result (λ f. K.kept f.keeper ≡ self.kept) }
+        ensures rises_err { IfErr result (λ f. self.server.faults ≤ K.faults f.keeper) }
+    {
+        match new_peers(alloc, devices) {
+            Ok(peers) => self.reopened(peers),
+            Err(NoMemory) => Err(StartFault {
+                keeper: self.into_keeper(),
+                cause: StartCause::NoMemory,
+            }),
+        }
+    }
+
+    // Whether the journal is known to be the front of what the keeper keeps.
+    fn is_front(&self) -> bool
+        ensures { result ≡ true → IsLoadedFront true self.now.kept self.now.server.journal }
+    {
+        self.is_known
+    }
+
     /// The server after a new start with its own keeper and as many devices, as `start` says: what it knew of the devices
     /// is forgotten, and it takes commands again.
+    ///
+    /// Entries that the journal has already aren't loaded again, as long as the keeper is known to keep them: only those
+    /// behind them are.
     pub fn restart(self) -> Result<Self, StartFault<K>>
         ensures state { IfOk result (λ n. ncs_of n ≡ started n.server.journal n.server.faults) }
         ensures devices { IfOk result (λ n. devices_of n ≡ devices_of self) }
@@ -238,6 +348,10 @@ impl<K: Keeper> Ncs<K> {
     {
         let alloc = self.allocator();
         let devices = self.devices();
-        Self::begun(alloc, self.into_keeper(), devices)
+        if self.is_front() {
+            self.begun_again(alloc, devices)
+        } else {
+            Self::begun(alloc, self.into_keeper(), devices)
+        }
     }
 }

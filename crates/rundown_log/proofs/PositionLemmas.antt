@@ -1,9 +1,8 @@
 -- Where the entries of an order stand, and what an entry at the end adds.
-use Rattle.std.proofs.Common.{◌≡◌, ℕ, zero, suc, ◌+◌, ◌<◌, ◌≤◌, Bool, true, false, List, [], ◌∷◌, ◌++◌, length, get_or, slice_get, take, Option, Some, None, refl, sym, ap, ◌∙◌, subst, if◌then◌else◌, arith}
+use Rattle.std.proofs.Common.{◌≡◌, ℕ, zero, suc, ◌+◌, ◌<◌, ◌≤◌, Bool, true, false, List, [], ◌∷◌, ◌++◌, length, get_or, slice_get, take, Some, None, refl, sym, ap, ◌∙◌, subst, if◌then◌else◌, arith}
 use Rattle.mos_edits.specs.Texts.{Text, same_id}
-use Rattle.mos_edits.proofs.Identifiers.{same-self, same-true}
+use Rattle.mos_edits.proofs.Identifiers.{same-self}
 use Rattle.mos_edits.specs.Entries.{Entry, entries, entry_count, edit_at, no_edit}
-use Rattle.mos_edits.specs.Orders.{Edit}
 use Rattle.rundown_log.specs.Positions.{positions_from, positions}
 
 abbrev pub place_if : Bool → ℕ → List ℕ

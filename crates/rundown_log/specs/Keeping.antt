@@ -1,5 +1,5 @@
 -- What a keeper's calls do to the entries that it keeps, where these are observable.
-use Rattle.std.specs.Prelude.{◌≡◌, ℕ, List, [], ◌∷◌, ◌++◌, ◌⊎◌, Option, Some, None, Result, Ok, Err}
+use Rattle.std.specs.Prelude.{◌≡◌, ℕ, ◌≤◌, List, [], ◌∷◌, ◌++◌, drop, length, ◌⊎◌, Option, Some, None, Result, Ok, Err}
 use Rattle.mos_edits.specs.Entries.{Entry}
 use Rattle.mos_io.specs.Counts.{Rose}
 use Rattle.rundown_log.specs.declared.keeper.KeepFault.{KeepFault}
@@ -26,6 +26,22 @@ abbrev pub Loads : Option (List Entry) → ℕ → ℕ → Result (List Entry) K
 Loads kept faults_before faults_after (Ok entries) = AreKept kept entries
 Loads kept faults_before faults_after (Err Failed) = Rose faults_before faults_after
 Loads kept faults_before faults_after (Err NoMemory) = Unit {0}
+
+-- at least so many entries are kept
+abbrev pub AreSoMany : Option (List Entry) → ℕ → Type 0
+AreSoMany None known = Unit {0}
+AreSoMany (Some kept) known = known ≤ length kept
+
+-- these are the entries that are kept behind the first of this number
+abbrev pub AreBehind : Option (List Entry) → ℕ → List Entry → Type 0
+AreBehind None known entries = Unit {0}
+AreBehind (Some kept) known entries = entries ≡ drop known kept
+
+-- what a load of these gave
+abbrev pub LoadsBehind : Option (List Entry) → ℕ → ℕ → ℕ → Result (List Entry) KeepFault → Type 0
+LoadsBehind kept known faults_before faults_after (Ok entries) = AreBehind kept known entries
+LoadsBehind kept known faults_before faults_after (Err Failed) = Rose faults_before faults_after
+LoadsBehind kept known faults_before faults_after (Err NoMemory) = Unit {0}
 
 -- What an append makes of the keeper, by the keeper's own account, where it came to one. Of an append for which memory ran
 -- out nothing is said.

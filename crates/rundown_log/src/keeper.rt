@@ -3,7 +3,7 @@ ghost use Rattle.std.specs.Prelude.{◌≡◌, ℕ, ◌≤◌, List, Option, Res
 ghost use Rattle.mos_edits.specs.Entries.{Entry as JournalEntry};
 ghost use Rattle.mos_machines.specs.Values.{edit_message};
 ghost use Rattle.mos_values.specs.Sound.{IsSound};
-ghost use Rattle.rundown_log.specs.Keeping.{Appends, Loads};
+ghost use Rattle.rundown_log.specs.Keeping.{Appends, AreSoMany, Loads, LoadsBehind};
 ghost use Rattle.rundown_log.specs.declared.keeper.KeepFault.{KeepFault as KeepFaultOf};
 
 use crate::entry::Entry;
@@ -57,6 +57,14 @@ pub trait Keeper {
     /// The entries that are kept. They stay there.
     fn load(&mut self) -> Result<Entries, KeepFault>
         ensures loads { Loads (kept self.old) (faults self.old) (faults self.new) result }
+        ensures stay { kept self.new ≡ kept self.old }
+        ensures leaves { loaded self.old self.new }
+        ensures rises { faults self.old ≤ faults self.new };
+
+    /// The entries that are kept behind the first `known`, which the caller has already. They stay there.
+    fn load_behind(&mut self, known: usize) -> Result<Entries, KeepFault>
+        requires { AreSoMany (kept self.old) known }
+        ensures loads { LoadsBehind (kept self.old) known (faults self.old) (faults self.new) result }
         ensures stay { kept self.new ≡ kept self.old }
         ensures leaves { loaded self.old self.new }
         ensures rises { faults self.old ≤ faults self.new };

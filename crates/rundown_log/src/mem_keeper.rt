@@ -1,5 +1,5 @@
 //! A keeper in memory.
-ghost use Rattle.std.specs.Prelude.{◌≡◌, ◌↔◌, ◌≤◌, [], ◌∷◌, ◌++◌, ◌||◌, ◌==◌, true, false, Some, None, Ok, Err, OnOk, OnErr, IfOk, IsTrue};
+ghost use Rattle.std.specs.Prelude.{◌≡◌, ◌↔◌, ◌≤◌, [], ◌∷◌, ◌++◌, ◌||◌, ◌==◌, true, false, Some, None, Ok, Err, OnOk, OnErr, IfOk, IsTrue, drop, length};
 ghost use Rattle.std.specs.List.{list_any};
 ghost use Rattle.mos_io.specs.Counts.{counted};
 ghost use Rattle.rundown_log.specs.Keeping.{Appends};
@@ -193,6 +193,17 @@ impl Keeper for MemKeeper {
         ensures leaves { IsLoaded self.old self.new }
     {
         let entries = copies(self.alloc, self.kept.as_slice())?;
+        Ok(entries)
+    }
+
+    fn load_behind(&mut self, known: usize) -> Result<Entries, KeepFault>
+        requires { known ≤ length self.old.kept }
+        ensures loads { IfOk result (λ entries. entries ≡ drop known self.old.kept) }
+        ensures fault { result ≡ Err KeepFault.Failed → ⊥ }
+        ensures stay { self.new ≡ self.old }
+        ensures leaves { IsLoaded self.old self.new }
+    {
+        let entries = copies(self.alloc, &self.kept.as_slice()[known..])?;
         Ok(entries)
     }
 }

@@ -9,7 +9,7 @@ pub invariant_of-self : goal.invariant_of-self
 invariant_of-self g c =
     let e = c.args.entry.now in
     let is : entry_of e.edit ≡ e = entry-is e e.edit c.has_ro_of_edit.ensures refl in
-    (orders-added c.self.inside.journal c.add_to.new.journal (entry_of e.edit) e c.self.inside.orders c.add_to.new.orders c.self.invariant.0 is c.in-Ok.ensures.rows c.in-Ok.ensures.journal, c.self.invariant.1)
+    (orders-added c.self.inside.journal c.add_to.new.journal (entry_of e.edit) e c.self.inside.orders c.add_to.new.orders c.self.invariant.0 is c.in-Ok.ensures.rows c.in-Ok.ensures.journal, c.self.invariant.1, tt)
 
 pub returns-in-Ok-clause-accepted : goal.returns-in-Ok-clause-accepted
 returns-in-Ok-clause-accepted g c =

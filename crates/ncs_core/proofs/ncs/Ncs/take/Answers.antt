@@ -1,4 +1,4 @@
-use Rattle.std.proofs.Common.{◌≡◌, ◌≤◌, ℕ, length, Option, refl, sym, ap, ◌∙◌, subst}
+use Rattle.std.proofs.Common.{◌≡◌, ◌≤◌, false, ℕ, length, Option, refl, sym, ap, ◌∙◌, subst}
 use Rattle.std.proofs.lemmas.List.{with_items_is}
 use Rattle.std.specs.Vec.{with_items}
 use Rattle.mos_edits.specs.Entries.{Refusal, entry_of, entry_count, acceptance}
@@ -8,17 +8,24 @@ use Rattle.ncs_core.specs.State.{NcsTables, states}
 use Rattle.ncs_core.proofs.AcceptedRows.{orders-same, acceptance-here, orders-added, edited-there, orders-undone}
 use Rattle.ncs_core.proofs.CommandSteps.{refused-tables, taken-tables, unkept-tables}
 use Rattle.ncs_core.proofs.KeptUnits.{undone-units}
+use Rattle.ncs_core.proofs.KnownFronts.{known-kept, known-unkept}
 use Rattle.ncs_core.proofs.ncs.Ncs.take.Goals as goal
 
 pub invariant_of-self : goal.invariant_of-self
-invariant_of-self g c = (orders-same c.self.inside.journal c.self.inside.orders c.accept_edit.new.orders c.self.invariant.0 c.in-Err.ensures.err, c.self.invariant.1)
+invariant_of-self g c = (orders-same c.self.inside.journal c.self.inside.orders c.accept_edit.new.orders c.self.invariant.0 c.in-Err.ensures.err, c.self.invariant.1, c.self.invariant.2)
 
 pub invariant_of-self-in-Ok-keep_and_give : goal.invariant_of-self-in-Ok-keep_and_give
 invariant_of-self-in-Ok-keep_and_give g c =
     let whole : (with_items c.self.inside.peers c.keep_and_give.new.peers).items ≡ c.keep_and_give.new.peers = with_items_is c.self.inside.peers c.keep_and_give.new.peers (c.keep_and_give.auto.peers ∙ c.deref_mut.ensures.len) in
     let count : length (with_items c.self.inside.peers c.keep_and_give.new.peers).items ≡ length c.self.inside.peers.items = ap length whole ∙ (c.keep_and_give.auto.peers ∙ ap length c.deref_mut.ensures.value) in
     let few : length (with_items c.self.inside.peers c.keep_and_give.new.peers).items ≤ 64 = subst (λ (n : ℕ). n ≤ 64) (sym count) c.self.invariant.1 in
-    (orders-added c.self.inside.journal c.keep_and_give.new.journal (entry_of c.args.edit.now) (entry_of c.args.edit.now) c.self.inside.orders c.accept_edit.new.orders c.self.invariant.0 refl c.in-Ok.ensures.rows c.in-Ok-keep_and_give.ensures.journal, few)
+    let running : c.self.inside.stopped ≡ false = ap (λ (n : NcsTables _). n.server.stopped) c.self.view_is ∙ c.requires.running in (
+      orders-added c.self.inside.journal c.keep_and_give.new.journal (entry_of c.args.edit.now) (entry_of c.args.edit.now) c.self.inside.orders c.accept_edit.new.orders c.self.invariant.0 refl c.in-Ok.ensures.rows c.in-Ok-keep_and_give.ensures.journal,
+      few,
+      known-kept c.self.inside.is_known c.self.inside.stopped (g.K.Keeper.kept c.self.inside.keeper) (g.K.Keeper.kept c.keep_and_give.new.keeper) (g.K.Keeper.faults c.self.inside.keeper) (g.K.Keeper.faults c.keep_and_give.new.keeper) c.self.inside.journal c.keep_and_give.new.journal (entry_of c.args.edit.now) running c.self.invariant.2
+          (sym (acceptance-here c.self.inside.journal c.self.inside.journal (entry_of c.args.edit.now) (entry_of c.args.edit.now) c.self.inside.orders c.self.invariant.0 c.has_ascending_ids.ensures refl refl) ∙ c.in-Ok.ensures.accepted)
+          c.in-Ok-keep_and_give.ensures.appends c.in-Ok-keep_and_give.ensures.journal,
+    )
 
 pub undo-requires-clause-there : goal.undo-requires-clause-there
 undo-requires-clause-there g c = edited-there c.self.inside.orders c.accept_edit.new.orders (entry_of c.args.edit.now) c.edit_ro.result.now c.in-Ok.ensures.rows c.edit_ro.ensures
@@ -32,10 +39,13 @@ pub invariant_of-self-in-Err-keep_and_give : goal.invariant_of-self-in-Err-keep_
 invariant_of-self-in-Err-keep_and_give g c =
     let whole : (with_items c.self.inside.peers c.keep_and_give.new.peers).items ≡ c.keep_and_give.new.peers = with_items_is c.self.inside.peers c.keep_and_give.new.peers (c.keep_and_give.auto.peers ∙ c.deref_mut.ensures.len) in
     let count : length (with_items c.self.inside.peers c.keep_and_give.new.peers).items ≡ length c.self.inside.peers.items = ap length whole ∙ (c.keep_and_give.auto.peers ∙ ap length c.deref_mut.ensures.value) in
-    let few : length (with_items c.self.inside.peers c.keep_and_give.new.peers).items ≤ 64 = subst (λ (n : ℕ). n ≤ 64) (sym count) c.self.invariant.1 in (
+    let few : length (with_items c.self.inside.peers c.keep_and_give.new.peers).items ≤ 64 = subst (λ (n : ℕ). n ≤ 64) (sym count) c.self.invariant.1 in
+    let running : c.self.inside.stopped ≡ false = ap (λ (n : NcsTables _). n.server.stopped) c.self.view_is ∙ c.requires.running in (
       orders-undone c.self.inside.journal c.keep_and_give.new.journal (entry_of c.args.edit.now) c.self.inside.orders c.accept_edit.new.orders c.undo.new.orders c.edit_ro.result.now c.in-Ok.order c.self.invariant.0 c.in-Ok.ensures.rows c.edit_ro.ensures c.in-Ok.ensures.order
           c.undo.ensures c.in-Err-keep_and_give.ensures.journal_err,
       few,
+      known-unkept c.self.inside.is_known c.self.inside.stopped c.is_failed-self-inside.result (g.K.Keeper.kept c.self.inside.keeper) (g.K.Keeper.kept c.keep_and_give.new.keeper) (g.K.Keeper.faults c.self.inside.keeper) (g.K.Keeper.faults c.keep_and_give.new.keeper) c.self.inside.journal c.keep_and_give.new.journal (entry_of c.args.edit.now)
+          c.in-Err-keep_and_give.fault running c.is_failed-self-inside.ensures c.self.invariant.2 c.in-Err-keep_and_give.ensures.appends c.in-Err-keep_and_give.ensures.journal_err,
     )
 
 pub returns-in-Err-clause-step : goal.returns-in-Err-clause-step
