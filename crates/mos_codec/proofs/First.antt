@@ -1,11 +1,5 @@
--- What a decoder answers where what it holds begins with an encoding.
-use Rattle.std.proofs.Common.{◌≡◌, ℕ, false, List, [], ◌++◌, Option, Some, None, Result, Ok, Err, refl, sym, ap, subst, ◌∙◌}
-use Rattle.std.proofs.lemmas.List.{append-nil}
-use Rattle.mos_fields.specs.Characters.{units_in}
-use Rattle.mos_values.specs.declared.message.Envelope.{Envelope}
-use Rattle.mos_codec.specs.declared.decoder.Placed.{Placed}
-use Rattle.mos_codec.specs.Codec.{EncodesEnvelope, IsEncodedBy}
-use Rattle.mos_codec.specs.Decoding.{ComesFirst, DecoderState, IsReading, fed_more, start_decoder}
+-- What reading answers where what is held begins with an encoding.
+use Rattle.std.proofs.Common.{◌≡◌, false, ℕ, List, ◌++◌, Option, Some, None, Result, Ok, Err, sym, ap, subst, ◌∙◌}
 use Rattle.mos_tables.specs.Events.{Event}
 use Rattle.mos_lexer.specs.Encodings.{Encodes}
 use Rattle.mos_lexer.specs.Laws.{EncodingsAreRead}
@@ -41,9 +35,3 @@ first_answer law s t r clean v us rest held h a =
     let P : Option ReadFault → Type 0 = λ k. Answers false k s r t in
     let c : Answers false None s r t = subst P clean a in
     completed_answer (unit_run start_reader s.held) q.0 v rest s t r run c
-
--- where a decoder was fed one encoding, its envelope comes first
-pub first_decoded : (bytes : List ℕ) (d t : DecoderState) (r : Result (Option Placed) ReadFault) → d ≡ fed_more start_decoder bytes
-    → ((e : Envelope) (us rest : List ℕ) → IsReading d → EncodesEnvelope us e → d.bytes.stream.held ≡ us ++ rest → ComesFirst e rest r t)
-    → (e : Envelope) → IsEncodedBy bytes e → ComesFirst e [] r t
-first_decoded bytes d t r fed law e h = law e (units_in bytes) [] (subst IsReading (sym fed) (refl, refl)) h (ap (λ (z : DecoderState). z.bytes.stream.held) fed ∙ sym (append-nil (units_in bytes)))

@@ -1,5 +1,5 @@
 pub mod ByteLemmas
 pub mod Sound
 pub mod First
-pub mod Telling
+pub mod Taken
 pub mod Pinning

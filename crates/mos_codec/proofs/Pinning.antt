@@ -19,16 +19,6 @@ use Rattle.mos_codec.proofs.ByteLemmas.{units_back}
 use Rattle.mos_codec.proofs.First.{AnswersFirst}
 use Rattle.mos_codec.proofs.Sound.{sound_named}
 
-pub first_placed : EventsPinEnvelopes → (a : Result (Option Found) ReadFault) (r : Result (Option Placed) ReadFault) (t : DecoderState) → Says a r → OnPlaced r (λ p. IsNamed p.envelope.message) → OnPlaced r (λ p. IsInRange p.envelope.message)
-    → (e : Envelope) (us rest : List ℕ) → EncodesEnvelope us e → AnswersFirst a t.bytes.stream (envelope_events e) rest → ComesFirst e rest r t
-first_placed law (Ok (Some f)) (Ok (Some p)) t s named in_range e us rest h a = (law p.envelope e named h.named in_range h.in_range (ap (λ (z : FoundOf). z.value) s ∙ a.0), a.1)
-first_placed law (Ok (Some f)) (Ok None) t s named in_range e us rest h a = elim s [ ]
-first_placed law (Ok (Some f)) (Err (Rejected place k)) t s named in_range e us rest h a = elim s [ ]
-first_placed law (Ok None) r t s named in_range e us rest h a = elim a [ ]
-first_placed law (Err (Rejected place k)) r t s named in_range e us rest h a = elim a [ ]
-first_placed law (Ok (Some f)) (Err NoMemory) t s named in_range e us rest h a = tt
-first_placed law (Err NoMemory) r t s named in_range e us rest h a = subst (λ (z : Result (Option Placed) ReadFault). ComesFirst e rest z t) (sym s) tt
-
 pub encoded_by : (bytes : List ℕ) (e : Envelope) → bytes ≡ encoding e → IsSound e.message → IsInRange e.message → Encodes (envelope_events e) (encoding_units e) → IsEncodedBy bytes e
 encoded_by bytes e canonical sound small encodes = record {
   named = sound_named e.message sound;

@@ -1,80 +1,115 @@
 -- What a decoder of envelopes answers.
-use Rattle.std.specs.Prelude.{◌≡◌, ℕ, ◌++◌, Bool, true, false, List, [], ◌∷◌, Option, Some, None, Result, Ok, Err, ⊤}
+use Rattle.std.specs.Prelude.{◌≡◌, ℕ, ◌+◌, ◌*◌, ◌-◌, ◌^◌, min, ◌++◌, ◌||◌, ◌&&◌, ◌==◌, Bool, true, false, List, [], ◌∷◌, length, map, Option, Some, None, Result, Ok, Err, ⊤}
 use Rattle.mos_fields.specs.Characters.{units_in}
+use Rattle.mos_fields.specs.Raw.{is_space}
+use Rattle.mos_lexer.specs.Lexing.{byte_order_mark}
 use Rattle.mos_lexer.specs.Units.{Found as FoundOf, Reader, StreamReader, reads_stream, rejects_stream, start_stream, stream_units}
-use Rattle.mos_reader.specs.declared.found.Found.{Found}
-use Rattle.mos_reader.specs.declared.found.ReadFault.{ReadFault}
-use Rattle.mos_reader.specs.declared.found.ReadFault.TheVariants.{Rejected, NoMemory}
-use Rattle.mos_decoder.specs.Bytes.{ByteStream, HasHanded, fed_bytes, found_of, start_bytes}
-use Rattle.mos_decoder.specs.Inputs.{input_of, refused, whole}
+use Rattle.mos_lexer.specs.declared.kind.Kind.{Kind}
+use Rattle.mos_message_reading.specs.Values.{IsNamed}
+use Rattle.mos_reader.specs.Answers.{fed}
+use Rattle.mos_decoder.specs.Bytes.{ByteStream, HasHanded, start_bytes}
 use Rattle.mos_values.specs.MessageViews.{envelope_events}
 use Rattle.mos_values.specs.declared.message.Envelope.{Envelope}
-use Rattle.mos_codec.specs.declared.decoder.Placed.{Placed}
+use Rattle.value_laws.specs.Ranges.{IsInRange}
+use Rattle.mos_codec.specs.declared.whole.Placed.{Placed}
+use Rattle.mos_codec.specs.declared.fault.DecodeFault.{DecodeFault}
+use Rattle.mos_codec.specs.declared.fault.DecodeFault.TheVariants.{Refused, NoMemory}
 
--- A decoder: the stream of its bytes, and whether memory ran out as it read.
+-- A decoder: the stream of its bytes, the messages that are whole and weren't handed out yet, where the one begins that
+-- was handed out last, and why nothing more is read.
 pub record DecoderState : Type 0 where
   pub bytes : ByteStream
-  pub lost : Bool
+  pub ready : List Placed
+  pub began : ℕ
+  pub fault : Option DecodeFault
 
 abbrev pub start_decoder : DecoderState
-start_decoder = record { bytes = start_bytes; lost = false }
+start_decoder = record { bytes = start_bytes; ready = []; began = 0; fault = None }
 
--- bytes that are fed stand behind those that were fed before
-abbrev pub fed_more : DecoderState → List ℕ → DecoderState
-fed_more d bytes = record { bytes = fed_bytes d.bytes bytes; lost = d.lost }
-
--- where a message stands that was handed out, and its events
+-- where a message stands, and its events
 abbrev pub placed_events : Placed → FoundOf
 placed_events p = record { began = p.began; value = envelope_events p.envelope }
 
--- Of these bytes these messages were handed out, and what is held stands behind them; memory didn't run out.
-pub record HasHandedOut (d : DecoderState) (bytes : List ℕ) (found : List FoundOf) : Type 0 where
-  pub kept : d.lost ≡ false
-  pub handed : HasHanded d.bytes bytes found
+-- these messages, and behind them those that are whole
+abbrev pub with_ready : List FoundOf → List Placed → List FoundOf
+with_ready found ready = found ++ map placed_events ready
 
--- there is no memory
-abbrev pub is_want : Result (Option Placed) ReadFault → Bool
-is_want (Ok o) = false
-is_want (Err (Rejected place k)) = false
-is_want (Err NoMemory) = true
+-- a message as it is handed out: the name of one that is kept as it was written is that of its element, and the numbers
+-- are in their ranges
+pub record IsReady (p : Placed) : Type 0 where
+  pub named : IsNamed p.envelope.message
+  pub in_range : IsInRange p.envelope.message
 
--- this holds of a message that is handed out
-abbrev pub OnPlaced : Result (Option Placed) ReadFault → (Placed → Type 0) → Type 0
-OnPlaced (Ok (Some p)) P = P p
-OnPlaced (Ok None) P = ⊤
-OnPlaced (Err k) P = ⊤
+-- The bytes are a stream of these messages, as far as they go, and what is held stands behind the last of them.
+pub record IsRead (bytes : List ℕ) (found : List FoundOf) (s : ByteStream) : Type 0 where
+  pub handed : HasHanded s bytes found
+  pub base : ℕ
+  pub reader : Reader
+  pub goes_on : stream_units start_stream (units_in bytes) ≡ reads_stream (record { ready = found; base = base; reader = reader })
 
--- An answer about events says the same of an envelope, or that there is no memory for it.
-abbrev pub Says : Result (Option Found) ReadFault → Result (Option Placed) ReadFault → Type 0
-Says (Ok (Some f)) (Ok (Some p)) = placed_events p ≡ found_of f
-Says (Ok (Some f)) (Ok None) = ⊥
-Says (Ok (Some f)) (Err (Rejected place k)) = ⊥
-Says (Ok (Some f)) (Err NoMemory) = ⊤
-Says (Ok None) r = r ≡ Ok None
-Says (Err k) r = r ≡ Err k
+-- Of these bytes these messages were handed out, and with those that are ready they are all that are whole.
+pub record HasTaken (d : DecoderState) (bytes : List ℕ) (found : List FoundOf) : Type 0 where
+  pub clean : d.fault ≡ None
+  pub read : IsRead bytes (with_ready found d.ready) d.bytes
 
--- What an answer says of the bytes that were fed: one more message is handed out, more is to come, or the stream of their
--- code units is rejected.
-abbrev pub TellsEnvelope : List ℕ → List FoundOf → Result (Option Placed) ReadFault → DecoderState → Type 0
-TellsEnvelope bytes found (Ok (Some p)) t = HasHandedOut t bytes (found ++ placed_events p ∷ [])
-TellsEnvelope bytes found (Ok None) t = HasHandedOut t bytes found × ((base : ℕ) × (r : Reader) × (stream_units start_stream (units_in bytes) ≡ reads_stream (record { ready = found; base = base; reader = r })))
-TellsEnvelope bytes found (Err (Rejected place k)) t = (s : StreamReader) × (s.ready ≡ found) × (stream_units start_stream (units_in bytes) ≡ rejects_stream s place k)
-TellsEnvelope bytes found (Err NoMemory) t = ⊤
+-- Behind these messages the stream of the bytes is rejected at this place, with this kind.
+abbrev pub IsRejected : List ℕ → List FoundOf → ℕ → Kind → Type 0
+IsRejected bytes found place k = (s : StreamReader) × (s.ready ≡ found) × (stream_units start_stream (units_in bytes) ≡ rejects_stream s place k)
 
--- the same where the input ends behind them
-abbrev pub TellsLast : List ℕ → List FoundOf → Result (Option Placed) ReadFault → DecoderState → Type 0
-TellsLast bytes found (Ok (Some p)) t = HasHandedOut t bytes (found ++ placed_events p ∷ [])
-TellsLast bytes found (Ok None) t = HasHandedOut t bytes found × (input_of bytes ≡ whole found)
-TellsLast bytes found (Err (Rejected place k)) t = input_of bytes ≡ refused found place k
-TellsLast bytes found (Err NoMemory) t = ⊤
+-- What feeding says of all bytes that were fed, of which these messages were handed out: the messages that are ready are
+-- the others that are whole, and the stream goes on behind them or is rejected. Without memory none is ready.
+abbrev pub TellsFed : List ℕ → List FoundOf → Result (Unit {0}) DecodeFault → DecoderState → Type 0
+TellsFed bytes found (Ok u) t = HasTaken t bytes found
+TellsFed bytes found (Err (Refused place k)) t = IsRejected bytes (with_ready found t.ready) place k × (fed t.bytes.stream ≡ length (units_in bytes))
+TellsFed bytes found (Err NoMemory) t = t.ready ≡ []
 
--- the stream is still read
-abbrev pub IsReading : DecoderState → Type 0
-IsReading d = (d.lost ≡ false) × (d.bytes.stream.fault ≡ None)
+-- the fault is kept exactly where it is answered
+abbrev pub IsKept : Result (Unit {0}) DecodeFault → Option DecodeFault → Type 0
+IsKept (Ok u) fault = fault ≡ None
+IsKept (Err k) fault = fault ≡ Some k
 
--- this envelope is handed out and these code units stand behind it, or there is no memory
-abbrev pub ComesFirst : Envelope → List ℕ → Result (Option Placed) ReadFault → DecoderState → Type 0
-ComesFirst e rest (Ok (Some p)) t = (p.envelope ≡ e) × (t.bytes.stream.held ≡ rest)
-ComesFirst e rest (Ok None) t = ⊥
-ComesFirst e rest (Err (Rejected place k)) t = ⊥
-ComesFirst e rest (Err NoMemory) t = ⊤
+-- the envelope is the first of the messages that are whole
+abbrev pub IsFirst : Envelope → List Placed → Type 0
+IsFirst e ready = (p : Placed) × (more : List Placed) × (ready ≡ p ∷ more) × (p.envelope ≡ e)
+
+-- the envelope is ready before all others, or there is no memory
+abbrev pub ComesFirst : Envelope → Result (Unit {0}) DecodeFault → List Placed → Type 0
+ComesFirst e (Ok u) ready = IsFirst e ready
+ComesFirst e (Err (Refused place k)) ready = IsFirst e ready
+ComesFirst e (Err NoMemory) ready = ⊤
+
+-- The first message that is ready is handed out, if there is one.
+abbrev pub HandsOut : List Placed → Option Envelope → DecoderState → DecoderState → Type 0
+HandsOut [] r d t = (r ≡ None) × (t ≡ d)
+HandsOut (p ∷ more) r d t = (r ≡ Some p.envelope) × (t ≡ record { bytes = d.bytes; ready = more; began = p.began; fault = d.fault })
+
+-- the message that was handed out last, behind those before it
+abbrev pub handed_more : List FoundOf → Option Envelope → ℕ → List FoundOf
+handed_more found None began = found
+handed_more found (Some e) began = found ++ (record { began = began; value = envelope_events e }) ∷ []
+
+-- ---- what stands behind the last whole message
+
+-- white space or U+FEFF
+abbrev pub is_blank : ℕ → Bool
+is_blank u = is_space u || (u == byte_order_mark)
+
+unfoldable pub are_blank : List ℕ → Bool
+are_blank [] = true
+are_blank (u ∷ us) = is_blank u && are_blank us
+
+abbrev pub odd_bytes : Option ℕ → ℕ
+odd_bytes None = 0
+odd_bytes (Some b) = 1
+
+abbrev pub is_even : Option ℕ → Bool
+is_even None = true
+is_even (Some b) = false
+
+-- nothing but white space and U+FEFF
+abbrev pub rests : ByteStream → Bool
+rests s = is_even s.odd && are_blank s.stream.held
+
+-- so many bytes, or 2^64 - 1 where that is smaller
+abbrev pub bytes_behind : ByteStream → ℕ
+bytes_behind s = min (length s.stream.held * 2 + odd_bytes s.odd) (2 ^ 64 - 1)

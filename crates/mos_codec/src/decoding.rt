@@ -4,8 +4,8 @@ ghost use Rattle.mos_values.specs.declared.message.Envelope.{Envelope as Envelop
 ghost use Rattle.mos_codec.specs.Codec.{IsEncodedBy};
 
 use crate::decoder::Decoder;
+use crate::fault::DecodeFault;
 use mos_fields::NoMemory;
-use mos_reader::ReadFault;
 use mos_values::Envelope;
 use std::alloc::Global;
 
@@ -17,11 +17,12 @@ pub fn decoded(alloc: Global, bytes: &[u8]) -> Result<Envelope, NoMemory>
     ensures { (e : Enveloped) → IsEncodedBy bytes.now e → IfOk result (λ d. d ≡ e) }
 {
     let mut decoder = Decoder::new(alloc);
-    decoder.feed(bytes)?;
+    match decoder.feed(bytes) {
+        Err(DecodeFault::NoMemory) => return Err(NoMemory),
+        Ok(()) | Err(DecodeFault::Refused { .. }) => {}
+    }
     match decoder.next() {
-        Ok(Some(placed)) => Ok(placed.envelope),
-        Ok(None) => unreachable!(),
-        Err(ReadFault::Rejected(_, _)) => unreachable!(),
-        Err(ReadFault::NoMemory) => Err(NoMemory),
+        Some(envelope) => Ok(envelope),
+        None => unreachable!(),
     }
 }

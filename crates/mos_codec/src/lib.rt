@@ -3,13 +3,18 @@
 //! Two bytes are a code unit, the high one first.
 #![tactic(auto)]
 
+mod blank;
 mod decoder;
 mod decoding;
 mod encoding;
+mod fault;
+mod whole;
 
-pub use decoder::{Decoder, Placed};
+pub use decoder::Decoder;
 pub use decoding::decoded;
 pub use encoding::{EncodeFault, encoded};
+pub use fault::DecodeFault;
+pub use whole::Placed;
 
 #[cfg(test)]
 mod tests;

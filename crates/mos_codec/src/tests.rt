@@ -2,17 +2,14 @@
 ghost use Rattle.std.specs.Prelude.{IfOk};
 ghost use Rattle.mos_values.specs.Sound.{IsSound};
 
-use crate::{Decoder, Placed, decoded, encoded};
+use crate::whole::let_go;
+use crate::{DecodeFault, Decoder, decoded, encoded};
 use mos_fields::{FieldFault, Id, NoMemory, OptId};
 use mos_lexer::Kind;
 use mos_messages::encode;
-use mos_reader::ReadFault;
 use mos_values::{Envelope, Message};
 use std::alloc::Global;
 use std::test::Fail;
-
-// Lets a value go. What is let go here is dropped by a function of its type, and not variant by variant on each path.
-fn let_go<T: Drop>(_value: T) {}
 
 /// A request for the order `R<`, with the messageID 7.
 #[tactic(auto, unfolding(mos_values::specs::Sound::IsSound))]
@@ -65,7 +62,7 @@ fn an_envelope_comes_back(rt: HostRuntime) -> Result<(), Fail> {
     Ok(())
 }
 
-/// What a decoder answered: the encoding of a message, or why there is none.
+/// What came of bytes: the encoding of a message, or why there is none.
 #[derive(Drop)]
 enum Told {
     Encoding(Vec<u8>),
@@ -74,46 +71,48 @@ enum Told {
     NoMemory,
 }
 
-/// The encoding of a message that was handed out.
-fn encoding_of(alloc: Global, placed: Placed) -> Told {
-    let again = encode(alloc, &placed.envelope);
-    let_go(placed);
-    match again {
-        Ok(bytes) => Told::Encoding(bytes),
-        Err(_) => Told::NoMemory,
+/// The encoding of the message that is handed out next, or what feeding answered.
+fn told(alloc: Global, decoder: &mut Decoder, fed: Result<(), DecodeFault>) -> Told {
+    if let Some(envelope) = decoder.next() {
+        let again = encode(alloc, &envelope);
+        let_go(envelope);
+        return match again {
+            Ok(bytes) => Told::Encoding(bytes),
+            Err(_) => Told::NoMemory,
+        };
+    }
+    match fed {
+        Ok(()) => Told::More,
+        Err(DecodeFault::Refused { place, kind }) => Told::Rejected(place, kind),
+        Err(DecodeFault::NoMemory) => Told::NoMemory,
     }
 }
 
-fn answer_of(alloc: Global, answer: Result<Option<Placed>, ReadFault>) -> Told {
-    match answer {
-        Ok(Some(placed)) => encoding_of(alloc, placed),
-        Ok(None) => Told::More,
-        Err(ReadFault::Rejected(place, kind)) => Told::Rejected(place, kind),
-        Err(ReadFault::NoMemory) => Told::NoMemory,
+/// Feeds bytes where no message is left, as it is in these tests.
+fn feed(decoder: &mut Decoder, part: &[u8]) -> Result<(), DecodeFault> {
+    while let Some(envelope) = decoder.next() {
+        let_go(envelope);
+    }
+    if decoder.place() < 100_000_000 && part.len() < 100_000_000 {
+        decoder.feed(part)
+    } else {
+        Ok(())
     }
 }
 
-/// The first answer about the bytes, fed in pieces of so many, but that more is to be fed.
-fn first_of(
-    alloc: Global,
-    decoder: &mut Decoder,
-    bytes: &[u8],
-    piece: usize,
-) -> Result<Told, NoMemory> {
+/// The first message of the bytes, fed in pieces of so many, or why there is none.
+fn first_of(alloc: Global, decoder: &mut Decoder, bytes: &[u8], piece: usize) -> Told {
     for part in bytes.chunks(piece.max(1)) {
-        if decoder.place() < 100_000_000 && part.len() < 100_000_000 {
-            decoder.feed(part)?;
-        }
-        let answer = decoder.next();
-        match answer_of(alloc, answer) {
+        let fed = feed(decoder, part);
+        match told(alloc, decoder, fed) {
             Told::More => {}
-            first => return Ok(first),
+            first => return first,
         }
     }
-    Ok(Told::More)
+    Told::More
 }
 
-fn first(alloc: Global, bytes: &[u8], piece: usize) -> Result<Told, NoMemory> {
+fn first(alloc: Global, bytes: &[u8], piece: usize) -> Told {
     let mut decoder = Decoder::new(alloc);
     let first = first_of(alloc, &mut decoder, bytes, piece);
     let_go(decoder);
@@ -121,10 +120,10 @@ fn first(alloc: Global, bytes: &[u8], piece: usize) -> Result<Told, NoMemory> {
 }
 
 /// Whether the bytes, fed in pieces of so many, are a message with this encoding.
-fn comes_back(alloc: Global, bytes: &[u8], piece: usize) -> Result<bool, NoMemory> {
-    match first(alloc, bytes, piece)? {
-        Told::Encoding(again) => Ok(again.as_slice() == bytes),
-        _ => Ok(false),
+fn comes_back(alloc: Global, bytes: &[u8], piece: usize) -> bool {
+    match first(alloc, bytes, piece) {
+        Told::Encoding(again) => again.as_slice() == bytes,
+        _ => false,
     }
 }
 
@@ -143,9 +142,9 @@ fn the_longest_message(rt: HostRuntime) -> Result<(), Fail> {
     let alloc = rt.alloc();
     let longest = letters(alloc, 8_388_558)?;
     assert_eq!(rt; longest.len(), 16_777_216);
-    assert!(rt; comes_back(alloc, longest.as_slice(), 65_536)?);
+    assert!(rt; comes_back(alloc, longest.as_slice(), 65_536));
     let longer = letters(alloc, 8_388_559)?;
-    let place = match first(alloc, longer.as_slice(), 65_536)? {
+    let place = match first(alloc, longer.as_slice(), 65_536) {
         Told::Rejected(place, Kind::TooLong) => place,
         _ => 0,
     };
@@ -158,6 +157,107 @@ fn a_million_units_in_pieces_of_one_byte(rt: HostRuntime) -> Result<(), Fail> {
     let alloc = rt.alloc();
     let long = letters(alloc, 999_950)?;
     assert_eq!(rt; long.len(), 2_000_000);
-    assert!(rt; comes_back(alloc, long.as_slice(), 1)?);
+    assert!(rt; comes_back(alloc, long.as_slice(), 1));
+    Ok(())
+}
+
+/// What is told of a stream: each message by its place, what feeding answered, and what stands behind.
+fn trace(alloc: Global, bytes: &[u8], piece: usize) -> Result<String, NoMemory> {
+    let mut decoder = Decoder::new(alloc);
+    let mut out = String::new(alloc);
+    for part in bytes.chunks(piece.max(1)) {
+        let fed = feed(&mut decoder, part);
+        while let Some(envelope) = decoder.next() {
+            let_go(envelope);
+            out.push_str(format!(in alloc; "<{}>", decoder.began())?.as_str())?;
+        }
+        match fed {
+            Ok(()) => {}
+            Err(DecodeFault::Refused { place, .. }) => {
+                out.push_str(format!(in alloc; "!{place}")?.as_str())?;
+            }
+            Err(DecodeFault::NoMemory) => return Err(NoMemory),
+        }
+    }
+    let place = decoder.place();
+    let behind = decoder.behind();
+    let empty = decoder.is_empty();
+    out.push_str(format!(in alloc; " {place} {behind} {empty}")?.as_str())?;
+    let_go(decoder);
+    Ok(out)
+}
+
+/// 57 code units
+const REQUEST: &str = "<mos><mosID>d</mosID><ncsID>n</ncsID><reqMachInfo/></mos>";
+
+#[test]
+fn what_stands_behind_the_last_message(rt: HostRuntime) -> Result<(), Fail> {
+    let alloc = rt.alloc();
+    let mut bytes = wide(alloc, REQUEST)?;
+    assert_eq!(rt; trace(alloc, &[], 1)?.as_str(), " 0 0 true");
+    assert_eq!(rt; trace(alloc, bytes.as_slice(), 7)?.as_str(), "<0> 57 0 true");
+    bytes.extend_from_slice(&[0, 32, 0xFE, 0xFF])?;
+    assert_eq!(rt; trace(alloc, bytes.as_slice(), 1000)?.as_str(), "<0> 59 4 true");
+    bytes.push(0)?;
+    assert_eq!(rt; trace(alloc, bytes.as_slice(), 3)?.as_str(), "<0> 59 5 false");
+    bytes.push(60)?;
+    assert_eq!(rt; trace(alloc, bytes.as_slice(), 1000)?.as_str(), "<0> 60 6 false");
+    Ok(())
+}
+
+#[test]
+fn messages_before_a_rejection_come(rt: HostRuntime) -> Result<(), Fail> {
+    let alloc = rt.alloc();
+    let mut bytes = wide(alloc, REQUEST)?;
+    bytes.extend_from_slice(wide(alloc, REQUEST)?.as_slice())?;
+    bytes.extend_from_slice(wide(alloc, "</mos>")?.as_slice())?;
+    let whole = trace(alloc, bytes.as_slice(), 1000)?;
+    assert_eq!(rt; whole.as_str(), "<0><57>!114 120 12 false");
+    // The last code unit alone shows the rejection.
+    let pieces = trace(alloc, bytes.as_slice(), 238)?;
+    assert_eq!(rt; pieces.as_str(), "<0><57>!114 120 12 false");
+    Ok(())
+}
+
+/// Whether a decoder that found no memory for a piece answers so from then on, hands out nothing, and has the same place;
+/// true where it found memory for all.
+fn keeps_want(decoder: &mut Decoder, bytes: &[u8]) -> bool {
+    for part in bytes.chunks(50) {
+        match feed(decoder, part) {
+            Err(DecodeFault::NoMemory) => {
+                let place = decoder.place();
+                let is_same = match feed(decoder, part) {
+                    Err(DecodeFault::NoMemory) => decoder.place() == place,
+                    _ => false,
+                };
+                return is_same && decoder.next().is_none();
+            }
+            Ok(()) => {}
+            Err(DecodeFault::Refused { .. }) => return false,
+        }
+    }
+    true
+}
+
+/// To be run with each allocation refused in turn.
+#[test]
+fn want_of_memory_is_kept(rt: HostRuntime) -> Result<(), Fail> {
+    let alloc = rt.alloc();
+    let Ok(mut bytes) = wide(alloc, REQUEST) else {
+        return Ok(());
+    };
+    let Ok(more) = wide(
+        alloc,
+        "<mos><mosID>d</mosID><ncsID>n</ncsID><roDelete><roID>R</roID></roDelete></mos>",
+    ) else {
+        return Ok(());
+    };
+    if bytes.extend_from_slice(more.as_slice()).is_err() {
+        return Ok(());
+    }
+    let mut decoder = Decoder::new(alloc);
+    let is_kept = keeps_want(&mut decoder, bytes.as_slice());
+    let_go(decoder);
+    assert!(rt; is_kept);
     Ok(())
 }

@@ -63,6 +63,20 @@ impl EventDecoder {
         self.count
     }
 
+    /// The code units that were fed behind the last message that was handed out.
+    pub fn held(&self) -> &[u16]
+        ensures { result.now ≡ (self.now).stream.held }
+    {
+        self.reader.held()
+    }
+
+    /// The byte that was fed behind the last whole code unit, if there is one.
+    pub fn odd_byte(&self) -> Option<u8>
+        ensures { result ≡ (self.now).odd }
+    {
+        self.odd
+    }
+
     /// Feeds more bytes of the stream. Where it is read no further, they are dropped.
     ///
     /// # Errors

@@ -91,6 +91,13 @@ impl Reader {
         self.base + (self.held.len() - self.from)
     }
 
+    /// The code units that were fed behind the last message that was handed out.
+    pub fn held(&self) -> &[u16]
+        ensures { result.now ≡ (self.now).held }
+    {
+        behind(&self.held, self.from)
+    }
+
     /// Lets go of the units of messages that were handed out.
     fn forget(&mut self) -> Result<(), NoMemory>
         ensures { self.new ≡ self.old }

@@ -1,0 +1,19 @@
+//! Code units that say nothing.
+ghost use Rattle.std.specs.Prelude.{◌≡◌};
+ghost use Rattle.mos_codec.specs.Decoding.{are_blank as are_blank_of, is_blank as is_blank_of};
+
+fn is_blank(unit: u16) -> bool
+    ensures { result ≡ is_blank_of unit }
+{
+    unit == 32 || unit == 9 || unit == 10 || unit == 13 || unit == 0xFEFF
+}
+
+/// Whether all of them are white space or U+FEFF.
+pub fn are_blank(units: &[u16]) -> bool
+    ensures { result ≡ are_blank_of units.now }
+{
+    match units {
+        [] => true,
+        [unit, more @ ..] => is_blank(*unit) && are_blank(more),
+    }
+}
