@@ -3,3 +3,4 @@ pub mod Sound
 pub mod First
 pub mod Taken
 pub mod Pinning
+pub mod Handed

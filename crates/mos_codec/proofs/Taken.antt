@@ -1,5 +1,5 @@
 -- What taking the whole messages of a stream comes to.
-use Rattle.std.proofs.Common.{◌≡◌, ℕ, ◌+◌, ◌⊎◌, false, List, [], ◌∷◌, ◌++◌, length, map, Option, Some, None, Result, Ok, Err, refl, sym, ap, subst, ◌∙◌}
+use Rattle.std.proofs.Common.{◌≡◌, ℕ, ◌+◌, ◌⊎◌, false, List, [], ◌∷◌, ◌++◌, length, map, Option, Some, None, Result, Ok, Err, inl, inr, refl, sym, ap, subst, ◌∙◌}
 use Rattle.std.specs.List.{AllByRecursion}
 use Rattle.std.proofs.lemmas.List.{append_assoc}
 use Rattle.mos_fields.specs.Characters.{units_in}
@@ -9,8 +9,8 @@ use Rattle.mos_lexer.specs.Units.{Found as FoundOf, UnitRun, still_reads, comple
 use Rattle.mos_reader.specs.declared.found.Found.{Found}
 use Rattle.mos_reader.specs.declared.found.ReadFault.{ReadFault}
 use Rattle.mos_reader.specs.declared.found.ReadFault.TheVariants.{Rejected, NoMemory}
-use Rattle.mos_reader.specs.Answers.{Answers, ComesTo, Stream, answer_of, fed, stream_behind}
-use Rattle.mos_decoder.specs.Bytes.{ByteStream, HasHanded, Tells, found_of}
+use Rattle.mos_reader.specs.Answers.{Answers, ComesTo, Stream, answer_of, fed, fed_on, stream_behind}
+use Rattle.mos_decoder.specs.Bytes.{ByteStream, HasHanded, Tells, behind_odd, fed_bytes, found_of}
 use Rattle.mos_values.specs.MessageViews.{envelope_events}
 use Rattle.mos_values.specs.declared.message.Envelope.{Envelope}
 use Rattle.value_laws.specs.Laws.{EventsPinEnvelopes}
@@ -83,3 +83,12 @@ stopped-read bytes found s t ready (Rejected place k) h a told =
     let c : ComesTo (unit_run start_reader s.stream.held) s.stream (Err (Rejected place k)) t.stream = subst (λ (z : Option ReadFault). Answers false z s.stream (Err (Rejected place k)) t.stream) h.reads a in
     (told, fed-behind (unit_run start_reader s.stream.held) s.stream t.stream place k c.0 c.1 ∙ sym h.units)
 stopped-read bytes found s t ready NoMemory h a told = tt
+
+-- ---- feeding
+
+-- where the stream is read, the units of what is fed stand behind those that are held
+pub fed-reads : (s t : ByteStream) (bytes : List ℕ) → t ≡ fed_bytes s bytes → s.stream.fault ≡ None → (t.stream.fault ≡ None) × (t.stream.held ≡ s.stream.held ++ units_in (behind_odd s.odd bytes))
+fed-reads s t bytes e clean =
+    let us = units_in (behind_odd s.odd bytes) in
+    let is : t.stream ≡ fed_on None s.stream us = ap (λ (z : ByteStream). z.stream) e ∙ ap (λ (k : Option ReadFault). fed_on k s.stream us) clean in
+    (ap (λ (z : Stream). z.fault) is, ap (λ (z : Stream). z.held) is)

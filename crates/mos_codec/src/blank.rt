@@ -9,6 +9,7 @@ fn is_blank(unit: u16) -> bool
 }
 
 /// Whether all of them are white space or U+FEFF.
+#[tactic(auto, unfolding(crate::specs::Decoding::are_blank))]
 pub fn are_blank(units: &[u16]) -> bool
     ensures { result ≡ are_blank_of units.now }
 {

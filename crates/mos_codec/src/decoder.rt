@@ -1,5 +1,5 @@
 //! From a stream of bytes to envelopes.
-ghost use Rattle.std.specs.Prelude.{◌≡◌, ◌+◌, ◌<◌, ◌^◌, ◌++◌, ℕ, List, [], Some, Err, None, IfSome, length};
+ghost use Rattle.std.specs.Prelude.{◌≡◌, ◌+◌, ◌<◌, ◌^◌, ◌++◌, ℕ, List, [], Some, Err, None, IfNone, IfSome, length};
 ghost use Rattle.mos_decoder.specs.Bytes.{behind_odd};
 ghost use Rattle.mos_fields.specs.Characters.{units_in};
 ghost use Rattle.mos_lexer.specs.Units.{Found as FoundOf};
@@ -85,7 +85,11 @@ impl Decoder {
             Some(_) => 1,
             None => 0,
         };
-        self.events.held().len().saturating_mul(2).saturating_add(odd)
+        self.events
+            .held()
+            .len()
+            .saturating_mul(2)
+            .saturating_add(odd)
     }
 
     /// Whether nothing but white space and U+FEFF was fed since the last whole message. It takes no memory.
@@ -149,6 +153,7 @@ impl Decoder {
     /// The next message that is whole, in the order of the stream; None exactly where none is left. It takes no memory.
     pub fn next(&mut self) -> Option<Envelope>
         ensures hands { HandsOut (self.old).ready result self.old self.new }
+        ensures none { IfNone result ((self.new).ready ≡ []) }
         ensures taken { (bytes : List ℕ) (found : List FoundOf) → HasTaken self.old bytes found → HasTaken self.new bytes (handed_more found result (self.new).began) }
         ensures named { IfSome result (λ e. IsNamed e.message) }
         ensures in_range { IfSome result (λ e. IsInRange e.message) }

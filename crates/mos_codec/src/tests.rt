@@ -1,5 +1,5 @@
 //! An envelope as bytes, and back.
-ghost use Rattle.std.specs.Prelude.{IfOk};
+ghost use Rattle.std.specs.Prelude.{◌≡◌, [], true, IfOk};
 ghost use Rattle.mos_values.specs.Sound.{IsSound};
 
 use crate::whole::let_go;
@@ -72,7 +72,7 @@ enum Told {
 }
 
 /// The encoding of the message that is handed out next, or what feeding answered.
-fn told(alloc: Global, decoder: &mut Decoder, fed: Result<(), DecodeFault>) -> Told {
+fn outcome(alloc: Global, decoder: &mut Decoder, fed: Result<(), DecodeFault>) -> Told {
     if let Some(envelope) = decoder.next() {
         let again = encode(alloc, &envelope);
         let_go(envelope);
@@ -88,12 +88,22 @@ fn told(alloc: Global, decoder: &mut Decoder, fed: Result<(), DecodeFault>) -> T
     }
 }
 
+/// Lets go of the messages that weren't handed out yet: whether there were no more than a thousand.
+fn drain(decoder: &mut Decoder) -> bool
+    ensures { result ≡ true → (decoder.new).ready ≡ [] }
+{
+    for _ in 0..1000 {
+        match decoder.next() {
+            Some(envelope) => let_go(envelope),
+            None => return true,
+        }
+    }
+    false
+}
+
 /// Feeds bytes where no message is left, as it is in these tests.
 fn feed(decoder: &mut Decoder, part: &[u8]) -> Result<(), DecodeFault> {
-    while let Some(envelope) = decoder.next() {
-        let_go(envelope);
-    }
-    if decoder.place() < 100_000_000 && part.len() < 100_000_000 {
+    if drain(decoder) && decoder.place() < 100_000_000 && part.len() < 100_000_000 {
         decoder.feed(part)
     } else {
         Ok(())
@@ -104,7 +114,7 @@ fn feed(decoder: &mut Decoder, part: &[u8]) -> Result<(), DecodeFault> {
 fn first_of(alloc: Global, decoder: &mut Decoder, bytes: &[u8], piece: usize) -> Told {
     for part in bytes.chunks(piece.max(1)) {
         let fed = feed(decoder, part);
-        match told(alloc, decoder, fed) {
+        match outcome(alloc, decoder, fed) {
             Told::More => {}
             first => return first,
         }
@@ -161,29 +171,59 @@ fn a_million_units_in_pieces_of_one_byte(rt: HostRuntime) -> Result<(), Fail> {
     Ok(())
 }
 
-/// What is told of a stream: each message by its place, what feeding answered, and what stands behind.
-fn trace(alloc: Global, bytes: &[u8], piece: usize) -> Result<String, NoMemory> {
-    let mut decoder = Decoder::new(alloc);
-    let mut out = String::new(alloc);
+/// Appends the places of the messages that weren't handed out yet.
+fn push_places(alloc: Global, decoder: &mut Decoder, out: &mut String) -> Result<(), NoMemory> {
+    for _ in 0..1000 {
+        match decoder.next() {
+            Some(envelope) => let_go(envelope),
+            None => return Ok(()),
+        }
+        out.push_str(format!(in alloc; "<{}>", decoder.began())?.as_str())?;
+    }
+    Ok(())
+}
+
+/// Appends a fault of feeding.
+fn push_fault(
+    alloc: Global,
+    fed: Result<(), DecodeFault>,
+    out: &mut String,
+) -> Result<(), NoMemory> {
+    match fed {
+        Ok(()) => Ok(()),
+        Err(DecodeFault::Refused { place, .. }) => {
+            out.push_str(format!(in alloc; "!{place}")?.as_str())
+        }
+        Err(DecodeFault::NoMemory) => Err(NoMemory),
+    }
+}
+
+/// Appends what is told of a stream: each message by its place, what feeding answered, and what stands behind.
+fn push_trace(
+    alloc: Global,
+    decoder: &mut Decoder,
+    bytes: &[u8],
+    piece: usize,
+    out: &mut String,
+) -> Result<(), NoMemory> {
     for part in bytes.chunks(piece.max(1)) {
-        let fed = feed(&mut decoder, part);
-        while let Some(envelope) = decoder.next() {
-            let_go(envelope);
-            out.push_str(format!(in alloc; "<{}>", decoder.began())?.as_str())?;
-        }
-        match fed {
-            Ok(()) => {}
-            Err(DecodeFault::Refused { place, .. }) => {
-                out.push_str(format!(in alloc; "!{place}")?.as_str())?;
-            }
-            Err(DecodeFault::NoMemory) => return Err(NoMemory),
-        }
+        let fed = feed(decoder, part);
+        push_places(alloc, decoder, out)?;
+        push_fault(alloc, fed, out)?;
     }
     let place = decoder.place();
     let behind = decoder.behind();
     let empty = decoder.is_empty();
-    out.push_str(format!(in alloc; " {place} {behind} {empty}")?.as_str())?;
+    out.push_str(format!(in alloc; " {place} {behind} {empty}")?.as_str())
+}
+
+/// What is told of a stream.
+fn trace(alloc: Global, bytes: &[u8], piece: usize) -> Result<String, NoMemory> {
+    let mut decoder = Decoder::new(alloc);
+    let mut out = String::new(alloc);
+    let pushed = push_trace(alloc, &mut decoder, bytes, piece, &mut out);
     let_go(decoder);
+    pushed?;
     Ok(out)
 }
 
@@ -195,13 +235,25 @@ fn what_stands_behind_the_last_message(rt: HostRuntime) -> Result<(), Fail> {
     let alloc = rt.alloc();
     let mut bytes = wide(alloc, REQUEST)?;
     assert_eq!(rt; trace(alloc, &[], 1)?.as_str(), " 0 0 true");
-    assert_eq!(rt; trace(alloc, bytes.as_slice(), 7)?.as_str(), "<0> 57 0 true");
+    assert_eq!(rt;
+        trace(alloc, bytes.as_slice(), 7)?.as_str(),
+        "<0> 57 0 true"
+    );
     bytes.extend_from_slice(&[0, 32, 0xFE, 0xFF])?;
-    assert_eq!(rt; trace(alloc, bytes.as_slice(), 1000)?.as_str(), "<0> 59 4 true");
+    assert_eq!(rt;
+        trace(alloc, bytes.as_slice(), 1000)?.as_str(),
+        "<0> 59 4 true"
+    );
     bytes.push(0)?;
-    assert_eq!(rt; trace(alloc, bytes.as_slice(), 3)?.as_str(), "<0> 59 5 false");
+    assert_eq!(rt;
+        trace(alloc, bytes.as_slice(), 3)?.as_str(),
+        "<0> 59 5 false"
+    );
     bytes.push(60)?;
-    assert_eq!(rt; trace(alloc, bytes.as_slice(), 1000)?.as_str(), "<0> 60 6 false");
+    assert_eq!(rt;
+        trace(alloc, bytes.as_slice(), 1000)?.as_str(),
+        "<0> 60 6 false"
+    );
     Ok(())
 }
 
@@ -219,20 +271,32 @@ fn messages_before_a_rejection_come(rt: HostRuntime) -> Result<(), Fail> {
     Ok(())
 }
 
-/// Whether a decoder that found no memory for a piece answers so from then on, hands out nothing, and has the same place;
-/// true where it found memory for all.
+/// Whether no message is left to be handed out.
+fn hands_nothing(decoder: &mut Decoder) -> bool {
+    match decoder.next() {
+        Some(envelope) => {
+            let_go(envelope);
+            false
+        }
+        None => true,
+    }
+}
+
+/// Whether feeding finds no memory, changes no place and makes no message.
+fn wants_memory(decoder: &mut Decoder, part: &[u8]) -> bool {
+    let place = decoder.place();
+    match feed(decoder, part) {
+        Err(DecodeFault::NoMemory) => decoder.place() == place && hands_nothing(decoder),
+        _ => false,
+    }
+}
+
+/// Whether a decoder that found no memory for a piece finds none from then on; true where it found memory for all.
 fn keeps_want(decoder: &mut Decoder, bytes: &[u8]) -> bool {
     for part in bytes.chunks(50) {
         match feed(decoder, part) {
-            Err(DecodeFault::NoMemory) => {
-                let place = decoder.place();
-                let is_same = match feed(decoder, part) {
-                    Err(DecodeFault::NoMemory) => decoder.place() == place,
-                    _ => false,
-                };
-                return is_same && decoder.next().is_none();
-            }
             Ok(()) => {}
+            Err(DecodeFault::NoMemory) => return wants_memory(decoder, part),
             Err(DecodeFault::Refused { .. }) => return false,
         }
     }

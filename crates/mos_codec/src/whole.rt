@@ -1,5 +1,5 @@
 //! The messages that are whole, as envelopes.
-ghost use Rattle.std.specs.Prelude.{◌≡◌, ◌+◌, ◌<◌, ◌^◌, ◌++◌, ℕ, List, [], ◌∷◌, None, IfNone, IfOk, IfSome, OnOk, length};
+ghost use Rattle.std.specs.Prelude.{◌≡◌, ◌+◌, ◌<◌, ◌^◌, ◌++◌, ℕ, List, [], ◌∷◌, None, IfNone, IfOk, IfSome, OnErr, OnOk, length};
 ghost use Rattle.std.specs.List.{AllByRecursion};
 ghost use Rattle.mos_decoder.specs.Bytes.{HasHanded, IsReadValue, behind_odd, found_of};
 ghost use Rattle.mos_fields.specs.Characters.{units_in};
@@ -34,7 +34,7 @@ pub struct Placed {
 pub fn let_go<T: Drop>(_value: T) {}
 
 /// The envelope of events that were read.
-fn placed(alloc: Global, found: Found) -> Result<Placed, NoMemory>
+fn place(alloc: Global, found: Found) -> Result<Placed, NoMemory>
     requires { IsReadValue found.value }
     ensures events { IfOk result (λ p. placed_events p ≡ found_of found) }
     ensures ready { IfOk result (λ p. IsReady p) }
@@ -49,15 +49,12 @@ fn placed(alloc: Global, found: Found) -> Result<Placed, NoMemory>
 }
 
 /// Puts a message behind those that are whole.
-fn push_message(
-    alloc: Global,
-    found: Found,
-    ready: &mut VecDeque<Placed>,
-) -> Result<(), NoMemory>
+fn push_message(alloc: Global, found: Found, ready: &mut VecDeque<Placed>) -> Result<(), NoMemory>
     requires { IsReadValue found.value }
-    ensures { OnOk result (IsMore (found_of found) ready.old.items ready.new.items) }
+    ensures more { OnOk result (IsMore (found_of found) ready.old.items ready.new.items) }
+    ensures same { OnErr result (ready.new.items ≡ ready.old.items) }
 {
-    let placed = placed(alloc, found)?;
+    let placed = place(alloc, found)?;
     match ready.push_back(placed) {
         Ok(()) => Ok(()),
         Err(full) => {

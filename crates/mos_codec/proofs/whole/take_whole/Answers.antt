@@ -5,17 +5,10 @@ use Rattle.mos_codec.specs.Decoding.{with_ready}
 use Rattle.mos_codec.proofs.Taken.{coming-more, first-stopped, first-whole, handed-more, ready-more, stopped-read, whole-read}
 use Rattle.mos_codec.proofs.whole.take_whole.Goals as goal
 
-pub message-invariant : goal.message-invariant
-message-invariant c = record {
-  handed = λ bytes found h. h;
-  ready = λ h. h;
-  first = λ e us rest h clean held none. inl (none, clean, held);
-}
-
 pub message-preserved : goal.message-preserved
 message-preserved c =
     let f = c.in-Ok-Some.found in
-    let more = c.in-Ok.ensures in
+    let more = c.in-Ok.ensures.more in
     record {
       handed = λ bytes found h.
           handed-more c.next.new.self bytes found (found_of f) c.message.ready.items c.push_message.new.ready.items more
