@@ -1,5 +1,5 @@
 -- Raw elements that may stand in a record.
-use Rattle.std.proofs.Common.{◌≡◌, ℕ, Bool, true, false, cond, List, [], ◌∷◌, ◌++◌, map, Option, Some, None, refl, sym, ap, ◌∙◌, subst, Decides, ◌↔◌}
+use Rattle.std.proofs.Common.{◌≡◌, Bool, true, false, List, [], ◌∷◌, ◌++◌, map, Option, Some, None, refl, sym, ap, ◌∙◌, subst, Decides, ◌↔◌}
 use Rattle.std.specs.List.{AllByRecursion, flat_map}
 use Rattle.std.proofs.lemmas.Bool.{false≢true}
 use Rattle.mos_fields.specs.Characters.{Text}
@@ -12,7 +12,7 @@ use Rattle.mos_fields.specs.Values.{samples_text, rev_text, air_text, obj_type_t
 use Rattle.mos_tables.specs.declared.column.Column.{Column}
 use Rattle.mos_tables.specs.declared.others.Others.TheVariants.{Kept}
 use Rattle.mos_tables.specs.declared.table.Table.{Table}
-use Rattle.mos_tables.specs.Events.{Event, leaf, raw, opens, closes}
+use Rattle.mos_tables.specs.Events.{Event, raw}
 use Rattle.mos_tables.specs.Tables.{columns, others}
 use Rattle.mos_values.specs.declared.piece.Piece.{Piece}
 use Rattle.mos_values.specs.declared.piece.Piece.TheVariants as pieces

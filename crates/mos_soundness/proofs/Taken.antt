@@ -1,5 +1,5 @@
 -- The names that no message of another kind has.
-use Rattle.std.proofs.Common.{◌≡◌, ℕ, Bool, true, false, cond, not, List, [], ◌∷◌, ◌++◌, map, codes, Option, Some, None, is_some, refl, sym, ap, ◌∙◌, subst, Decides}
+use Rattle.std.proofs.Common.{◌≡◌, Bool, true, false, cond, not, List, [], ◌∷◌, ◌++◌, map, codes, Option, Some, None, is_some, refl, sym, ap, ◌∙◌, subst, Decides}
 use Rattle.std.proofs.lemmas.Bool.{false≢true}
 use Rattle.mos_fields.specs.Characters.{Text, units_of}
 use Rattle.mos_fields.specs.Fields.{same}

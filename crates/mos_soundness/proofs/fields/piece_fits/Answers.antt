@@ -1,5 +1,4 @@
 use Rattle.std.proofs.Common.{true}
-use Rattle.mos_values.specs.Parts.{maybe_raw}
 use Rattle.mos_values.specs.declared.piece.Piece.TheVariants as pieces
 use Rattle.mos_soundness.proofs.Fitting.{at_piece, one_fits, none_fits, some_fits, plain_fits, plain_if}
 use Rattle.mos_soundness.proofs.fields.piece_fits.Goals as goal
