@@ -1,0 +1,34 @@
+//! What the server and its gateways write has an encoding, where the edits that the server takes have one. Laws.
+//!
+//! Each law stands as the contract of a function that does nothing.
+#![tactic(auto)]
+
+ghost use Rattle.std.specs.Prelude.{List, Bool};
+ghost use Rattle.std.specs.List.{AllByRecursion};
+ghost use Rattle.mos_fields.specs.Characters.{Text};
+ghost use Rattle.mos_edits.specs.Orders.{Edit};
+ghost use Rattle.mos_edits.specs.Entries.{Entry, order_after, order_now};
+ghost use Rattle.mos_machines.specs.Steps.{ServerState, ServerEvent, server_step, DeviceEvent, device_step};
+ghost use Rattle.mos_machines.specs.Device.{GateState};
+ghost use Rattle.written_laws.specs.Laws.{IsSoundEdit, HasSoundEdits, IsSoundOrder, IsSoundAnswer, IsSoundEvent};
+
+/// Sound edits leave sound orders: after any edits of one roID, and after all entries of a journal.
+///
+/// An edit that has a fault changes nothing, so the edits need not be accepted.
+pub fn orders_are_sound()
+    ensures after { (r : Text) (es : List Edit) → AllByRecursion IsSoundEdit es → IsSoundOrder (order_after r es) }
+    ensures now { (journal : List Entry) (r : Text) → HasSoundEdits journal → IsSoundOrder (order_now journal r) }
+{}
+
+/// A server whose journal has sound edits writes sound messages only, whatever it is told, heard or asked: edits of the
+/// journal, orders, their headers, acknowledgements and heartbeats. It keeps a journal of sound edits where the commands
+/// bring sound ones.
+pub fn server_writes_sound_messages()
+    ensures answer { (fails : Bool) (s : ServerState) (e : ServerEvent) → HasSoundEdits s.journal → IsSoundAnswer (server_step fails s e).0 }
+    ensures journal { (fails : Bool) (s : ServerState) (e : ServerEvent) → HasSoundEdits s.journal → IsSoundEvent e → HasSoundEdits (server_step fails s e).1.journal }
+{}
+
+/// A gateway writes sound messages only, whatever it holds and whatever it reads.
+pub fn gateway_writes_sound_messages()
+    ensures answer { (g : GateState) (e : DeviceEvent) → IsSoundAnswer (device_step g e).0 }
+{}
