@@ -2,3 +2,5 @@ pub mod Elements
 pub mod Records
 pub mod Journals
 pub mod Machines
+pub mod Pairings
+pub mod Runs

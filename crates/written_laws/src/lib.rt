@@ -3,14 +3,16 @@
 //! Each law stands as the contract of a function that does nothing.
 #![tactic(auto)]
 
-ghost use Rattle.std.specs.Prelude.{List, Bool};
+ghost use Rattle.std.specs.Prelude.{ℕ, List, Bool};
 ghost use Rattle.std.specs.List.{AllByRecursion};
 ghost use Rattle.mos_fields.specs.Characters.{Text};
 ghost use Rattle.mos_edits.specs.Orders.{Edit};
 ghost use Rattle.mos_edits.specs.Entries.{Entry, order_after, order_now};
 ghost use Rattle.mos_machines.specs.Steps.{ServerState, ServerEvent, server_step, DeviceEvent, device_step};
 ghost use Rattle.mos_machines.specs.Device.{GateState};
+ghost use Rattle.world_laws.specs.World.{WorldEvent, opening, world_step, run};
 ghost use Rattle.written_laws.specs.Laws.{IsSoundEdit, HasSoundEdits, IsSoundOrder, IsSoundAnswer, IsSoundEvent};
+ghost use Rattle.written_laws.specs.Worlds.{IsSoundCommand, IsSoundEffect, IsSoundWorld};
 
 /// Sound edits leave sound orders: after any edits of one roID, and after all entries of a journal.
 ///
@@ -31,4 +33,11 @@ pub fn server_writes_sound_messages()
 /// A gateway writes sound messages only, whatever it holds and whatever it reads.
 pub fn gateway_writes_sound_messages()
     ensures answer { (g : GateState) (e : DeviceEvent) → IsSoundAnswer (device_step g e).0 }
+{}
+
+/// Of each world that a run ends in, whose commands bring sound edits: all unread messages of all connections are sound, and
+/// so is each message that a further event writes.
+pub fn worlds_send_sound_messages()
+    ensures worlds { (devices : ℕ) (events : List WorldEvent) → AllByRecursion IsSoundCommand events → IsSoundWorld (run (opening devices) events) }
+    ensures written { (devices : ℕ) (events : List WorldEvent) (e : WorldEvent) → AllByRecursion IsSoundCommand events → IsSoundEffect (world_step (run (opening devices) events) e).1 }
 {}
