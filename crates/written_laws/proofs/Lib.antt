@@ -4,3 +4,7 @@ pub mod Journals
 pub mod Machines
 pub mod Pairings
 pub mod Runs
+pub mod Sums
+pub mod Sizes
+pub mod Actions
+pub mod Accepted

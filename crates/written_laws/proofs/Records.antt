@@ -125,12 +125,12 @@ joined-parts t (es ∷ ess) a = (all-front (Fits t) es (joined ess) a, joined-pa
 abbrev Raws : Table → List Text → List Text → Type 0
 Raws t metadata others = AllFit t (raws fields.Metadata metadata) × AllFit t (raws fields.Kept others)
 
-abbrev header_parts : Header → List (List Event)
+abbrev pub header_parts : Header → List (List Event)
 header_parts h =
     must fields.RoID h.ro ∷ must fields.RoSlug h.slug ∷ maybe fields.RoChannel h.channel ∷ maybe fields.RoEdStart h.ed_start ∷ maybe fields.RoEdDur h.ed_dur ∷ maybe fields.RoTrigger h.trigger
     ∷ maybe fields.MacroIn h.macro_in ∷ maybe fields.MacroOut h.macro_out ∷ raws fields.Metadata h.metadata ∷ raws fields.Kept h.others ∷ []
 
-abbrev patch_parts : HeaderPatch → List (List Event)
+abbrev pub patch_parts : HeaderPatch → List (List Event)
 patch_parts h =
     must fields.RoID h.ro ∷ maybe fields.RoSlug h.slug ∷ maybe fields.RoChannel h.channel ∷ maybe fields.RoEdStart h.ed_start ∷ maybe fields.RoEdDur h.ed_dur ∷ maybe fields.RoTrigger h.trigger
     ∷ maybe fields.MacroIn h.macro_in ∷ maybe fields.MacroOut h.macro_out ∷ raws fields.Metadata h.metadata ∷ raws fields.Kept h.others ∷ []

@@ -3,15 +3,20 @@
 //! Each law stands as the contract of a function that does nothing.
 #![tactic(auto)]
 
-ghost use Rattle.std.specs.Prelude.{ℕ, List, Bool};
+ghost use Rattle.std.specs.Prelude.{◌≡◌, ℕ, List, [], ◌∷◌, ◌++◌, Bool, Option, Some, None};
 ghost use Rattle.std.specs.List.{AllByRecursion};
 ghost use Rattle.mos_fields.specs.Characters.{Text};
-ghost use Rattle.mos_edits.specs.Orders.{Edit};
-ghost use Rattle.mos_edits.specs.Entries.{Entry, order_after, order_now};
+ghost use Rattle.mos_edits.specs.Orders.{Order, Edit};
+ghost use Rattle.mos_edits.specs.Entries.{Entry, order_after, order_now, headers, acceptance, IsAccepted};
 ghost use Rattle.mos_machines.specs.Steps.{ServerState, ServerEvent, server_step, DeviceEvent, device_step};
 ghost use Rattle.mos_machines.specs.Device.{GateState};
+ghost use Rattle.mos_machines.specs.Values.{edit_message};
+ghost use Rattle.mos_values.specs.declared.message.Envelope.{Envelope};
+ghost use Rattle.mos_values.specs.declared.message.Message.TheVariants.{RoList, RoListAll};
+ghost use Rattle.size_laws.specs.Small.{IsSmallOrder};
 ghost use Rattle.world_laws.specs.World.{WorldEvent, opening, world_step, run};
 ghost use Rattle.written_laws.specs.Laws.{IsSoundEdit, HasSoundEdits, IsSoundOrder, IsSoundAnswer, IsSoundEvent};
+ghost use Rattle.written_laws.specs.Lengths.{HasShortNames, HasShortIds, IsSmallIfThere, IsNotTooLong};
 ghost use Rattle.written_laws.specs.Worlds.{IsSoundCommand, IsSoundEffect, IsSoundWorld};
 
 /// Sound edits leave sound orders: after any edits of one roID, and after all entries of a journal.
@@ -40,4 +45,15 @@ pub fn gateway_writes_sound_messages()
 pub fn worlds_send_sound_messages()
     ensures worlds { (devices : ℕ) (events : List WorldEvent) → AllByRecursion IsSoundCommand events → IsSoundWorld (run (opening devices) events) }
     ensures written { (devices : ℕ) (events : List WorldEvent) (e : WorldEvent) → AllByRecursion IsSoundCommand events → IsSoundEffect (world_step (run (opening devices) events) e).1 }
+{}
+
+/// What comes of accepted edits fits into messages of at most 8,388,608 code units, in envelopes with short names: the next
+/// accepted edit, the roList of an order, and the roListAll of all orders.
+///
+/// The numbers of samples of the orders fit 32 bits, and the IDs that the edit names have at most 128 characters, as those of
+/// every value in memory.
+pub fn accepted_edits_fit_messages()
+    ensures edit { (journal : List Entry) (e : Entry) (v : Envelope) → IsAccepted [] journal → acceptance journal e ≡ None → IsSmallIfThere (order_now journal e.ro) → IsSmallIfThere (order_now (journal ++ e ∷ []) e.ro) → v.message ≡ edit_message e.edit → HasShortNames v → HasShortIds e.edit → IsNotTooLong v }
+    ensures order { (journal : List Entry) (r : Text) (o : Order) (v : Envelope) → IsAccepted [] journal → order_now journal r ≡ Some o → IsSmallOrder o → v.message ≡ RoList o → HasShortNames v → IsNotTooLong v }
+    ensures orders { (journal : List Entry) (v : Envelope) → IsAccepted [] journal → v.message ≡ RoListAll (headers journal) → HasShortNames v → IsNotTooLong v }
 {}
