@@ -26,7 +26,7 @@ use Rattle.written_laws.proofs.Actions.{FitsIn, edit-within}
 
 -- ---- what is accepted is within both limits
 
-abbrev IsWithinLimit : Option Order → Type 0
+abbrev pub IsWithinLimit : Option Order → Type 0
 IsWithinLimit None = Unit {0}
 IsWithinLimit (Some o) = list_units o ≤ list_limit
 
@@ -42,9 +42,9 @@ not-over_list None next h = (tt, h)
 not-over_list (Some o) next h = not-over list_limit (list_units o) next h
 
 -- every order, and the list of them all
-record IsWithin (journal : List Entry) : Type 0 where
-  orders : (r : Text) → IsWithinLimit (order_now journal r)
-  lists : list_all_units (headers journal) ≤ list_all_limit
+pub record IsWithin (journal : List Entry) : Type 0 where
+  pub orders : (r : Text) → IsWithinLimit (order_now journal r)
+  pub lists : list_all_units (headers journal) ≤ list_all_limit
 
 accepted-limit : (journal : List Entry) (e : Entry) → acceptance journal e ≡ None → over_limit (journal ++ e ∷ []) e.ro ≡ None
 accepted-limit journal e h = go (apply e.ro (order_now journal e.ro) e.edit) (over_limit (journal ++ e ∷ []) e.ro) h
@@ -54,14 +54,14 @@ accepted-limit journal e h = go (apply e.ro (order_now journal e.ro) e.edit) (ov
     go (Done o) None k = refl
     go (Done o) (Some n) k = absurd (cc)
 
-accepted-within : (journal : List Entry) (e : Entry) → acceptance journal e ≡ None → IsWithinLimit (order_now (journal ++ e ∷ []) e.ro) × (list_all_units (headers (journal ++ e ∷ [])) ≤ list_all_limit)
+pub accepted-within : (journal : List Entry) (e : Entry) → acceptance journal e ≡ None → IsWithinLimit (order_now (journal ++ e ∷ []) e.ro) × (list_all_units (headers (journal ++ e ∷ [])) ≤ list_all_limit)
 unfolding over_limit
 accepted-within journal e h =
     let o = not-over_list (order_now (journal ++ e ∷ []) e.ro) (over list_all_limit (list_all_units (headers (journal ++ e ∷ []))) None) (accepted-limit journal e h) in
     let l = not-over list_all_limit (list_all_units (headers (journal ++ e ∷ []))) None o.1 in
     (o.0, l.0)
 
-within-push : (journal : List Entry) (e : Entry) → IsWithin journal → acceptance journal e ≡ None → IsWithin (journal ++ e ∷ [])
+pub within-push : (journal : List Entry) (e : Entry) → IsWithin journal → acceptance journal e ≡ None → IsWithin (journal ++ e ∷ [])
 within-push journal e i h = record { orders = λ r. go r (same_id r e.ro) refl; lists = (accepted-within journal e h).1 }
   where
     go : (r : Text) (b : Bool) → same_id r e.ro ≡ b → IsWithinLimit (order_now (journal ++ e ∷ []) r)
@@ -72,7 +72,7 @@ within-after : (before rest : List Entry) → IsWithin before → IsAccepted bef
 within-after before [] i a = rw (append-nil before) i
 within-after before (e ∷ rest) i a = subst (λ (es : List Entry). IsWithin es) (append_assoc before (e ∷ []) rest) (within-after (before ++ e ∷ []) rest (within-push before e i a.0) a.1)
 
-within-empty : IsWithin []
+pub within-empty : IsWithin []
 within-empty = record { orders = λ r. tt; lists = omega arith }
 
 accepted-journal : (journal : List Entry) → IsAccepted [] journal → IsWithin journal
@@ -80,14 +80,14 @@ accepted-journal journal a = within-after [] journal within-empty a
 
 -- ---- messages
 
-fits-in : (o : Option Order) → IsWithinLimit o → IsSmallIfThere o → FitsIn list_limit o
+pub fits-in : (o : Option Order) → IsWithinLimit o → IsSmallIfThere o → FitsIn list_limit o
 fits-in None h s = tt
 fits-in (Some o) h s =
     let u = order-units o s in
     let t = units_in_element (codes "roList") (body_events o) refl in
     omega (arith, h, u, t)
 
-short-envelope : (v : Envelope) (m : Message) → v.message ≡ m → HasShortNames v → units_in (message_events m) ≤ 8200000 → IsNotTooLong v
+pub short-envelope : (v : Envelope) (m : Message) → v.message ≡ m → HasShortNames v → units_in (message_events m) ≤ 8200000 → IsNotTooLong v
 short-envelope v m e s h =
     let a = envelope-units v s in
     let b : units_in (message_events v.message) ≡ units_in (message_events m) = ap (λ (x : Message). units_in (message_events x)) e in
@@ -100,14 +100,14 @@ edit-short journal e v a h b c m s k =
     (fits-in (order_now journal e.ro) ((accepted-journal journal a).orders e.ro) b) (fits-in (order_now (journal ++ e ∷ []) e.ro) (accepted-within journal e h).0 c) k in
     short-envelope v (edit_message e.edit) m s (omega (arith, w))
 
-list-units : (o : Order) → IsSmallOrder o → list_units o ≤ list_limit → units_in (message_events (messages.RoList o)) ≤ 8200000
+pub list-units : (o : Order) → IsSmallOrder o → list_units o ≤ list_limit → units_in (message_events (messages.RoList o)) ≤ 8200000
 unfolding message_events
 list-units o s h = let u = order-units o s in omega (arith, h, u)
 
 pub order-short : (journal : List Entry) (r : Text) (o : Order) (v : Envelope) → IsAccepted [] journal → order_now journal r ≡ Some o → IsSmallOrder o → v.message ≡ messages.RoList o → HasShortNames v → IsNotTooLong v
 order-short journal r o v a h b m s = short-envelope v (messages.RoList o) m s (list-units o b (subst IsWithinLimit h ((accepted-journal journal a).orders r)))
 
-all-units : (journal : List Entry) → list_all_units (headers journal) ≤ list_all_limit → units_in (message_events (messages.RoListAll (headers journal))) ≤ 8200000
+pub all-units : (journal : List Entry) → list_all_units (headers journal) ≤ list_all_limit → units_in (message_events (messages.RoListAll (headers journal))) ≤ 8200000
 unfolding message_events
 all-units journal h = let u = orders-units (headers journal) in omega (arith, h, u)
 

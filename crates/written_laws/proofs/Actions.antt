@@ -202,6 +202,15 @@ whole-units n body h = (
   let t = units_in_element (codes "roReplace") (body_events body) refl in omega (arith, t, h),
 )
 
+pub air-units : (ro : Text) (air : AirState) → IsShort ro → units_in (message_events (edit_message (edits.Air ro air))) ≤ 10000
+unfolding message_events
+air-units ro air s =
+    let t = units_in_element (codes "roReadyToAir") (must fields.RoID ro ++ must fields.RoAir (air_text air)) refl in
+    let e = units_in-append (must fields.RoID ro) (must fields.RoAir (air_text air)) in
+    let i = short-must fields.RoID 4 ro refl s in
+    let k = short-must fields.RoAir 5 (air_text air) refl (short-air air) in
+    omega (arith, t, e, i, k)
+
 pub edit-within : (n : ℕ) (r : Text) (o p : Option Order) (e : Edit) → apply r o e ≡ Done p → FitsIn n o → FitsIn n p → HasShortIds e → units_in (message_events (edit_message e)) ≤ n + 10000
 unfolding apply message_events
 edit-within n r None p (edits.Create body) h b a s = let p_is : Some body ≡ p = cc in (whole-units n body (subst (FitsIn n) (sym p_is) a)).0
@@ -234,9 +243,4 @@ edit-within n r (Some o) p (edits.Act ro action) h b a s = go (act shape (form_o
         let u = body-units (record { header = o.header; stories = ys }) in
         let v = body-units o in
         acted n ro action o.stories ys e (omega (arith, v, b)) (omega (arith, u, q)) s.0 s.1
-edit-within n r (Some o) p (edits.Air ro air) h b a s =
-    let t = units_in_element (codes "roReadyToAir") (must fields.RoID ro ++ must fields.RoAir (air_text air)) refl in
-    let e = units_in-append (must fields.RoID ro) (must fields.RoAir (air_text air)) in
-    let i = short-must fields.RoID 4 ro refl s in
-    let k = short-must fields.RoAir 5 (air_text air) refl (short-air air) in
-    omega (arith, t, e, i, k)
+edit-within n r (Some o) p (edits.Air ro air) h b a s = let u = air-units ro air s in omega (arith, u)

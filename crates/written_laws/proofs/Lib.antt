@@ -8,3 +8,8 @@ pub mod Sums
 pub mod Sizes
 pub mod Actions
 pub mod Accepted
+pub mod SmallOrders
+pub mod SoundRuns
+pub mod ShortMessages
+pub mod ShortGates
+pub mod ShortRuns

@@ -15,9 +15,9 @@ ghost use Rattle.mos_values.specs.declared.message.Envelope.{Envelope};
 ghost use Rattle.mos_values.specs.declared.message.Message.TheVariants.{RoList, RoListAll};
 ghost use Rattle.size_laws.specs.Small.{IsSmallOrder};
 ghost use Rattle.world_laws.specs.World.{WorldEvent, opening, world_step, run};
-ghost use Rattle.written_laws.specs.Laws.{IsSoundEdit, HasSoundEdits, IsSoundOrder, IsSoundAnswer, IsSoundEvent};
+ghost use Rattle.written_laws.specs.Laws.{IsSoundEdit, HasSoundEdits, IsSoundOrder, IsSoundPacket, IsSoundAnswer, IsSoundEvent};
 ghost use Rattle.written_laws.specs.Lengths.{HasShortNames, HasShortIds, IsSmallIfThere, IsNotTooLong};
-ghost use Rattle.written_laws.specs.Worlds.{IsSoundCommand, IsSoundEffect, IsSoundWorld};
+ghost use Rattle.written_laws.specs.Worlds.{IsSoundCommand, WroteOnly, CarriesOnly, IsSoundWorld, KeepsLimits, IsShortPacket};
 
 /// Sound edits leave sound orders: after any edits of one roID, and after all entries of a journal.
 ///
@@ -44,7 +44,7 @@ pub fn gateway_writes_sound_messages()
 /// so is each message that a further event writes.
 pub fn worlds_send_sound_messages()
     ensures worlds { (devices : ℕ) (events : List WorldEvent) → AllByRecursion IsSoundCommand events → IsSoundWorld (run (opening devices) events) }
-    ensures written { (devices : ℕ) (events : List WorldEvent) (e : WorldEvent) → AllByRecursion IsSoundCommand events → IsSoundEffect (world_step (run (opening devices) events) e).1 }
+    ensures written { (devices : ℕ) (events : List WorldEvent) (e : WorldEvent) → AllByRecursion IsSoundCommand events → WroteOnly IsSoundPacket (world_step (run (opening devices) events) e).1 }
 {}
 
 /// What comes of accepted edits fits into messages of at most 8,388,608 code units, in envelopes with short names: the next
@@ -56,4 +56,12 @@ pub fn accepted_edits_fit_messages()
     ensures edit { (journal : List Entry) (e : Entry) (v : Envelope) → IsAccepted [] journal → acceptance journal e ≡ None → IsSmallIfThere (order_now journal e.ro) → IsSmallIfThere (order_now (journal ++ e ∷ []) e.ro) → v.message ≡ edit_message e.edit → HasShortNames v → HasShortIds e.edit → IsNotTooLong v }
     ensures order { (journal : List Entry) (r : Text) (o : Order) (v : Envelope) → IsAccepted [] journal → order_now journal r ≡ Some o → IsSmallOrder o → v.message ≡ RoList o → HasShortNames v → IsNotTooLong v }
     ensures orders { (journal : List Entry) (v : Envelope) → IsAccepted [] journal → v.message ≡ RoListAll (headers journal) → HasShortNames v → IsNotTooLong v }
+{}
+
+/// Of each world that a run ends in, whose commands bring edits within the limits of fields and whose gateways are asked for
+/// orders by short roIDs: no unread message of a connection is too long in an envelope with short names, and neither is one
+/// that such a further event writes.
+pub fn worlds_send_short_messages()
+    ensures unread { (devices : ℕ) (events : List WorldEvent) (d c : ℕ) → AllByRecursion KeepsLimits events → CarriesOnly IsShortPacket (((run (opening devices) events).pairings d).connections c) }
+    ensures written { (devices : ℕ) (events : List WorldEvent) (e : WorldEvent) → AllByRecursion KeepsLimits events → KeepsLimits e → WroteOnly IsShortPacket (world_step (run (opening devices) events) e).1 }
 {}
