@@ -1,0 +1,4 @@
+pub mod RawNames
+pub mod Walks
+pub mod Fitting
+pub mod Taken

@@ -1,0 +1,15 @@
+pub mod Elements
+pub mod Records
+pub mod Journals
+pub mod Machines
+pub mod Pairings
+pub mod Runs
+pub mod Sums
+pub mod Sizes
+pub mod Actions
+pub mod Accepted
+pub mod SmallOrders
+pub mod SoundRuns
+pub mod ShortMessages
+pub mod ShortGates
+pub mod ShortRuns
