@@ -1,0 +1,13 @@
+//! What comes to the server and to a gateway at their ports, and what is answered there.
+//!
+//! Both machines have one type of events and one of answers, so that programs reach either by the same code.
+//! `specs/Ports.antt` says which step of its machine each event is.
+#![tactic(auto)]
+
+mod answer;
+mod event;
+mod sound_message;
+
+pub use answer::PortAnswer;
+pub use event::{PortEvent, Side, What};
+pub use sound_message::SoundMessage;

@@ -1,0 +1,8 @@
+pub mod ServerSaid
+pub mod GateSaid
+pub mod Commanded
+pub mod EditorSaid
+pub mod ListedOrders
+pub mod MessageEdits
+pub mod PlainOrders
+pub mod PortSteps

@@ -1,0 +1,21 @@
+//! The server's and the gateway's machine as machines that threads can share by a hub.
+//!
+//! Each event at a port is one step of the machine, or is answered at once; `port_events` says which. A step that finds no
+//! memory leaves the state as it was, and may be tried again.
+#![tactic(auto)]
+
+mod device_port;
+mod editing;
+mod editor_port;
+mod faults;
+mod gateway;
+mod idle;
+mod listing;
+mod replies;
+mod saying;
+mod server;
+#[cfg(test)]
+mod tests;
+
+pub use gateway::GatewayMachine;
+pub use server::ServerMachine;
