@@ -21,11 +21,3 @@ first-fed d bytes r ready start law e h =
 
 pub handed-first : (ready : List Placed) (r : Option Envelope) (d t : DecoderState) (e : Envelope) → IsFirst e ready → HandsOut ready r d t → r ≡ Some e
 handed-first ready r d t e h k = let q : HandsOut (h.0 ∷ h.1) r d t = subst (λ (z : List Placed). HandsOut z r d t) h.2 k in q.0 ∙ ap Some h.3
-
--- the envelope of an answer, or this one
-abbrev envelope-or : Option Envelope → Envelope → Envelope
-envelope-or (Some x) e = x
-envelope-or None e = e
-
-pub same-envelope : (x e : Envelope) → Some x ≡ Some e → x ≡ e
-same-envelope x e h = ap (λ (o : Option Envelope). envelope-or o e) h

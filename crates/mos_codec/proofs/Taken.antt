@@ -1,5 +1,5 @@
 -- What taking the whole messages of a stream comes to.
-use Rattle.std.proofs.Common.{◌≡◌, ℕ, ◌+◌, ◌⊎◌, false, List, [], ◌∷◌, ◌++◌, length, map, Option, Some, None, Result, Ok, Err, inl, inr, refl, sym, ap, subst, ◌∙◌}
+use Rattle.std.proofs.Common.{◌≡◌, ℕ, ◌+◌, ◌⊎◌, false, List, [], ◌∷◌, ◌++◌, map, Option, Some, None, Ok, Err, inl, inr, refl, sym, ap, subst, ◌∙◌}
 use Rattle.std.specs.List.{AllByRecursion}
 use Rattle.std.proofs.lemmas.List.{append_assoc}
 use Rattle.mos_fields.specs.Characters.{units_in}
@@ -18,7 +18,7 @@ use Rattle.mos_codec.specs.declared.whole.Placed.{Placed}
 use Rattle.mos_codec.specs.Codec.{EncodesEnvelope}
 use Rattle.mos_codec.specs.Decoding.{IsFirst, IsRead, IsReady, placed_events, with_ready}
 use Rattle.mos_codec.specs.Taking.{IsMore, TakesFirst, Took}
-use Rattle.mos_codec.proofs.First.{AnswersFirst, first_answer}
+use Rattle.mos_codec.proofs.First.{first_answer}
 
 -- ---- one more message
 

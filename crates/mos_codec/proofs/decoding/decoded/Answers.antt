@@ -1,6 +1,5 @@
 use Rattle.std.proofs.Common.{◌≡◌, None, Some, sym, ◌∙◌}
-use Rattle.mos_values.specs.declared.message.Envelope.{Envelope}
-use Rattle.mos_codec.proofs.Handed.{handed-first, same-envelope}
+use Rattle.mos_codec.proofs.Handed.{handed-first}
 use Rattle.mos_codec.proofs.decoding.decoded.Goals as goal
 
 pub unreachable-requires : goal.unreachable-requires
