@@ -1,6 +1,6 @@
 -- The raw elements of accepted records fit the records that they stand in, and no element_source is empty.
 use Rattle.std.proofs.Common.{◌≡◌, ◌+◌, Bool, true, false, cond, List, [], ◌∷◌, ◌++◌, Option, Some, None, refl, sym, ap, subst, ◌∙◌}
-use Rattle.std.specs.Prelude.{◌&&◌, nat_lt}
+use Rattle.std.specs.Prelude.{◌&&◌}
 use Rattle.std.specs.List.{AllByRecursion, flat_map}
 use Rattle.mos_fields.specs.Characters.{Text}
 use Rattle.mos_fields.specs.Fields.{name_of, same_field, same}
@@ -18,17 +18,17 @@ use Rattle.mos_tables.specs.declared.others.Others.TheVariants.{Kept, Dropped, R
 use Rattle.mos_tables.specs.declared.table.Table.{Table}
 use Rattle.mos_tables.specs.declared.table.Table.TheVariants as tables
 use Rattle.mos_tables.specs.Events.{Attribute, Event, leaf, raw, opens, closes}
-use Rattle.mos_tables.specs.Tables.{source_column, columns, others, is_ack, messages, attribute_of_table}
+use Rattle.mos_tables.specs.Tables.{source_column, columns, others, is_ack}
 use Rattle.mos_grammar.specs.Tokens.{Token, close_tag}
-use Rattle.mos_grammar.specs.Records.{Child, times, seen_from, seen_of, is_full, is_optional, is_named, column_of, lacks, lack_of, end_fault, values_of, operation_in, given_of, OpenField, Role, out_of_place, leaf_role, raw_role, record_role, message_of, with_aim, message_role, role_at, other_role, role_by, role, leaf_event, field_events, flat, found, column_events, arranged, nested, raw_events, Content, ends, white_space, field, empty_leaf, empty_leaf_tag, raw_element, raw_tag, record_element, record_tag}
+use Rattle.mos_grammar.specs.Records.{Child, times, seen_from, seen_of, is_optional, is_named, column_of, lacks, lack_of, end_fault, values_of, operation_in, OpenField, Role, out_of_place, leaf_role, raw_role, record_role, message_of, message_role, role_at, other_role, role_by, role, leaf_event, field_events, flat, found, column_events, arranged, nested, raw_events, Content, ends, white_space, field, empty_leaf, empty_leaf_tag, raw_element, raw_tag, record_element, record_tag}
 use Rattle.mos_cursor.specs.Accepted.{IsWritten, IsAccepted}
 use Rattle.mos_cursor.proofs.Columns.{column_with, column_with-same, known_column, column_of-named, table_facts}
 use Rattle.mos_cursor.proofs.Roles.{same_is, IsAdmitted, leaf_is, raw_is, record_is, empty_leaf_is, empty_raw_is, empty_record_is, IsColumn, LeafRole, RawRole, raw_column, raw_message, raw_kept, raw_dropped, RecordRole, record_column, record_message, leaf_says, raw_says, record_says}
-use Rattle.mos_values.specs.Sound.{IsNamed, IsOther}
+use Rattle.mos_values.specs.Sound.{IsNamed}
 use Rattle.encoding_laws.specs.Fitting.{or_no_fields}
-use Rattle.sound_reading.proofs.FittingRaws.{RawFits, IsOtherMessage, settled, inside, begins, begins_more, StartsAs, starts_more, Passes, passes_none, passes_leaf, passes_raw, passes_both, passes_record}
+use Rattle.sound_reading.proofs.FittingRaws.{RawFits, settled, inside, begins, begins_more, StartsAs, Passes, passes_none, passes_leaf, passes_raw, passes_both, passes_record}
 use Rattle.sound_reading.proofs.RawTokens.{raw_with_tail, raw_of_empty}
-use Rattle.sound_reading.proofs.TableFacts.{is_raw_shape, is_message_shape, IsSourceColumn, source_facts, only_column, IsEnvelope, holds_message, no_raw_column, no_column_name, other_name, inside_of_column, settled_aim, shown}
+use Rattle.sound_reading.proofs.TableFacts.{is_raw_shape, is_message_shape, source_facts, only_column, IsEnvelope, holds_message, no_raw_column, no_column_name, other_name, inside_of_column, settled_aim, shown}
 
 -- What a child adds fits the record, and something stands in an element_source.
 abbrev IsGood : Table → List Event → Type 0

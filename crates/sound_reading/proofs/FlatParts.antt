@@ -1,13 +1,12 @@
 -- The fields of a record are flat: no record begins or ends among them.
 use Rattle.std.proofs.Common.{List, [], ◌∷◌, ◌++◌, Option, Some, None}
-use Rattle.std.specs.List.{AllByRecursion, flat_map}
 use Rattle.mos_fields.specs.Characters.{Text}
 use Rattle.mos_fields.specs.Fields.{name_of}
 use Rattle.mos_fields.specs.Values.{samples_text, rev_text, air_text, obj_type_text, time_text}
 use Rattle.mos_fields.specs.declared.field.Field.{Field}
 use Rattle.mos_fields.specs.declared.field.Field.TheVariants as fields
 use Rattle.mos_tables.specs.Events.{Event}
-use Rattle.mos_values.specs.Parts.{must, maybe, maybe_as, must_raw, maybe_raw, raws, joined}
+use Rattle.mos_values.specs.Parts.{must, maybe, maybe_as, must_raw, maybe_raw, raws}
 use Rattle.mos_values.specs.Views.{header_events, patch_events, item_events, story_head_events, story_send_events, mos_obj_events, profile_events, profiles_events, mach_head_events, mach_rest_events}
 use Rattle.mos_values.specs.declared.header.Header.{Header}
 use Rattle.mos_values.specs.declared.header.HeaderPatch.{HeaderPatch}

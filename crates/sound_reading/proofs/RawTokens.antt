@@ -2,7 +2,7 @@
 use Rattle.std.proofs.Common.{◌≡◌, ℕ, Bool, true, false, List, [], ◌∷◌, ◌++◌, sym, subst, append_assoc, ap}
 use Rattle.std.proofs.lemmas.List.{append-nil}
 use Rattle.mos_fields.specs.Characters.{Text}
-use Rattle.mos_fields.specs.Raw.{is_tail, ValueText, value_ends, value_itself, value_reference, QuotedText, quoted_space, quote, EqualsText, equals_space, equals, TagText, ends_start, ends_empty, tag_space, attribute, IsRaw, raw_empty, raw_whole, IsRawElement}
+use Rattle.mos_fields.specs.Raw.{is_tail, ValueText, value_ends, value_itself, value_reference, QuotedText, quoted_space, quote, EqualsText, equals_space, equals, TagText, ends_start, ends_empty, tag_space, attribute, IsRaw, raw_empty, raw_whole}
 use Rattle.mos_tables.specs.Events.{Attribute}
 use Rattle.mos_lexer.specs.Lexing.{WritesValue, WritesQuoted, WritesEquals, WritesTag, WrittenTag}
 use Rattle.mos_lexer.specs.Lexing as lexing

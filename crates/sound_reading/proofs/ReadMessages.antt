@@ -9,7 +9,7 @@ use Rattle.mos_tables.specs.declared.table.Table.{Table}
 use Rattle.mos_tables.specs.declared.table.Table.TheVariants as tables
 use Rattle.mos_tables.specs.Events.{Attribute, Event, closes}
 use Rattle.mos_grammar.specs.Streams.{mos_name}
-use Rattle.mos_message_reading.specs.Values.{IsMessageValue, IsNamed}
+use Rattle.mos_message_reading.specs.Values.{IsNamed}
 use Rattle.mos_values.specs.Parts.{must, maybe, must_raw, attribute}
 use Rattle.mos_values.specs.Sound.{IsSoundAction, taken_names, IsSound}
 use Rattle.mos_values.specs.Views.{body_events, patch_events, headers_events, story_send_events, mos_obj_events, objects_events, mach_info_events}

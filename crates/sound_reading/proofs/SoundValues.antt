@@ -1,6 +1,6 @@
 -- A value is sound where the raw elements of its events fit.
-use Rattle.std.proofs.Common.{◌≡◌, ℕ, ◌≤◌, Bool, true, false, List, [], ◌∷◌, ◌++◌, length, map, Option, Some, None, refl, arith, codes}
-use Rattle.std.specs.List.{AllByRecursion, flat_map}
+use Rattle.std.proofs.Common.{◌≡◌, ◌≤◌, true, List, [], ◌∷◌, ◌++◌, length, Option, Some, None, refl, arith}
+use Rattle.std.specs.List.{AllByRecursion}
 use Rattle.mos_fields.specs.Characters.{Text}
 use Rattle.mos_fields.specs.Fields.{name_of}
 use Rattle.mos_fields.specs.declared.field.Field.{Field}
@@ -10,7 +10,7 @@ use Rattle.mos_fields.specs.declared.operation.Operation.TheVariants.{Insert, Re
 use Rattle.mos_tables.specs.declared.aim.Aim.TheVariants.{AtStory}
 use Rattle.mos_tables.specs.declared.table.Table.{Table}
 use Rattle.mos_tables.specs.declared.table.Table.TheVariants as tables
-use Rattle.mos_tables.specs.Events.{Event, leaf}
+use Rattle.mos_tables.specs.Events.{Event}
 use Rattle.mos_values.specs.Parts.{must, attribute}
 use Rattle.mos_values.specs.Sound.{AllFit, IsSoundItem, AreSoundItems, IsSoundStory, AreSoundStories, IsSoundBody, IsSoundPatch, IsSoundObject, IsSoundAction}
 use Rattle.mos_values.specs.Views.{header_events, patch_events, item_events, items_events, story_head_events, story_events, stories_events, body_events, headers_events, story_send_events, mos_obj_events, objects_events, profiles_events, device_type_text, supported_events, mach_head_events, mach_rest_events, mach_info_events}
