@@ -16,7 +16,7 @@ push-requires c =
     let next : suc k ≡ k + 1 = omega arith in
     let more : take (k + 1) all ≡ take k all ++ x ∷ [] = ap (λ n. take n all) (sym next) ∙ taken_next all k x c.index.ensures in
     let seen : story_ids (take (k + 1) all) ≡ story_ids c.loop-i.copy ++ clone.id ∷ [] =
-        ap story_ids more ∙ map-append (λ s. s.id) (take k all) (x ∷ []) ∙ (λ j. story_ids (sym c.loop-i.invariant j) ++ (sym copied j).id ∷ []) in
+    ap story_ids more ∙ map-append (λ s. s.id) (take k all) (x ∷ []) ∙ (λ j. story_ids (sym c.loop-i.invariant j) ++ (sym copied j).id ∷ []) in
     subst AreDistinct seen (distinct_stories_more all (k + 1) (subst (λ ss. AreDistinct (story_ids ss)) (sym c.self.view_is) c.has_distinct_ids.ensures))
 
 pub loop-i-preserved : goal.loop-i-preserved
