@@ -1,5 +1,5 @@
 -- What can be read of what is unread, and what a packet carries that is written or read.
-use Rattle.std.proofs.Common.{◌≡◌, ℕ, ◌≤◌, suc, List, [], ◌∷◌, length, get_or, Option, Some, None, refl, sym, ap, ◌∙◌, subst, arith}
+use Rattle.std.proofs.Common.{◌≡◌, ℕ, ◌≤◌, suc, List, [], ◌∷◌, length, get_or, Option, Some, None, IfNone, IfSome, refl, sym, ap, ◌∙◌, subst, arith}
 use Rattle.std.specs.List.{AllByRecursion}
 use Rattle.mos_lexer.specs.Units.{message_limit}
 use Rattle.mos_machines.specs.Messages.{Packet as Said}
@@ -73,3 +73,13 @@ readable-connections xs d lines m a = λ c. readable-line (connection_at xs d c)
 -- those of the connection at a place
 pub readable-at : (xs : List Connection) (d c i : ℕ) (x : Connection) → IsPlace xs d c i → x ≡ get_or xs i x → AreReadable xs d → IsReadableLine (Some x)
 readable-at xs d c i x p e r = subst (λ (o : Option Connection). IsReadableLine o) (ap (own d) (read-at xs i x p.within e) ∙ own-same d x (device-at xs d c i x p e)) (r (suc i))
+
+-- ---- answers of calls
+
+pub at-some : {X : Type 0} {P : X → Type 0} (o : Option X) (x : X) → o ≡ Some x → IfSome o P → P x
+at-some None x e h = absurd (cc)
+at-some {P = P} (Some y) x e h = let same : y ≡ x = cc in subst P same h
+
+pub at-none : {X A : Type 0} (o : Option X) → o ≡ None → IfNone o A → A
+at-none None e h = h
+at-none (Some y) e h = absurd (cc)

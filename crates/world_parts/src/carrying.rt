@@ -1,10 +1,8 @@
 //! Packets as they go from one end to the other: encoded where they are written, decoded where they are read.
-ghost use Rattle.std.specs.Prelude.{◌≡◌, IfOk};
-ghost use Rattle.mos_codec.specs.Codec.{IsEncodedBy};
-ghost use Rattle.mos_values.specs.declared.message.Envelope.{Envelope as Enveloped};
+ghost use Rattle.std.specs.Prelude.{IfOk};
 ghost use Rattle.world_parts.specs.Carrying.{IsReadable, IsReadAs, IsWrittenAs};
 
-use crate::packet::{EncodedPacket, Packet, PacketTag, let_go};
+use crate::packet::{EncodedPacket, Packet, let_go};
 use mos_fields::NoMemory;
 use std::alloc::Global;
 use world_messages::{decode_message, encode_message};

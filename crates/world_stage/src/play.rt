@@ -229,7 +229,7 @@ impl Play {
     /// An event that isn't a restart.
     fn event(&mut self, alloc: Global, e: &WorldEvent) -> Result<Outcome, NoMemory>
         requires sound { HasSoundEdit (event_of e.now) }
-        requires one { MatchesOne self.old }
+        requires world { MatchesOne self.old }
         requires runs { is_restart (event_of e.now) ≡ false }
         ensures { IfOk result (λ o. (w : World) → Matches self.old w → Matches self.new (world_step w (event_of e.now)).0 × (outcome_of o ≡ outcome_told w (event_of e.now))) }
     {
@@ -245,8 +245,8 @@ impl Play {
     /// The parts after an event, and what came of it.
     pub fn step(self, alloc: Global, e: &WorldEvent) -> Result<(Self, Outcome), NoMemory>
         requires sound { HasSoundEdit (event_of e.now) }
-        requires one { MatchesOne self }
-        ensures one { IfOk result (λ r. MatchesOne r.0) }
+        requires world { MatchesOne self }
+        ensures world { IfOk result (λ r. MatchesOne r.0) }
         ensures step { IfOk result (λ r. (w : World) → Matches self w → Matches r.0 (world_step w (event_of e.now)).0 × (outcome_of r.1 ≡ outcome_told w (event_of e.now))) }
     {
         match e {
