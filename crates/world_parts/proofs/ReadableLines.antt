@@ -76,9 +76,9 @@ readable-at xs d c i x p e r = subst (λ (o : Option Connection). IsReadableLine
 
 -- ---- answers of calls
 
-pub at-some : {X : Type 0} {P : X → Type 0} (o : Option X) (x : X) → o ≡ Some x → IfSome o P → P x
-at-some None x e h = absurd (cc)
-at-some {P = P} (Some y) x e h = let same : y ≡ x = cc in subst P same h
+pub at-some : {X : Type 0} (P : X → Type 0) (o : Option X) (x : X) → o ≡ Some x → IfSome o P → P x
+at-some P None x e h = absurd (cc)
+at-some P (Some y) x e h = let same : y ≡ x = cc in subst P same h
 
 pub at-none : {X A : Type 0} (o : Option X) → o ≡ None → IfNone o A → A
 at-none None e h = h

@@ -120,7 +120,7 @@ fn read_on(
     d: u32,
     c: u64,
 ) -> Result<Outcome, NoMemory>
-    requires { (gate_of gateway.old.gate).upper ≡ Some c }
+    requires linked { (gate_of gateway.old.gate).upper ≡ Some c }
     requires readable { AreReadable connections.old d }
     ensures count { length connections.new ≡ length connections.old }
     ensures others { OnOk result (LeavesOthers connections.old connections.new d) }
@@ -243,7 +243,7 @@ fn get_on(
     d: u32,
     c: u64,
 ) -> Result<Outcome, NoMemory>
-    requires { (gate_of gateway.old.gate).link ≡ Some c }
+    requires linked { (gate_of gateway.old.gate).link ≡ Some c }
     requires readable { AreReadable connections.old d }
     ensures count { length connections.new ≡ length connections.old }
     ensures others { OnOk result (LeavesOthers connections.old connections.new d) }
