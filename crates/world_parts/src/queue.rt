@@ -18,7 +18,11 @@ pub fn take_first(queue: &mut VecDeque<EncodedPacket>) -> Option<EncodedPacket>
 }
 
 /// Writes a packet at the end, where none is lost.
-pub fn write_last(queue: &mut VecDeque<EncodedPacket>, lost: bool, packet: EncodedPacket) -> Result<(), NoMemory>
+pub fn write_last(
+    queue: &mut VecDeque<EncodedPacket>,
+    lost: bool,
+    packet: EncodedPacket,
+) -> Result<(), NoMemory>
     ensures { OnOk result (queue.new.items ≡ with_written lost packet queue.old.items) }
 {
     if lost {
