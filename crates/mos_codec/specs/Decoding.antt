@@ -9,6 +9,7 @@ use Rattle.mos_message_reading.specs.Values.{IsNamed}
 use Rattle.mos_reader.specs.Answers.{fed}
 use Rattle.mos_decoder.specs.Bytes.{ByteStream, HasHanded, start_bytes}
 use Rattle.mos_values.specs.MessageViews.{envelope_events}
+use Rattle.mos_values.specs.Sound.{IsSound}
 use Rattle.mos_values.specs.declared.message.Envelope.{Envelope}
 use Rattle.value_laws.specs.Ranges.{IsInRange}
 use Rattle.mos_codec.specs.declared.whole.Placed.{Placed}
@@ -34,11 +35,12 @@ placed_events p = record { began = p.began; value = envelope_events p.envelope }
 abbrev pub with_ready : List FoundOf → List Placed → List FoundOf
 with_ready found ready = found ++ map placed_events ready
 
--- a message as it is handed out: the name of one that is kept as it was written is that of its element, and the numbers
--- are in their ranges
+-- a message as it is handed out: the name of one that is kept as it was written is that of its element, the numbers are in
+-- their ranges, and it is sound
 pub record IsReady (p : Placed) : Type 0 where
   pub named : IsNamed p.envelope.message
   pub in_range : IsInRange p.envelope.message
+  pub sound : IsSound p.envelope.message
 
 -- The bytes are a stream of these messages, as far as they go, and what is held stands behind the last of them.
 pub record IsRead (bytes : List ℕ) (found : List FoundOf) (s : ByteStream) : Type 0 where

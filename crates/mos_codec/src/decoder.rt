@@ -5,6 +5,7 @@ ghost use Rattle.mos_fields.specs.Characters.{units_in};
 ghost use Rattle.mos_lexer.specs.Units.{Found as FoundOf};
 ghost use Rattle.mos_message_reading.specs.Values.{IsNamed};
 ghost use Rattle.mos_reader.specs.Answers.{fed};
+ghost use Rattle.mos_values.specs.Sound.{IsSound};
 ghost use Rattle.mos_values.specs.declared.message.Envelope.{Envelope as Enveloped};
 ghost use Rattle.value_laws.specs.Ranges.{IsInRange};
 ghost use Rattle.mos_codec.specs.Codec.{EncodesEnvelope};
@@ -150,13 +151,15 @@ impl Decoder {
         }
     }
 
-    /// The next message that is whole, in the order of the stream; None exactly where none is left. It takes no memory.
+    /// The next message that is whole, in the order of the stream; None exactly where none is left. It takes no memory. Each
+    /// is sound, so that it may be taken as a command, and encoded again.
     pub fn next(&mut self) -> Option<Envelope>
         ensures hands { HandsOut (self.old).ready result self.old self.new }
         ensures none { IfNone result ((self.new).ready ≡ []) }
         ensures taken { (bytes : List ℕ) (found : List FoundOf) → HasTaken self.old bytes found → HasTaken self.new bytes (handed_more found result (self.new).began) }
         ensures named { IfSome result (λ e. IsNamed e.message) }
         ensures in_range { IfSome result (λ e. IsInRange e.message) }
+        ensures sound { IfSome result (λ e. IsSound e.message) }
     {
         match take_first(&mut self.ready) {
             Some(placed) => {

@@ -1,5 +1,6 @@
 //! From the bytes of one message to its envelope.
 ghost use Rattle.std.specs.Prelude.{◌≡◌, IfOk, OnOk};
+ghost use Rattle.mos_values.specs.Sound.{IsSound};
 ghost use Rattle.mos_values.specs.declared.message.Envelope.{Envelope as Enveloped};
 ghost use Rattle.mos_codec.specs.Codec.{IsEncodedBy};
 ghost use Rattle.mos_codec.specs.Decoding.{IsFirst, start_decoder};
@@ -22,12 +23,14 @@ fn feed_first(decoder: &mut Decoder, bytes: &[u8]) -> Result<(), NoMemory>
     }
 }
 
-/// The envelope that the bytes encode: the one that was encoded, or any other writer's, with nothing behind it.
+/// The envelope that the bytes encode: the one that was encoded, or any other writer's, with nothing behind it. Its message
+/// is sound.
 ///
 /// The only error is that memory runs out.
 pub fn decoded(alloc: Global, bytes: &[u8]) -> Result<Envelope, NoMemory>
     requires { (e : Enveloped) × IsEncodedBy bytes.now e }
-    ensures { (e : Enveloped) → IsEncodedBy bytes.now e → IfOk result (λ d. d ≡ e) }
+    ensures same { (e : Enveloped) → IsEncodedBy bytes.now e → IfOk result (λ d. d ≡ e) }
+    ensures sound { IfOk result (λ d. IsSound d.message) }
 {
     let mut decoder = Decoder::new(alloc);
     feed_first(&mut decoder, bytes)?;

@@ -16,6 +16,7 @@ use mos_lexer::laws::encodings_are_read;
 use mos_message_reading::{envelope_of, read_message};
 use mos_reader::{Found, ReadFault};
 use mos_values::Envelope;
+use sound_reading::laws::read_messages_are_sound;
 use std::alloc::Global;
 use std::collections::VecDeque;
 use value_laws::envelopes::events_pin_envelopes;
@@ -40,6 +41,7 @@ fn place(alloc: Global, found: Found) -> Result<Placed, NoMemory>
     ensures ready { IfOk result (λ p. IsReady p) }
 {
     read_message();
+    read_messages_are_sound();
     let envelope = envelope_of(alloc, found.value)?;
     message_is_in_range(&envelope.message);
     Ok(Placed {

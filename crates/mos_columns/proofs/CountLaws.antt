@@ -12,7 +12,7 @@ use Rattle.mos_fields.specs.Fields.{same_field}
 use Rattle.mos_fields.specs.declared.field.Field.TheVariants as fields
 use Rattle.mos_grammar.specs.declared.fault.Fault.{Fault}
 use Rattle.mos_grammar.proofs.Seen.{times_push}
-use Rattle.mos_columns.specs.Counts.{counts_of, any_counted, lacking_by, repeated_by, before_by, tag_fault_by, end_fault_by, bumped, noted_by}
+use Rattle.mos_columns.specs.Counts.{counts_of, any_counted, lacking_by, repeated_by, before_by, tag_fault_by, end_fault_by, bumped, noted_by, own_count, own_fields, restarted}
 
 pub any_is : (cs : List Column) (seen : List Field) → any_counted (counts_of cs seen) ≡ any_seen cs seen
 any_is [] seen = refl
@@ -79,11 +79,16 @@ pub bumped_is : (cs : List Column) (seen : List Field) (f : Field) → bumped cs
 bumped_is [] seen f = refl
 bumped_is (c ∷ cs) seen f = rw (times_push c.field f seen, bumped_is cs seen f) refl
 
+pub restarted_is : (cs : List Column) (seen : List Field) → restarted cs (counts_of cs seen) ≡ counts_of cs own_fields
+unfolding own_count
+restarted_is [] seen = refl
+restarted_is (c ∷ cs) seen = ap (λ (z : List ℕ). times c.field own_fields ∷ z) (restarted_is cs seen)
+
 pub noted_is : (t : Table) (ks : List ℕ) (seen : List Field) (f : Field) → ks ≡ counts_of (columns t) seen → noted_by t ks f ≡ counts_of (columns t) (seen_behind t seen f)
 noted_is t ks seen f e = ap (λ (z : List ℕ). noted_by t z f) e ∙ go (is_ack t && same_field f fields.Status)
   where
-    go : (b : Bool) → cond b (bumped (columns t) (bumped (columns t) (counts_of (columns t) []) fields.RoID) fields.RoStatus) (bumped (columns t) (counts_of (columns t) seen) f) ≡ counts_of (columns t) (cond b (fields.RoID ∷ fields.RoStatus ∷ []) (seen ++ f ∷ []))
-    go true = ap (λ (z : List ℕ). bumped (columns t) z fields.RoStatus) (bumped_is (columns t) [] fields.RoID) ∙ bumped_is (columns t) (fields.RoID ∷ []) fields.RoStatus
+    go : (b : Bool) → cond b (restarted (columns t) (counts_of (columns t) seen)) (bumped (columns t) (counts_of (columns t) seen) f) ≡ counts_of (columns t) (cond b (fields.RoID ∷ fields.RoStatus ∷ []) (seen ++ f ∷ []))
+    go true = restarted_is (columns t) seen
     go false = bumped_is (columns t) seen f
 
 pub or_none : (k : Option Fault) → k ≡ or_else k None

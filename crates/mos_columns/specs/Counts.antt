@@ -52,6 +52,25 @@ bumped [] ks f = ks
 bumped (c ∷ cs) [] f = []
 bumped (c ∷ cs) (k ∷ ks) f = cond (same_field c.field f) (k + 1) k ∷ bumped cs ks f
 
--- behind one more field: the status of a group of roAck ends the group, and then the record's own fields alone count
+-- the record's own fields of roAck, in front of its groups
+abbrev pub own_fields : List Field
+own_fields = fields.RoID ∷ fields.RoStatus ∷ []
+
+-- how often a field stands among those
+unfoldable pub own_count : Field → ℕ
+own_count f = times f own_fields
+
+-- the fields of a group that has ended count no more: the record's own fields alone count
+abbrev pub restarted : List Column → List ℕ → List ℕ
+restarted [] ks = ks
+restarted (c ∷ cs) [] = []
+restarted (c ∷ cs) (k ∷ ks) = own_count c.field ∷ restarted cs ks
+
+-- behind one more field: the status of a group of roAck ends the group
 abbrev pub noted_by : Table → List ℕ → Field → List ℕ
-noted_by t ks f = cond (is_ack t && same_field f fields.Status) (bumped (columns t) (bumped (columns t) (counts_of (columns t) []) fields.RoID) fields.RoStatus) (bumped (columns t) ks f)
+noted_by t ks f = cond (is_ack t && same_field f fields.Status) (restarted (columns t) ks) (bumped (columns t) ks f)
+
+-- each count may still grow by one
+abbrev pub may_grow : List ℕ → Bool
+may_grow [] = true
+may_grow (k ∷ ks) = nat_lt k 18446744073709551615 && may_grow ks

@@ -12,4 +12,4 @@ mod noting;
 pub use counts::{find_column, find_end_fault, find_tag_fault};
 pub use messages::{find_message, message_table};
 pub use names::is_name;
-pub use noting::{note, start_counts};
+pub use noting::{may_grow, note, start_counts};

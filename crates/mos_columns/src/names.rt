@@ -6,7 +6,7 @@ ghost use Rattle.mos_fields.specs.Fields.{same};
 pub fn is_name(name: &str, units: &[u16]) -> bool
     ensures { result ≡ same name.now units.now }
 {
-    is_text(name.as_bytes(), units)
+    name.len() == units.len() && is_text(name.as_bytes(), units)
 }
 
 fn is_text(name: &[u8], units: &[u16]) -> bool

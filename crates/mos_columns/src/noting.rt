@@ -1,14 +1,14 @@
 //! Counting the fields that were seen.
-ghost use Rattle.std.specs.Prelude.{◌≡◌, ◌++◌, ◌+◌, List, [], cond, IfOk, OnOk};
+ghost use Rattle.std.specs.Prelude.{◌≡◌, ◌≤◌, ◌+◌, ◌++◌, List, [], IfOk, OnOk, cond, drop, length, nat_lt, take, true};
 ghost use Rattle.mos_fields.specs.declared.field.Field.{Field as FieldOf};
 ghost use Rattle.mos_tables.specs.Tables.{columns as columns_of};
 ghost use Rattle.mos_grammar.specs.Records.{seen_behind};
 ghost use Rattle.mos_fields.specs.Fields.{same_field as same_field_of, number_of};
-ghost use Rattle.mos_columns.specs.Counts.{bumped, counts_of, noted_by};
+ghost use Rattle.mos_columns.specs.Counts.{bumped, counts_of, may_grow as may_grow_of, noted_by, own_count as own_count_of, restarted};
 
 use mos_fields::{Field, NoMemory};
 use mos_tables::{Column, Table};
-use std::alloc::{AllocError, Global};
+use std::alloc::Global;
 
 fn number(field: Field) -> u8
     ensures { result ≡ number_of field }
@@ -20,46 +20,6 @@ fn same_field(a: Field, b: Field) -> bool
     ensures { result ≡ same_field_of a b }
 {
     number(a) == number(b)
-}
-
-fn counted(column: &Column, count: usize, field: Field) -> Result<usize, NoMemory>
-    ensures { IfOk result (λ k. k ≡ cond (same_field_of (column.now).field field) (count + 1) count) }
-{
-    if same_field(column.field, field) {
-        match count.checked_add(1) {
-            Some(more) => Ok(more),
-            None => Err(AllocError),
-        }
-    } else {
-        Ok(count)
-    }
-}
-
-fn push_counts(
-    columns: &[Column],
-    counts: &[usize],
-    field: Field,
-    out: &mut Vec<usize>,
-) -> Result<(), NoMemory>
-    ensures { OnOk result (out.new.items ≡ out.old.items ++ bumped columns.now counts.now field) }
-{
-    match columns {
-        [] => { push_all(counts, out) }
-        [c, cs @ ..] => match counts {
-            [] => Ok(()),
-            [k, ks @ ..] => {
-                out.push(counted(c, *k, field)?)?;
-                push_counts(cs, ks, field, out)
-            }
-        },
-    }
-}
-
-fn push_all(counts: &[usize], out: &mut Vec<usize>) -> Result<(), NoMemory>
-    ensures { OnOk result (out.new.items ≡ out.old.items ++ counts.now) }
-{
-    out.extend_from_slice(counts)?;
-    Ok(())
 }
 
 fn push_zeros(columns: &[Column], out: &mut Vec<usize>) -> Result<(), NoMemory>
@@ -83,25 +43,75 @@ pub fn start_counts(alloc: Global, columns: &[Column]) -> Result<Vec<usize>, NoM
     Ok(counts)
 }
 
-fn bumped_counts(
-    alloc: Global,
-    columns: &[Column],
-    counts: &[usize],
-    field: Field,
-) -> Result<Vec<usize>, NoMemory>
-    ensures { IfOk result (λ v. v.items ≡ bumped columns.now counts.now field) }
+/// Whether each count may still grow by one, so that one more field can be counted.
+pub fn may_grow(counts: &[usize]) -> bool
+    ensures { result ≡ may_grow_of counts.now }
 {
-    let mut out = Vec::with_capacity(alloc, counts.len())?;
-    push_counts(columns, counts, field, &mut out)?;
-    Ok(out)
+    match counts {
+        [] => true,
+        [k, ks @ ..] => *k < usize::MAX && may_grow(ks),
+    }
 }
 
-fn counts_after_group(alloc: Global, columns: &[Column]) -> Result<Vec<usize>, NoMemory>
-    ensures { IfOk result (λ v. v.items ≡ bumped columns.now (bumped columns.now (counts_of columns.now []) Field.RoID) Field.RoStatus) }
+/// The count of a column that may grow, behind a field.
+fn counted(column: &Column, count: usize, field: Field) -> usize
+    requires { nat_lt count 18446744073709551615 ≡ true }
+    ensures { result ≡ cond (same_field_of (column.now).field field) (count + 1) count }
 {
-    let none = start_counts(alloc, columns)?;
-    let one = bumped_counts(alloc, columns, &none, Field::RoID)?;
-    bumped_counts(alloc, columns, &one, Field::RoStatus)
+    if same_field(column.field, field) {
+        count + 1
+    } else {
+        count
+    }
+}
+
+/// Counts a field in these columns, whose counts stand from `at` on.
+fn bump(columns: &[Column], counts: &mut [usize], at: usize, field: Field)
+    requires within { at ≤ length counts.old }
+    requires room { may_grow_of (drop at counts.old) ≡ true }
+    ensures { counts.new ≡ take at counts.old ++ bumped columns.now (drop at counts.old) field }
+{
+    match columns {
+        [] => {}
+        [c, cs @ ..] => {
+            if at < counts.len() {
+                counts[at] = counted(c, counts[at], field);
+                bump(cs, counts, at + 1, field);
+            }
+        }
+    }
+}
+
+/// How often a field stands among the own fields of roAck.
+#[tactic(auto, unfolding(crate::specs::Counts::own_count))]
+fn own_count(field: Field) -> usize
+    ensures { result ≡ own_count_of field }
+{
+    usize::from(same_field(field, Field::RoID)) + usize::from(same_field(field, Field::RoStatus))
+}
+
+/// The count of a column in front of the groups, whatever it was.
+fn count_anew(column: &Column, count: usize) -> usize
+    ensures { result ≡ own_count_of (column.now).field }
+{
+    let _ = count;
+    own_count(column.field)
+}
+
+/// The own fields of roAck alone count in these columns, whose counts stand from `at` on.
+fn restart(columns: &[Column], counts: &mut [usize], at: usize)
+    requires { at ≤ length counts.old }
+    ensures { counts.new ≡ take at counts.old ++ restarted columns.now (drop at counts.old) }
+{
+    match columns {
+        [] => {}
+        [c, cs @ ..] => {
+            if at < counts.len() {
+                counts[at] = count_anew(c, counts[at]);
+                restart(cs, counts, at + 1);
+            }
+        }
+    }
 }
 
 fn is_status(field: Field) -> bool
@@ -110,30 +120,22 @@ fn is_status(field: Field) -> bool
     same_field(field, Field::Status)
 }
 
-fn noted(
-    alloc: Global,
-    table: Table,
-    counts: &[usize],
-    field: Field,
-) -> Result<Vec<usize>, NoMemory>
-    ensures { IfOk result (λ v. v.items ≡ noted_by table counts.now field) }
+fn noted(table: Table, counts: &mut [usize], field: Field)
+    requires { may_grow_of counts.old ≡ true }
+    ensures { counts.new ≡ noted_by table counts.old field }
 {
     if table.has_groups() && is_status(field) {
-        counts_after_group(alloc, table.columns())
+        restart(table.columns(), counts, 0);
     } else {
-        bumped_counts(alloc, table.columns(), counts, field)
+        bump(table.columns(), counts, 0, field);
     }
 }
 
-/// The counts behind one more field, where the counts so far count the fields seen. Behind the status of a group of roAck
-/// the group's fields count no more. The only error is that memory runs out.
-pub fn note(
-    alloc: Global,
-    table: Table,
-    counts: &[usize],
-    field: Field,
-) -> Result<Vec<usize>, NoMemory>
-    ensures { (seen : List FieldOf) → counts.now ≡ counts_of (columns_of table) seen → IfOk result (λ v. v.items ≡ counts_of (columns_of table) (seen_behind table seen field)) }
+/// Counts one more field, where the counts count the fields seen. Behind the status of a group of roAck the group's fields
+/// count no more. It takes no memory.
+pub fn note(table: Table, counts: &mut [usize], field: Field)
+    requires { may_grow_of counts.old ≡ true }
+    ensures { (seen : List FieldOf) → counts.old ≡ counts_of (columns_of table) seen → counts.new ≡ counts_of (columns_of table) (seen_behind table seen field) }
 {
-    noted(alloc, table, counts, field)
+    noted(table, counts, field)
 }

@@ -154,24 +154,43 @@ fn text_of(alloc: Global, chars: &[char]) -> Result<Text, NoMemory>
     }
 }
 
-fn text_of_option(alloc: Global, chars: Option<&[char]>) -> Result<Option<Text>, NoMemory>
-    requires { IfSome chars (λ s. are_allowed s.now ≡ true) }
+/// The text of characters that are allowed; a text that has them already serves.
+fn text_or_same(alloc: Global, chars: &[char], text: Text, all: &[char]) -> Result<Text, NoMemory>
+    requires allowed { are_allowed chars.now ≡ true }
+    requires all { all.now ≡ text }
+    ensures { IfOk result (λ t. t ≡ chars.now) }
+{
+    if chars == all {
+        Ok(text)
+    } else {
+        text_of(alloc, chars)
+    }
+}
+
+fn text_of_option(
+    alloc: Global,
+    chars: Option<&[char]>,
+    text: Text,
+    all: &[char],
+) -> Result<Option<Text>, NoMemory>
+    requires allowed { IfSome chars (λ s. are_allowed s.now ≡ true) }
+    requires all { all.now ≡ text }
     ensures { IfOk result (λ o. o ≡ option_copied chars.entry) }
 {
     match chars {
-        Some(chars) => Ok(Some(text_of(alloc, chars)?)),
+        Some(chars) => Ok(Some(text_or_same(alloc, chars, text, all)?)),
         None => Ok(None),
     }
 }
 
-fn read_trimmed(alloc: Global, form: Form, text: &Text) -> Result<Option<Text>, NoMemory>
+fn read_trimmed(alloc: Global, form: Form, text: Text) -> Result<Option<Text>, NoMemory>
     requires { is_kept form ≡ false }
-    ensures { IfOk result (λ o. o ≡ reads form [] text.now) }
+    ensures { IfOk result (λ o. o ≡ reads form [] text) }
 {
-    let _units = text.units();
-    let mut chars = Vec::new(alloc);
+    let room = text.units().len();
+    let mut chars = Vec::with_capacity(alloc, room)?;
     text.push_to(&mut chars)?;
-    text_of_option(alloc, canonical(form, &chars))
+    text_of_option(alloc, canonical(form, &chars), text, &chars)
 }
 
 /// What a text of this form is written as, where it is known whether a record beside this one has it as its key, which
@@ -192,12 +211,12 @@ pub fn read_form(
         Form::OptId => Ok(only_if(is_at_most(128, &text), text)),
         Form::Slug => Ok(only_if(is_at_most(1024, &text), text)),
         Form::Text => Ok(Some(text)),
-        Form::Samples => read_trimmed(alloc, Form::Samples, &text),
-        Form::Rev => read_trimmed(alloc, Form::Rev, &text),
-        Form::Time => read_trimmed(alloc, Form::Time, &text),
-        Form::Air => read_trimmed(alloc, Form::Air, &text),
-        Form::ObjType => read_trimmed(alloc, Form::ObjType, &text),
-        Form::AckWord => read_trimmed(alloc, Form::AckWord, &text),
-        Form::Profile => read_trimmed(alloc, Form::Profile, &text),
+        Form::Samples => read_trimmed(alloc, Form::Samples, text),
+        Form::Rev => read_trimmed(alloc, Form::Rev, text),
+        Form::Time => read_trimmed(alloc, Form::Time, text),
+        Form::Air => read_trimmed(alloc, Form::Air, text),
+        Form::ObjType => read_trimmed(alloc, Form::ObjType, text),
+        Form::AckWord => read_trimmed(alloc, Form::AckWord, text),
+        Form::Profile => read_trimmed(alloc, Form::Profile, text),
     }
 }

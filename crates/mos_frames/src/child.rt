@@ -1,4 +1,7 @@
 //! Children of records.
+ghost use Rattle.std.specs.Prelude.{◌≡◌, length};
+ghost use Rattle.mos_frames.specs.Parts.{part_events};
+
 use mos_events::Event;
 use mos_fields::Field;
 
@@ -11,6 +14,20 @@ pub enum Part {
     Single(Event),
     /// the events of a record
     Several(Vec<Event>),
+}
+
+impl Part {
+    /// How many events it adds.
+    #[tactic(auto, using(mos_events::proofs::EventLemmas::events_length))]
+    pub fn len(&self) -> usize
+        ensures { result ≡ length (part_events self.now) }
+    {
+        match self {
+            Part::Nothing => 0,
+            Part::Single(_) => 1,
+            Part::Several(events) => events.len(),
+        }
+    }
 }
 
 /// A child element of a record: the field that it is, and what it adds to the value.

@@ -14,12 +14,12 @@ use crate::arranging::arrange;
 use crate::child::{Child, Part};
 use crate::key_set::KeySet;
 use crate::times::times;
-use mos_columns::{find_end_fault, find_tag_fault, is_name, note, start_counts};
+use mos_columns::{find_end_fault, find_tag_fault, is_name, may_grow, note, start_counts};
 use mos_events::{ElementName, Event, KnownAttribute};
 use mos_fields::{Field, NoMemory, Text};
 use mos_grammar::Fault;
 use mos_tables::{Aim, Table};
-use std::alloc::Global;
+use std::alloc::{AllocError, Global};
 use std::marker::Model;
 
 /// A record whose end tag is still to come.
@@ -37,6 +37,15 @@ pub struct Frame {
     before: Vec<Child>,
     /// the keys of those, where they have to be apart
     key_set: KeySet,
+}
+
+/// How much room the events of a record take: those of its children, and its own two. It only saves moving them again.
+fn room(children: &[Child]) -> usize {
+    let mut sum = 2usize;
+    for child in children {
+        sum = sum.saturating_add(child.part.len());
+    }
+    sum
 }
 
 impl Model for Frame {
@@ -152,14 +161,16 @@ impl Frame {
 
     /// Adds a child. Without memory for it the record stays as it was.
     #[tactic(auto, using(crate::proofs::FrameLemmas::one_more_seen, crate::proofs::PartLemmas::children_more))]
-    pub fn add(&mut self, alloc: Global, field: Field, part: Part) -> Result<(), NoMemory>
+    pub fn add(&mut self, field: Field, part: Part) -> Result<(), NoMemory>
         ensures { OnOk result (self.new ≡ added self.old (field, part_events part)) }
     {
-        let counts = note(alloc, self.table, &self.counts, field)?;
+        if !may_grow(&self.counts) {
+            return Err(AllocError);
+        }
         self.before.reserve(1)?;
         self.key_set.note(self.table, &part)?;
         self.before.push(Child { field, part }).unwrap();
-        self.counts = counts;
+        note(self.table, &mut self.counts, field);
         Ok(())
     }
 
@@ -169,7 +180,7 @@ impl Frame {
         ensures { IfOk result (λ v. events_of v.items ≡ closed self) }
     {
         let mut before = self.before;
-        let mut events = Vec::with_capacity(alloc, before.len() + 2)?;
+        let mut events = Vec::with_capacity(alloc, room(&before))?;
         events.push(Event::Opens {
             name: self.name,
             attribute: self.attribute,

@@ -95,7 +95,7 @@ impl Inside {
     fn add_child(&mut self, alloc: Global, field: Field, part: Part) -> Result<Progress, FrameFault>
         ensures { Stepped result (state_of self.new) (Ok (with_child (frame_in self.old.inner (reverse self.old.outer.items)) (frames_in (reverse self.old.outer.items)) (field, part_events part))) }
     {
-        self.inner.add(alloc, field, part)?;
+        self.inner.add(field, part)?;
         self.mode = Mode::Between;
         Ok(Progress::More)
     }
@@ -395,8 +395,8 @@ impl Inside {
         }
     }
 
-    /// Takes one token. Behind a fault nothing is promised of the state.
-    pub fn take(&mut self, alloc: Global, token: Token<'_>) -> Result<Progress, FrameFault>
+    /// Takes one token, with what the innermost record is in taken out of it.
+    fn take_owned(&mut self, alloc: Global, token: Token<'_>) -> Result<Progress, FrameFault>
         requires { IsSound token }
         ensures { Stepped result (state_of self.new) (step (state_of self.old) (token_of token.entry)) }
     {
@@ -405,6 +405,18 @@ impl Inside {
             Mode::InField(leaf) => self.in_field(alloc, leaf, token),
             Mode::BehindText(leaf, part) => self.behind_text(alloc, leaf, part, token),
             Mode::InRaw(start) => self.in_raw(alloc, start, token),
+        }
+    }
+
+    /// Takes one token. Behind a fault nothing is promised of the state.
+    pub fn take(&mut self, alloc: Global, token: Token<'_>) -> Result<Progress, FrameFault>
+        requires { IsSound token }
+        ensures { Stepped result (state_of self.new) (step (state_of self.old) (token_of token.entry)) }
+    {
+        match self.mode {
+            Mode::Between => self.between(alloc, token),
+            Mode::InField(leaf) => self.in_field(alloc, leaf, token),
+            _ => self.take_owned(alloc, token),
         }
     }
 }

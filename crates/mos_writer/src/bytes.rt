@@ -16,13 +16,17 @@ fn push_unit(out: &mut Vec<u8>, unit: u16) -> Result<(), NoMemory>
 fn push_byte(out: &mut Vec<u8>, byte: u8) -> Result<(), NoMemory>
     ensures { OnOk result (out.new.items ≡ out.old.items ++ unit_bytes byte) }
 {
-    push_unit(out, u16::from(byte))
+    let unit = u16::from(byte);
+    out.push((unit / 256) as u8)?;
+    out.push((unit % 256) as u8)?;
+    Ok(())
 }
 
 /// Appends characters of ASCII.
 pub fn push_ascii(out: &mut Vec<u8>, text: &[u8]) -> Result<(), NoMemory>
     ensures { OnOk result (out.new.items ≡ out.old.items ++ in_bytes text.now) }
 {
+    out.reserve(text.len().saturating_mul(2))?;
     for byte in text {
         push_byte(out, *byte)?;
     }

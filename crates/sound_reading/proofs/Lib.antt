@@ -1,0 +1,7 @@
+mod FittingRaws
+mod RawTokens
+mod FlatParts
+mod SoundValues
+mod TableFacts
+mod AcceptedRaws
+mod ReadMessages
