@@ -36,7 +36,7 @@ pub item_done : (story : Text) (action : ListAction Item) (ss ys : List Story) �
 item_done story action ss ys h e = act_items story action ss ∙ ap (λ p. done_unless p (edit_story story (list_result shape.item_id action) ss)) h ∙ ap (λ l. Done l) (sym e)
 
 -- an action of an order that is there
-cause_of_order : (takes : Bool) (h : Header) (d : Applied (List Story)) (f : ActFault) → IsCause takes d f → IsCause takes (with_stories h d) f
+pub cause_of_order : (takes : Bool) (h : Header) (d : Applied (List Story)) (f : ActFault) → IsCause takes d f → IsCause takes (with_stories h d) f
 cause_of_order takes h d (Missing id) c = ap (λ p. with_stories h p) c
 cause_of_order takes h d (AlreadyThere id) c = ap (λ p. with_stories h p) c
 cause_of_order true h d NoMemory c = tt

@@ -9,3 +9,4 @@ pub mod EditLemmas
 pub mod LoopLemmas
 pub mod ItemSteps
 pub mod LawLemmas
+pub mod CheckLemmas

@@ -1,6 +1,5 @@
 //! Edits on the table of orders.
 ghost use Rattle.std.specs.Prelude.{◌≡◌, ℕ, Bool, Option, IsSome, None, OnOk, OnErr, IfOk, IfErr};
-ghost use Rattle.std.specs.Option.{option_copied};
 ghost use Rattle.element_action.specs.Answers.{IsCause};
 ghost use Rattle.mos_edits.specs.Entries.{entry_of, refusal};
 ghost use Rattle.mos_edits.specs.KeyedLists.{Applied};
@@ -15,9 +14,9 @@ ghost use Rattle.ncs_core.specs.Accepting.{applied_to, rows_over, rows_after, ro
 use crate::fault::CommandFault;
 use crate::limits::{exchanged_units, overrun, units_alone};
 use crate::orders::{NO_ORDERS, Orders, Table, order_in};
-use element_action::{ActFault, apply};
+use element_action::{ActFault, applied, apply};
 use mos_fields::{Id, NoMemory};
-use mos_values::{Edit, OrderBody};
+use mos_values::Edit;
 use order_table::OrderTable;
 use rundown_log::edit_ro;
 use running_order::Order;
@@ -26,32 +25,6 @@ use std::mem::replace;
 
 // Lets a value go. What is let go here is dropped by a function of its type, and not variant by variant on each path.
 pub fn let_go<T: Drop>(_value: T) {}
-
-// The order of a body. The body is let go.
-fn order_of(alloc: Global, body: OrderBody) -> Result<Order, NoMemory>
-    ensures { IfOk result (λ o. o ≡ body) }
-{
-    let made = Order::from_body(alloc, &body);
-    let_go(body);
-    made
-}
-
-// The same order again.
-fn copied_order(alloc: Global, order: &Order) -> Result<Order, NoMemory>
-    ensures { IfOk result (λ o. o ≡ order.now) }
-{
-    order_of(alloc, order.to_body()?)
-}
-
-// The same order again, where there is one.
-fn copied(alloc: Global, order: Option<&Order>) -> Result<Option<Order>, NoMemory>
-    ensures { IfOk result (λ o. o ≡ option_copied order.entry) }
-{
-    match order {
-        Some(order) => Ok(Some(copied_order(alloc, order)?)),
-        None => Ok(None),
-    }
-}
 
 // A fault of an edit, as a command tells it.
 fn told(fault: ActFault) -> CommandFault
@@ -69,13 +42,9 @@ fn edited(alloc: Global, orders: &Table, edit: &Edit) -> Result<Option<Order>, C
     ensures made { IfOk result (λ o. applied_to orders.now (entry_of edit.now) ≡ Done o) }
     ensures fault { IfErr result (λ f. (units : Option ℕ) → IsRefusal (refusal (applied_to orders.now (entry_of edit.now)) units) f) }
 {
-    let mut order = copied(alloc, order_in(orders, edit_ro(edit)))?;
-    match apply(alloc, &mut order, edit) {
-        Ok(()) => Ok(order),
-        Err(fault) => {
-            let_go(order);
-            Err(told(fault))
-        }
+    match applied(alloc, order_in(orders, edit_ro(edit)), edit) {
+        Ok(order) => Ok(order),
+        Err(fault) => Err(told(fault)),
     }
 }
 

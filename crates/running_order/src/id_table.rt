@@ -38,6 +38,15 @@ impl IdTable {
         }
     }
 
+    /// No identifiers, and room for so many.
+    pub fn with_room(alloc: Global, count: usize) -> Result<Self, NoMemory>
+        ensures { IfOk result (λ t. t ≡ []) }
+    {
+        Ok(IdTable {
+            set: IndexSet::with_capacity(alloc, count)?,
+        })
+    }
+
     /// How many there are.
     pub fn len(&self) -> usize
         ensures { result ≡ length self.now }

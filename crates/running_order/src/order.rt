@@ -73,6 +73,21 @@ impl Order {
         Ok(OrderBody { header, stories })
     }
 
+    /// The same order again, in memory of its own: the header and each story are copied once, and the sizes aren't counted
+    /// again. The only error is that memory runs out.
+    pub fn try_clone(&self) -> Result<Order, NoMemory>
+        ensures { IfOk result (λ o. o ≡ self.now) }
+    {
+        let header = self.header.try_clone()?;
+        let stories = self.stories.try_clone()?;
+        Ok(Order {
+            header,
+            stories,
+            header_units: self.header_units,
+            stories_units: self.stories_units,
+        })
+    }
+
     /// The header.
     pub fn header(&self) -> &Header
         ensures { result.now ≡ self.now.header }

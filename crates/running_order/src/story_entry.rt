@@ -156,7 +156,7 @@ pub fn table_of(alloc: Global, items: &Items) -> Result<IdTable, NoMemory>
     requires { AreDistinct (item_ids items.now) }
     ensures { IfOk result (λ t. t ≡ item_ids items.now) }
 {
-    let mut table = IdTable::new(alloc);
+    let mut table = IdTable::with_room(alloc, items.len())?;
     for item in items.as_slice() {
         table.push(alloc, item.id.text())?;
     }

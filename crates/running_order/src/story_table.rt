@@ -44,6 +44,28 @@ impl StoryTable {
         }
     }
 
+    /// No stories, and room for so many.
+    fn with_room(alloc: Global, count: usize) -> Result<Self, NoMemory>
+        ensures { IfOk result (λ t. t ≡ []) }
+    {
+        Ok(StoryTable {
+            table: IndexMap::with_capacity(alloc, count)?,
+        })
+    }
+
+    /// The same stories again, each copied once. The only error is that memory runs out.
+    pub fn try_clone(&self) -> Result<Self, NoMemory>
+        ensures { IfOk result (λ t. t ≡ self.now) }
+    {
+        self.has_distinct_ids();
+        let alloc = self.allocator();
+        let mut copy = StoryTable::with_room(alloc, self.table.len())?;
+        for i in 0..self.table.len() {
+            copy.push(alloc, self.table[i].story().try_clone()?)?;
+        }
+        Ok(copy)
+    }
+
     /// The allocator of the table.
     pub fn allocator(&self) -> Global {
         *self.table.allocator()

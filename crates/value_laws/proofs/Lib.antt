@@ -4,7 +4,7 @@ mod FieldValues
 mod OrderValues
 mod OtherValues
 mod MachineValues
-mod RawNames
+pub mod RawNames
 mod ActionValues
 mod MessageValues
 mod RangeLemmas
