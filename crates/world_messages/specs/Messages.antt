@@ -24,9 +24,17 @@ world_envelope d m = record { mos = mos_name d; ncs = ncs_name; message_id = Non
 abbrev pub IsShortName : Text → Type 0
 IsShortName x = length x ≤ 128
 
+-- the bytes encode the envelope
+abbrev pub Encodes : List ℕ → Envelope → Type 0
+Encodes bytes e = IsEncodedBy bytes e
+
+-- its encoding isn't too long for a message
+abbrev pub IsShortEnough : Envelope → Type 0
+IsShortEnough e = length (encoding_units e) ≤ message_limit
+
 -- the bytes encode the envelope where its message is sound and its encoding isn't too long
 abbrev pub EncodesIfSound : List ℕ → Envelope → Type 0
-EncodesIfSound bytes e = IsSound e.message → length (encoding_units e) ≤ message_limit → IsEncodedBy bytes e
+EncodesIfSound bytes e = IsSound e.message → IsShortEnough e → Encodes bytes e
 
 -- The bytes are the canonical encoding of the message in its envelope, and encode it where it is sound and not too long.
 pub record IsEncodingOf (bytes : List ℕ) (d : ℕ) (m : Message) : Type 0 where

@@ -1,7 +1,7 @@
 //! From bytes to messages.
 ghost use Rattle.std.specs.Prelude.{◌≡◌, IfOk};
-ghost use Rattle.mos_codec.specs.Codec.{IsEncodedBy};
 ghost use Rattle.mos_values.specs.declared.message.Envelope.{Envelope as Enveloped};
+ghost use Rattle.world_messages.specs.Messages.{Encodes};
 
 use mos_codec::decoded;
 use mos_fields::NoMemory;
@@ -17,8 +17,8 @@ fn message_in(envelope: Envelope) -> Message
 
 /// The message whose envelope the bytes encode. The only error is that memory runs out.
 pub fn decode_message(alloc: Global, bytes: &[u8]) -> Result<Message, NoMemory>
-    requires { (e : Enveloped) × IsEncodedBy bytes.now e }
-    ensures { (e : Enveloped) → IsEncodedBy bytes.now e → IfOk result (λ m. m ≡ e.message) }
+    requires { (e : Enveloped) × Encodes bytes.now e }
+    ensures { (e : Enveloped) → Encodes bytes.now e → IfOk result (λ m. m ≡ e.message) }
 {
     match decoded(alloc, bytes) {
         Ok(envelope) => Ok(message_in(envelope)),

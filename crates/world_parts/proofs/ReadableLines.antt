@@ -1,14 +1,12 @@
 -- What can be read of what is unread, and what a packet carries that is written or read.
 use Rattle.std.proofs.Common.{◌≡◌, ℕ, ◌≤◌, suc, List, [], ◌∷◌, length, get_or, Option, Some, None, IfNone, IfSome, refl, sym, ap, ◌∙◌, subst, arith}
 use Rattle.std.specs.List.{AllByRecursion}
-use Rattle.mos_lexer.specs.Units.{message_limit}
 use Rattle.mos_machines.specs.Messages.{Packet as Said}
 use Rattle.mos_machines.specs.Values.{message_of}
 use Rattle.mos_values.specs.Units.{canonical_units, units_in}
 use Rattle.mos_values.specs.declared.message.Message.{Message}
-use Rattle.mos_codec.specs.Codec.{IsEncodedBy, encoding_units}
 use Rattle.world_laws.specs.World.{Connection as Line, front}
-use Rattle.world_messages.specs.Messages.{IsEncodingOf, IsShortName, mos_name, ncs_name, world_envelope}
+use Rattle.world_messages.specs.Messages.{Encodes, IsEncodingOf, IsShortEnough, IsShortName, mos_name, ncs_name, world_envelope}
 use Rattle.written_laws.specs.Worlds.{CarriesOnly, IsShortPacket}
 use Rattle.world_parts.specs.declared.packet.Packet.{Packet}
 use Rattle.world_parts.specs.declared.packet.EncodedPacket.{EncodedPacket}
@@ -21,11 +19,11 @@ use Rattle.world_parts.proofs.Lines.{device-at, own-same, read-at}
 
 -- ---- one packet
 
-short-enough : (d : ℕ) (q : Said) → IsShortName (mos_name d) → IsShortPacket q → length (encoding_units (world_envelope d (message_of q.message))) ≤ message_limit
+short-enough : (d : ℕ) (q : Said) → IsShortName (mos_name d) → IsShortPacket q → IsShortEnough (world_envelope d (message_of q.message))
 unfolding units_in canonical_units
 short-enough d q n s = let three : length ncs_name ≡ 3 = refl in s (world_envelope d (message_of q.message)) refl (n, omega (arith, three), tt)
 
-encoded-by : (d : ℕ) (u : EncodedPacket) (q : Said) → CarriesEncoded d u q → HasEncoding q → IsEncodedBy u.bytes.items (world_envelope d (message_of q.message))
+encoded-by : (d : ℕ) (u : EncodedPacket) (q : Said) → CarriesEncoded d u q → HasEncoding q → Encodes u.bytes.items (world_envelope d (message_of q.message))
 encoded-by d u q c h = c.bytes.encodes h.0 (short-enough d q c.bytes.named h.1)
 
 -- a packet that is written is on its way as what it carried
