@@ -1,5 +1,6 @@
 pub mod Lines
 pub mod Queues
+pub mod ReadableLines
 pub mod Telling
 pub mod ReadSteps
 pub mod ShownTimes

@@ -4,43 +4,43 @@ use Rattle.mos_edits.specs.Texts.{set_number}
 use Rattle.mos_machines.specs.Messages.{Packet as Said}
 use Rattle.world_laws.specs.World.{Connection as Line, Opener as Openers, Direction, front, rest, lose, new_connection, write_device, write_server}
 use Rattle.world_laws.specs.World.Direction.{ToServer, ToDevice}
-use Rattle.world_parts.specs.declared.packet.Packet.{Packet}
+use Rattle.world_parts.specs.declared.packet.EncodedPacket.{EncodedPacket as Packet}
 use Rattle.world_parts.specs.declared.connection.Opener.{Opener}
 use Rattle.world_parts.specs.declared.connection.Opener.TheVariants as openers
 use Rattle.world_parts.specs.declared.connection.Connection.{Connection}
-use Rattle.world_parts.specs.Matching.{Carries, CarriesAll, opener_of, MatchesConnection, MatchesLine, own, connection_at, MatchesConnections}
+use Rattle.world_parts.specs.Matching.{CarriesAll, CarriesEncoded, opener_of, MatchesConnection, MatchesLine, own, connection_at, MatchesConnections}
 use Rattle.world_parts.specs.Places.{with_written, IsLost}
 use Rattle.world_parts.proofs.Lines.{read-at, line-any}
 
 -- ---- queues
 
-empty-front : (ps : List Packet) (qs : List Said) → ps ≡ [] → CarriesAll ps qs → front qs ≡ None
-empty-front ps qs e h = go qs (subst (λ (xs : List Packet). CarriesAll xs qs) e h)
+empty-front : (d : ℕ) (ps : List Packet) (qs : List Said) → ps ≡ [] → CarriesAll d ps qs → front qs ≡ None
+empty-front d ps qs e h = go qs (subst (λ (xs : List Packet). CarriesAll d xs qs) e h)
   where
-    go : (qs : List Said) → CarriesAll [] qs → front qs ≡ None
+    go : (qs : List Said) → CarriesAll d [] qs → front qs ≡ None
     go [] h = refl
     go (q ∷ qs) h = absurd h
 
-first-carried : (p : Packet) (ps : List Packet) (qs : List Said) → CarriesAll (p ∷ ps) qs → (q : Said) × (front qs ≡ Some q) × Carries p q × CarriesAll ps (rest qs)
-first-carried p ps [] h = absurd h
-first-carried p ps (q ∷ qs) h = (q, refl, h.0, h.1)
+first-carried : (d : ℕ) (p : Packet) (ps : List Packet) (qs : List Said) → CarriesAll d (p ∷ ps) qs → (q : Said) × (front qs ≡ Some q) × CarriesEncoded d p q × CarriesAll d ps (rest qs)
+first-carried d p ps [] h = absurd h
+first-carried d p ps (q ∷ qs) h = (q, refl, h.0, h.1)
 
-carries-push : (ps : List Packet) (qs : List Said) (p : Packet) (q : Said) → CarriesAll ps qs → Carries p q → CarriesAll (ps ++ p ∷ []) (qs ++ q ∷ [])
-carries-push [] [] p q h c = (c, tt)
-carries-push [] (y ∷ qs) p q h c = absurd h
-carries-push (x ∷ ps) [] p q h c = absurd h
-carries-push (x ∷ ps) (y ∷ qs) p q h c = (h.0, carries-push ps qs p q h.1 c)
+carries-push : (d : ℕ) (ps : List Packet) (qs : List Said) (p : Packet) (q : Said) → CarriesAll d ps qs → CarriesEncoded d p q → CarriesAll d (ps ++ p ∷ []) (qs ++ q ∷ [])
+carries-push d [] [] p q h c = (c, tt)
+carries-push d [] (y ∷ qs) p q h c = absurd h
+carries-push d (x ∷ ps) [] p q h c = absurd h
+carries-push d (x ∷ ps) (y ∷ qs) p q h c = (h.0, carries-push d ps qs p q h.1 c)
 
-carries-written : (b : Bool) (ps : List Packet) (qs : List Said) (p : Packet) (q : Said) → CarriesAll ps qs → Carries p q → CarriesAll (with_written b p ps) (if b then qs else qs ++ q ∷ [])
-carries-written true ps qs p q h c = h
-carries-written false ps qs p q h c = carries-push ps qs p q h c
+carries-written : (d : ℕ) (b : Bool) (ps : List Packet) (qs : List Said) (p : Packet) (q : Said) → CarriesAll d ps qs → CarriesEncoded d p q → CarriesAll d (with_written b p ps) (if b then qs else qs ++ q ∷ [])
+carries-written d true ps qs p q h c = h
+carries-written d false ps qs p q h c = carries-push d ps qs p q h c
 
-carries-take : (k : ℕ) (ps : List Packet) (qs : List Said) → CarriesAll ps qs → CarriesAll (take k ps) (take k qs)
-carries-take zero ps qs h = tt
-carries-take (suc k) [] [] h = tt
-carries-take (suc k) [] (q ∷ qs) h = absurd h
-carries-take (suc k) (p ∷ ps) [] h = absurd h
-carries-take (suc k) (p ∷ ps) (q ∷ qs) h = (h.0, carries-take k ps qs h.1)
+carries-take : (d k : ℕ) (ps : List Packet) (qs : List Said) → CarriesAll d ps qs → CarriesAll d (take k ps) (take k qs)
+carries-take d zero ps qs h = tt
+carries-take d (suc k) [] [] h = tt
+carries-take d (suc k) [] (q ∷ qs) h = absurd h
+carries-take d (suc k) (p ∷ ps) [] h = absurd h
+carries-take d (suc k) (p ∷ ps) (q ∷ qs) h = (h.0, carries-take d k ps qs h.1)
 
 -- ---- one connection
 
@@ -48,8 +48,8 @@ pub opened-matches : (o : Opener) (x : Connection) → x ≡ record x { opener =
 opened-matches o x e a b = record {
   opener = ap (λ (z : Connection). opener_of z.opener) e;
   accepted = ap (λ (z : Connection). z.accepted) e;
-  to_device = subst (λ (ps : List Packet). CarriesAll ps []) (sym a) tt;
-  to_server = subst (λ (ps : List Packet). CarriesAll ps []) (sym b) tt;
+  to_device = subst (λ (ps : List Packet). CarriesAll x.device ps []) (sym a) tt;
+  to_server = subst (λ (ps : List Packet). CarriesAll x.device ps []) (sym b) tt;
   lost_device = ap (λ (z : Connection). z.lost_device) e;
   lost_server = ap (λ (z : Connection). z.lost_server) e;
 }
@@ -65,15 +65,15 @@ accepted-matches x y line e m = subst (λ (z : Connection). MatchesConnection z 
 })
 
 pub device-front : (x : Connection) (line : Line) → x.to_device.items ≡ [] → MatchesConnection x line → front line.to_device ≡ None
-device-front x line e m = empty-front x.to_device.items line.to_device e m.to_device
+device-front x line e m = empty-front x.device x.to_device.items line.to_device e m.to_device
 
 pub server-front : (x : Connection) (line : Line) → x.to_server.items ≡ [] → MatchesConnection x line → front line.to_server ≡ None
-server-front x line e m = empty-front x.to_server.items line.to_server e m.to_server
+server-front x line e m = empty-front x.device x.to_server.items line.to_server e m.to_server
 
 pub device-taken : (x y : Connection) (p : Packet) (line : Line) → y ≡ record x { to_device = y.to_device } → x.to_device.items ≡ p ∷ y.to_device.items → MatchesConnection x line
-    → (q : Said) × (front line.to_device ≡ Some q) × Carries p q × MatchesConnection y (record line { to_device = rest line.to_device })
+    → (q : Said) × (front line.to_device ≡ Some q) × CarriesEncoded x.device p q × MatchesConnection y (record line { to_device = rest line.to_device })
 device-taken x y p line e s m =
-    let f = first-carried p y.to_device.items line.to_device (subst (λ (ps : List Packet). CarriesAll ps line.to_device) s m.to_device) in (
+    let f = first-carried x.device p y.to_device.items line.to_device (subst (λ (ps : List Packet). CarriesAll x.device ps line.to_device) s m.to_device) in (
       f.0,
       f.1,
       f.2,
@@ -88,9 +88,9 @@ device-taken x y p line e s m =
     )
 
 pub server-taken : (x y : Connection) (p : Packet) (line : Line) → y ≡ record x { to_server = y.to_server } → x.to_server.items ≡ p ∷ y.to_server.items → MatchesConnection x line
-    → (q : Said) × (front line.to_server ≡ Some q) × Carries p q × MatchesConnection y (record line { to_server = rest line.to_server })
+    → (q : Said) × (front line.to_server ≡ Some q) × CarriesEncoded x.device p q × MatchesConnection y (record line { to_server = rest line.to_server })
 server-taken x y p line e s m =
-    let f = first-carried p y.to_server.items line.to_server (subst (λ (ps : List Packet). CarriesAll ps line.to_server) s m.to_server) in (
+    let f = first-carried x.device p y.to_server.items line.to_server (subst (λ (ps : List Packet). CarriesAll x.device ps line.to_server) s m.to_server) in (
       f.0,
       f.1,
       f.2,
@@ -104,24 +104,24 @@ server-taken x y p line e s m =
       }),
     )
 
-pub device-written : (x y : Connection) (p : Packet) (q : Said) (line : Line) → y ≡ record x { to_device = y.to_device } → y.to_device.items ≡ with_written x.lost_device p x.to_device.items → Carries p q → MatchesConnection x line → MatchesConnection y (write_device q line)
+pub device-written : (x y : Connection) (p : Packet) (q : Said) (line : Line) → y ≡ record x { to_device = y.to_device } → y.to_device.items ≡ with_written x.lost_device p x.to_device.items → CarriesEncoded x.device p q → MatchesConnection x line → MatchesConnection y (write_device q line)
 device-written x y p q line e s c m = subst (λ (z : Connection). MatchesConnection z (write_device q line)) (sym e) (record {
   opener = m.opener;
   accepted = m.accepted;
-  to_device = subst (λ (ps : List Packet). CarriesAll ps (write_device q line).to_device) (sym s)
-      (subst (λ (b : Bool). CarriesAll (with_written x.lost_device p x.to_device.items) (if b then line.to_device else line.to_device ++ q ∷ [])) m.lost_device (carries-written x.lost_device x.to_device.items line.to_device p q m.to_device c));
+  to_device = subst (λ (ps : List Packet). CarriesAll x.device ps (write_device q line).to_device) (sym s)
+      (subst (λ (b : Bool). CarriesAll x.device (with_written x.lost_device p x.to_device.items) (if b then line.to_device else line.to_device ++ q ∷ [])) m.lost_device (carries-written x.device x.lost_device x.to_device.items line.to_device p q m.to_device c));
   to_server = m.to_server;
   lost_device = m.lost_device;
   lost_server = m.lost_server;
 })
 
-pub server-written : (x y : Connection) (p : Packet) (q : Said) (line : Line) → y ≡ record x { to_server = y.to_server } → y.to_server.items ≡ with_written x.lost_server p x.to_server.items → Carries p q → MatchesConnection x line → MatchesConnection y (write_server q line)
+pub server-written : (x y : Connection) (p : Packet) (q : Said) (line : Line) → y ≡ record x { to_server = y.to_server } → y.to_server.items ≡ with_written x.lost_server p x.to_server.items → CarriesEncoded x.device p q → MatchesConnection x line → MatchesConnection y (write_server q line)
 server-written x y p q line e s c m = subst (λ (z : Connection). MatchesConnection z (write_server q line)) (sym e) (record {
   opener = m.opener;
   accepted = m.accepted;
   to_device = m.to_device;
-  to_server = subst (λ (ps : List Packet). CarriesAll ps (write_server q line).to_server) (sym s)
-      (subst (λ (b : Bool). CarriesAll (with_written x.lost_server p x.to_server.items) (if b then line.to_server else line.to_server ++ q ∷ [])) m.lost_server (carries-written x.lost_server x.to_server.items line.to_server p q m.to_server c));
+  to_server = subst (λ (ps : List Packet). CarriesAll x.device ps (write_server q line).to_server) (sym s)
+      (subst (λ (b : Bool). CarriesAll x.device (with_written x.lost_server p x.to_server.items) (if b then line.to_server else line.to_server ++ q ∷ [])) m.lost_server (carries-written x.device x.lost_server x.to_server.items line.to_server p q m.to_server c));
   lost_device = m.lost_device;
   lost_server = m.lost_server;
 })
@@ -131,14 +131,14 @@ lost-matches ToServer k x y line e m = subst (λ (z : Connection). MatchesConnec
   opener = m.opener;
   accepted = m.accepted;
   to_device = m.to_device;
-  to_server = subst (λ (ps : List Packet). CarriesAll ps (take k line.to_server)) (sym e.1) (carries-take k x.to_server.items line.to_server m.to_server);
+  to_server = subst (λ (ps : List Packet). CarriesAll x.device ps (take k line.to_server)) (sym e.1) (carries-take x.device k x.to_server.items line.to_server m.to_server);
   lost_device = m.lost_device;
   lost_server = refl;
 })
 lost-matches ToDevice k x y line e m = subst (λ (z : Connection). MatchesConnection z (lose ToDevice k line)) (sym e.0) (record {
   opener = m.opener;
   accepted = m.accepted;
-  to_device = subst (λ (ps : List Packet). CarriesAll ps (take k line.to_device)) (sym e.1) (carries-take k x.to_device.items line.to_device m.to_device);
+  to_device = subst (λ (ps : List Packet). CarriesAll x.device ps (take k line.to_device)) (sym e.1) (carries-take x.device k x.to_device.items line.to_device m.to_device);
   to_server = m.to_server;
   lost_device = refl;
   lost_server = m.lost_server;

@@ -1,7 +1,7 @@
 //! Connections between the server and its devices.
 ghost use Rattle.std.specs.Prelude.{◌≡◌, false, []};
 
-use crate::packet::Packet;
+use crate::packet::EncodedPacket;
 use std::alloc::Global;
 use std::collections::VecDeque;
 
@@ -21,8 +21,8 @@ pub struct Connection {
     pub device: u32,
     pub opener: Opener,
     pub accepted: bool,
-    pub to_device: VecDeque<Packet>,
-    pub to_server: VecDeque<Packet>,
+    pub to_device: VecDeque<EncodedPacket>,
+    pub to_server: VecDeque<EncodedPacket>,
     pub lost_device: bool,
     pub lost_server: bool,
 }

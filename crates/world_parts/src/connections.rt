@@ -4,11 +4,13 @@ ghost use Rattle.mos_edits.specs.Texts.{set_number};
 ghost use Rattle.mos_machines.specs.Messages.{Packet as Said};
 ghost use Rattle.world_events.specs.Events.{direction_of};
 ghost use Rattle.world_laws.specs.World.{Connection as Line, Opener as Openers, front, rest, lose as lose_of, new_connection, write_device, write_server};
+ghost use Rattle.world_parts.specs.Carrying.{IsReadable};
 ghost use Rattle.world_parts.specs.Places.{IsPlace, IsLost, with_written};
-ghost use Rattle.world_parts.specs.Matching.{Carries, CarriesAll, IsOpened, LeavesOthers, MatchesConnections, connection_at, opener_of};
+ghost use Rattle.world_parts.specs.Matching.{AreReadable, Carries, CarriesEncoded, HaveEncodings, IsOpened, LeavesOthers, MatchesConnections, connection_at, opener_of};
 
+use crate::carrying::{decode_packet, encode_packet};
 use crate::connection::{Connection, Opener};
-use crate::packet::{Packet, let_go};
+use crate::packet::{EncodedPacket, Packet, let_go};
 use crate::queue::{take_first, write_last};
 use mos_fields::NoMemory;
 use std::alloc::Global;
@@ -68,12 +70,13 @@ fn accept_at(connection: &mut Connection, opener: Opener) -> bool
     true
 }
 
-/// Takes the first message that is unread on its way to device `d` on connection `c`.
-pub fn take_to_device(connections: &mut [Connection], d: u32, c: u64) -> Option<Packet>
+/// Takes the first packet that is unread on its way to device `d` on connection `c`, as its bytes.
+fn first_to_device(connections: &mut [Connection], d: u32, c: u64) -> Option<EncodedPacket>
     ensures count { length connections.new ≡ length connections.old }
     ensures others { LeavesOthers connections.old connections.new d }
     ensures none { IfNone result ((connections.new ≡ connections.old) × ((lines : ℕ → Line) → MatchesConnections connections.old d lines → IsOpened (lines c) → front (lines c).to_device ≡ None)) }
-    ensures some { IfSome result (λ p. (lines : ℕ → Line) → MatchesConnections connections.old d lines → (q : Said) × (front (lines c).to_device ≡ Some q) × Carries p q × MatchesConnections connections.new d (set_number lines c (record (lines c) { to_device = rest (lines c).to_device }))) }
+    ensures some { IfSome result (λ u. (lines : ℕ → Line) → MatchesConnections connections.old d lines → (q : Said) × (front (lines c).to_device ≡ Some q) × CarriesEncoded d u q × MatchesConnections connections.new d (set_number lines c (record (lines c) { to_device = rest (lines c).to_device }))) }
+    ensures readable { IfSome result (λ u. AreReadable connections.old d → IsReadable u) }
 {
     match place_of(connections, d, c) {
         Some(i) => take_for_device(&mut connections[i]),
@@ -81,19 +84,40 @@ pub fn take_to_device(connections: &mut [Connection], d: u32, c: u64) -> Option<
     }
 }
 
-fn take_for_device(connection: &mut Connection) -> Option<Packet>
+/// Takes the first message that is unread on its way to device `d` on connection `c`, and decodes it. What is
+/// unread on the connections of the device can be read. The only error is that memory runs out.
+pub fn take_to_device(
+    alloc: Global,
+    connections: &mut [Connection],
+    d: u32,
+    c: u64,
+) -> Result<Option<Packet>, NoMemory>
+    requires readable { AreReadable connections.old d }
+    ensures count { length connections.new ≡ length connections.old }
+    ensures others { LeavesOthers connections.old connections.new d }
+    ensures none { IfOk result (λ o. IfNone o ((connections.new ≡ connections.old) × ((lines : ℕ → Line) → MatchesConnections connections.old d lines → IsOpened (lines c) → front (lines c).to_device ≡ None))) }
+    ensures some { IfOk result (λ o. IfSome o (λ p. (lines : ℕ → Line) → MatchesConnections connections.old d lines → HaveEncodings lines → (q : Said) × (front (lines c).to_device ≡ Some q) × Carries p q × MatchesConnections connections.new d (set_number lines c (record (lines c) { to_device = rest (lines c).to_device })))) }
+{
+    match first_to_device(connections, d, c) {
+        Some(packet) => Ok(Some(decode_packet(alloc, packet)?)),
+        None => Ok(None),
+    }
+}
+
+fn take_for_device(connection: &mut Connection) -> Option<EncodedPacket>
     ensures none { IfNone result ((connection.new ≡ connection.old) × (connection.old.to_device.items ≡ [])) }
     ensures some { IfSome result (λ p. (connection.new ≡ record connection.old { to_device = connection.new.to_device }) × (connection.old.to_device.items ≡ p ∷ connection.new.to_device.items)) }
 {
     take_first(&mut connection.to_device)
 }
 
-/// Takes the first message that is unread on its way to the server on connection `c` of device `d`.
-pub fn take_to_server(connections: &mut [Connection], d: u32, c: u64) -> Option<Packet>
+/// Takes the first packet that is unread on its way to the server on connection `c` of device `d`, as its bytes.
+fn first_to_server(connections: &mut [Connection], d: u32, c: u64) -> Option<EncodedPacket>
     ensures count { length connections.new ≡ length connections.old }
     ensures others { LeavesOthers connections.old connections.new d }
     ensures none { IfNone result ((connections.new ≡ connections.old) × ((lines : ℕ → Line) → MatchesConnections connections.old d lines → IsOpened (lines c) → front (lines c).to_server ≡ None)) }
-    ensures some { IfSome result (λ p. (lines : ℕ → Line) → MatchesConnections connections.old d lines → (q : Said) × (front (lines c).to_server ≡ Some q) × Carries p q × MatchesConnections connections.new d (set_number lines c (record (lines c) { to_server = rest (lines c).to_server }))) }
+    ensures some { IfSome result (λ u. (lines : ℕ → Line) → MatchesConnections connections.old d lines → (q : Said) × (front (lines c).to_server ≡ Some q) × CarriesEncoded d u q × MatchesConnections connections.new d (set_number lines c (record (lines c) { to_server = rest (lines c).to_server }))) }
+    ensures readable { IfSome result (λ u. AreReadable connections.old d → IsReadable u) }
 {
     match place_of(connections, d, c) {
         Some(i) => take_for_server(&mut connections[i]),
@@ -101,15 +125,36 @@ pub fn take_to_server(connections: &mut [Connection], d: u32, c: u64) -> Option<
     }
 }
 
-fn take_for_server(connection: &mut Connection) -> Option<Packet>
+/// Takes the first message that is unread on its way to the server on connection `c` of device `d`, and decodes it. What is
+/// unread on the connections of the device can be read. The only error is that memory runs out.
+pub fn take_to_server(
+    alloc: Global,
+    connections: &mut [Connection],
+    d: u32,
+    c: u64,
+) -> Result<Option<Packet>, NoMemory>
+    requires readable { AreReadable connections.old d }
+    ensures count { length connections.new ≡ length connections.old }
+    ensures others { LeavesOthers connections.old connections.new d }
+    ensures none { IfOk result (λ o. IfNone o ((connections.new ≡ connections.old) × ((lines : ℕ → Line) → MatchesConnections connections.old d lines → IsOpened (lines c) → front (lines c).to_server ≡ None))) }
+    ensures some { IfOk result (λ o. IfSome o (λ p. (lines : ℕ → Line) → MatchesConnections connections.old d lines → HaveEncodings lines → (q : Said) × (front (lines c).to_server ≡ Some q) × Carries p q × MatchesConnections connections.new d (set_number lines c (record (lines c) { to_server = rest (lines c).to_server })))) }
+{
+    match first_to_server(connections, d, c) {
+        Some(packet) => Ok(Some(decode_packet(alloc, packet)?)),
+        None => Ok(None),
+    }
+}
+
+fn take_for_server(connection: &mut Connection) -> Option<EncodedPacket>
     ensures none { IfNone result ((connection.new ≡ connection.old) × (connection.old.to_server.items ≡ [])) }
     ensures some { IfSome result (λ p. (connection.new ≡ record connection.old { to_server = connection.new.to_server }) × (connection.old.to_server.items ≡ p ∷ connection.new.to_server.items)) }
 {
     take_first(&mut connection.to_server)
 }
 
-/// Writes a message to device `d` on its connection `c`. It is lost where later ones are.
+/// Writes a message to device `d` on its connection `c`, encoded. It is lost where later ones are.
 pub fn write_to_device(
+    alloc: Global,
     connections: &mut [Connection],
     d: u32,
     c: u64,
@@ -120,7 +165,10 @@ pub fn write_to_device(
     ensures own { OnOk result ((lines : ℕ → Line) (q : Said) → MatchesConnections connections.old d lines → IsOpened (lines c) → Carries packet q → MatchesConnections connections.new d (set_number lines c (write_device q (lines c)))) }
 {
     match place_of(connections, d, c) {
-        Some(i) => write_for_device(&mut connections[i], packet),
+        Some(i) => {
+            let encoded = encode_packet(alloc, d, packet)?;
+            write_for_device(&mut connections[i], encoded)
+        }
         None => {
             let_go(packet);
             Ok(())
@@ -128,15 +176,16 @@ pub fn write_to_device(
     }
 }
 
-fn write_for_device(connection: &mut Connection, packet: Packet) -> Result<(), NoMemory>
+fn write_for_device(connection: &mut Connection, packet: EncodedPacket) -> Result<(), NoMemory>
     ensures { OnOk result ((connection.new ≡ record connection.old { to_device = connection.new.to_device }) × (connection.new.to_device.items ≡ with_written connection.old.lost_device packet connection.old.to_device.items)) }
 {
     let lost = connection.lost_device;
     write_last(&mut connection.to_device, lost, packet)
 }
 
-/// Writes a message to the server on connection `c` of device `d`. It is lost where later ones are.
+/// Writes a message to the server on connection `c` of device `d`, encoded. It is lost where later ones are.
 pub fn write_to_server(
+    alloc: Global,
     connections: &mut [Connection],
     d: u32,
     c: u64,
@@ -147,7 +196,10 @@ pub fn write_to_server(
     ensures own { OnOk result ((lines : ℕ → Line) (q : Said) → MatchesConnections connections.old d lines → IsOpened (lines c) → Carries packet q → MatchesConnections connections.new d (set_number lines c (write_server q (lines c)))) }
 {
     match place_of(connections, d, c) {
-        Some(i) => write_for_server(&mut connections[i], packet),
+        Some(i) => {
+            let encoded = encode_packet(alloc, d, packet)?;
+            write_for_server(&mut connections[i], encoded)
+        }
         None => {
             let_go(packet);
             Ok(())
@@ -155,7 +207,7 @@ pub fn write_to_server(
     }
 }
 
-fn write_for_server(connection: &mut Connection, packet: Packet) -> Result<(), NoMemory>
+fn write_for_server(connection: &mut Connection, packet: EncodedPacket) -> Result<(), NoMemory>
     ensures { OnOk result ((connection.new ≡ record connection.old { to_server = connection.new.to_server }) × (connection.new.to_server.items ≡ with_written connection.old.lost_server packet connection.old.to_server.items)) }
 {
     let lost = connection.lost_server;

@@ -1,8 +1,10 @@
 //! The parts of a world in memory: packets on their way, the connections between the server and its devices, and the
-//! gateways with what each has applied. Contracts say how they stand for the world's definition.
+//! gateways with what each has applied. A packet goes as bytes: it is encoded where it is written, and decoded where it is
+//! read. Contracts say how the parts stand for the world's definition.
 #![tactic(auto)]
 
 mod applying;
+mod carrying;
 mod connection;
 mod connections;
 mod gateway;
@@ -19,6 +21,6 @@ pub use connections::{
 };
 pub use gateway::Gateway;
 pub use hearing::answer_tag;
-pub use packet::{Packet, PacketTag, let_go, told};
+pub use packet::{EncodedPacket, Packet, PacketTag, let_go, told};
 pub use sending::packet_tag;
 pub use times::own_time;

@@ -23,10 +23,17 @@ pub enum PacketTag {
     List { ro: Id, m: u64 },
 }
 
-/// A message on its way from one end of a connection to the other.
+/// A message in the hand of an end that wrote it or read it.
 #[derive(Drop)]
 pub struct Packet {
     pub message: Message,
+    pub tag: PacketTag,
+}
+
+/// A message on its way from one end of a connection to the other: its bytes, and the tag, which goes beside them.
+#[derive(Drop)]
+pub struct EncodedPacket {
+    pub bytes: Vec<u8>,
     pub tag: PacketTag,
 }
 

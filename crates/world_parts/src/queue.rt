@@ -2,12 +2,12 @@
 ghost use Rattle.std.specs.Prelude.{◌≡◌, [], ◌∷◌, IfNone, IfSome, OnOk};
 ghost use Rattle.world_parts.specs.Places.{with_written};
 
-use crate::packet::{Packet, let_go};
+use crate::packet::{EncodedPacket, let_go};
 use mos_fields::NoMemory;
 use std::collections::VecDeque;
 
 /// Takes the first packet.
-pub fn take_first(queue: &mut VecDeque<Packet>) -> Option<Packet>
+pub fn take_first(queue: &mut VecDeque<EncodedPacket>) -> Option<EncodedPacket>
     ensures none { IfNone result ((queue.new ≡ queue.old) × (queue.old.items ≡ [])) }
     ensures some { IfSome result (λ p. queue.old.items ≡ p ∷ queue.new.items) }
 {
@@ -18,7 +18,11 @@ pub fn take_first(queue: &mut VecDeque<Packet>) -> Option<Packet>
 }
 
 /// Writes a packet at the end, where none is lost.
-pub fn write_last(queue: &mut VecDeque<Packet>, lost: bool, packet: Packet) -> Result<(), NoMemory>
+pub fn write_last(
+    queue: &mut VecDeque<EncodedPacket>,
+    lost: bool,
+    packet: EncodedPacket,
+) -> Result<(), NoMemory>
     ensures { OnOk result (queue.new.items ≡ with_written lost packet queue.old.items) }
 {
     if lost {

@@ -4,6 +4,7 @@ pub mod ServerSteps
 pub mod ServerSaid
 pub mod GatewaySteps
 pub mod Commanded
+pub mod SoundRuns
 pub mod Matched
 pub mod Plays
 pub mod Runs

@@ -13,12 +13,15 @@ use Rattle.world_laws.specs.Reached.{HasLinks}
 use Rattle.world_laws.specs.World.{Effect, Pairing, PairingEvent, World, WorldEvent, at_device, has_device, opens_one, pairing_step, world_step}
 use Rattle.world_laws.specs.World.Effect.{Impossible}
 use Rattle.world_laws.specs.World.WorldEvent.{AtDevice}
-use Rattle.world_laws.proofs.Reaching.{reached-links, reached-step, reached-within}
-use Rattle.world_parts.specs.Matching.{HasGateway, LeavesOthers, MatchesConnections, MatchesGateway}
+use Rattle.world_laws.proofs.Reaching.{reached-links, reached-within}
+use Rattle.written_laws.specs.Worlds.{KeepsLimits}
+use Rattle.world_parts.specs.Matching.{AreReadable, HasGateway, HaveEncodings, LeavesOthers, MatchesConnections, MatchesGateway}
 use Rattle.world_parts.specs.declared.gateway.Gateway.{Gateway}
+use Rattle.world_parts.proofs.ReadableLines.{readable-connections}
 use Rattle.world_stage.specs.Matching.{IsSized, Matches, MatchesKeeper, MatchesPairing, MatchesParts}
 use Rattle.world_stage.specs.Steps.{GatewayStep, IsReady, LeavesServer, PairingStep, ServerEventStep}
 use Rattle.world_stage.specs.declared.play.Play.{Play}
+use Rattle.world_stage.proofs.SoundRuns.{encodings, some-run, soundly-step}
 use Rattle.world_stage.proofs.Tables.{leaves-same}
 
 -- ---- one gateway written
@@ -47,7 +50,7 @@ other-number b d h e = h (let s : b ≡ d = omega arith in s)
 
 pub device-step : (t u : Play) (d : ℕ) (e : PairingEvent) (o : Outcome) (x y : Gateway) → d < length t.gateways.items → slice_get t.gateways.items d ≡ Some x → u.gateways.items ≡ set t.gateways.items d y → u.ncs ≡ t.ncs
     → length u.connections.items ≡ length t.connections.items + opens_one e → LeavesOthers t.connections.items u.connections.items (d + 1)
-    → ((journal : List Entry) (l : Pairing) → MatchesGateway x l → MatchesConnections t.connections.items (d + 1) l.connections → HasLinks l → GatewayStep journal (length t.connections.items + 1) l e y u.connections.items (d + 1) o) → PairingStep t u d e o
+    → ((journal : List Entry) (l : Pairing) → MatchesGateway x l → MatchesConnections t.connections.items (d + 1) l.connections → HasLinks l → HaveEncodings l.connections → GatewayStep journal (length t.connections.items + 1) l e y u.connections.items (d + 1) o) → PairingStep t u d e o
 device-step t u d e o x y h g s n k others f = record {
   server = subst (λ (m : NcsTables MemoryKeeper). LeavesServer t.ncs m d) (sym n) (leaves-same t.ncs d);
   count = k;
@@ -57,12 +60,12 @@ device-step t u d e o x y h g s n k others f = record {
     gateway = subst (λ (z : Option Gateway). HasGateway z l) (sym (ap (λ (zs : List Gateway). slice_get zs b) s ∙ get-other t.gateways.items d b y i)) m.gateway;
     connections = others (b + 1) l.connections (other-number b d i) m.connections;
   };
-  pairing = λ l m r. let step = f t.ncs.server.journal l (subst (λ (z : Option Gateway). HasGateway z l) g m.gateway) m.connections r.links in record {
+  pairing = λ l m r. let step = f t.ncs.server.journal l (subst (λ (z : Option Gateway). HasGateway z l) g m.gateway) m.connections r.links r.encodings in record {
     peer = ap (λ (q : NcsTables MemoryKeeper). (ncs_of q).peers d) n ∙ (m.peer ∙ sym step.peer);
     gateway = subst (λ (z : Option Gateway). HasGateway z (pairing_step t.ncs.server.journal (length t.connections.items + 1) l e).0) (sym (ap (λ (zs : List Gateway). slice_get zs d) s ∙ get-here t.gateways.items d y h)) step.gateway;
     connections = step.connections;
   };
-  outcome = λ l m r. (f t.ncs.server.journal l (subst (λ (z : Option Gateway). HasGateway z l) g m.gateway) m.connections r.links).outcome;
+  outcome = λ l m r. (f t.ncs.server.journal l (subst (λ (z : Option Gateway). HasGateway z l) g m.gateway) m.connections r.links r.encodings).outcome;
 }
 
 gateway-same : (x : Option Gateway) (l k : Pairing) → k.gate ≡ l.gate → k.decks ≡ l.decks → k.applied ≡ l.applied → HasGateway x l → HasGateway x k
@@ -93,10 +96,21 @@ server-step t u d e o g s k others f = record {
 -- what the invariant of the world says of a pairing, by the journal in memory
 pub ready : (t : Play) (w : World) (d : ℕ) → Matches t w → IsReady t.ncs.server.journal (w.pairings (d + 1))
 ready t w d m = subst (λ (j : List Entry). IsReady j (w.pairings (d + 1))) (sym m.parts.rest.server.journal) (record {
-  links = reached-links w (d + 1) m.reached;
+  links = reached-links w (d + 1) (some-run w m.reached);
   entries = m.parts.entries;
-  peer = reached-within w m.reached (d + 1);
+  peer = reached-within w (some-run w m.reached) (d + 1);
+  encodings = encodings w (d + 1) m.reached;
 })
+
+-- what is unread on the connections of device `d`, from 0, can be read
+pub readable-at-device : (t : Play) (w : World) (d : ℕ) → Matches t w → d < devices_of t.ncs → AreReadable t.connections.items (d + 1)
+readable-at-device t w d m h =
+    readable-connections t.connections.items (d + 1) (w.pairings (d + 1)).connections (m.parts.pairings d (subst (λ (n : ℕ). d < n) m.parts.rest.devices h)).connections
+    (encodings w (d + 1) m.reached)
+
+-- each device has its gateway
+pub sized-so : (t : Play) (w : World) → Matches t w → IsSized t
+sized-so t w m = m.parts.rest.gateways ∙ sym m.parts.rest.devices
 
 -- the pairings after one was written
 written : (u : Play) (w : World) (d : ℕ) (l : Pairing) (b : ℕ) (c : Bool) → ((b + 1) == (d + 1)) ≡ c → MatchesPairing u d l → ((b ≡ d → ⊥) → MatchesPairing u b (w.pairings (b + 1))) → MatchesPairing u b (if c then l else w.pairings (b + 1))
@@ -132,8 +146,8 @@ outcome-at w d e (l, f) = refl
 abbrev pub StepsSo : Play → World → WorldEvent → Outcome → Type 0
 StepsSo u w e o = Matches u (world_step w e).0 × (outcome_of o ≡ outcome w e)
 
-pub at-device : (t u : Play) (w : World) (d : ℕ) (e : PairingEvent) (o : Outcome) → Matches t w → d < w.devices → PairingStep t u d e o → StepsSo u w (AtDevice (d + 1) e) o
-at-device t u w d e o m h s =
+pub at-device : (t u : Play) (w : World) (d : ℕ) (e : PairingEvent) (o : Outcome) → Matches t w → d < w.devices → KeepsLimits (AtDevice (d + 1) e) → PairingStep t u d e o → StepsSo u w (AtDevice (d + 1) e) o
+at-device t u w d e o m h limits s =
     let l = w.pairings (d + 1) in
     let there : has_device w (d + 1) ≡ true = grind (arith, nat_tests, h) in
     let journal = m.parts.rest.server.journal in
@@ -146,7 +160,7 @@ at-device t u w d e o m h s =
       record {
         parts = subst (λ (b : Bool). let z : World × Effect = if b then at_device w (d + 1) e (pairing_step w.journal (w.count + 1) l e) else (w, Impossible) in MatchesParts u z.0) (sym there)
             (parts-at t u w d e o (pairing_step w.journal (w.count + 1) l e) m.parts s pairing);
-        reached = reached-step w (AtDevice (d + 1) e) m.reached;
+        reached = soundly-step w (AtDevice (d + 1) e) m.reached tt limits;
       },
       subst (λ (b : Bool). let z : World × Effect = if b then at_device w (d + 1) e (pairing_step w.journal (w.count + 1) l e) else (w, Impossible) in outcome_of o ≡ outcome_told z.1) (sym there)
           (told ∙ ap outcome_told (sym (outcome-at w (d + 1) e (pairing_step w.journal (w.count + 1) l e)))),
@@ -158,11 +172,8 @@ no-device t w d e o m h k =
     subst (λ (b : Bool). let z : World × Effect = if b then at_device w d e (pairing_step w.journal (w.count + 1) (w.pairings d) e) else (w, Impossible) in Matches t z.0 × (outcome_of o ≡ outcome_told z.1)) (sym h) (m, k)
 
 -- the same by the place of the device
-pub at-place : (t u : Play) (w : World) (d p : ℕ) (e : PairingEvent) (o : Outcome) → Matches t w → p + 1 ≡ d → p < devices_of t.ncs → PairingStep t u p e o → StepsSo u w (AtDevice d e) o
-at-place t u w d p e o m s h k = subst (λ (x : ℕ). StepsSo u w (AtDevice x e) o) s (at-device t u w p e o m (subst (λ (n : ℕ). p < n) m.parts.rest.devices h) k)
+pub at-place : (t u : Play) (w : World) (d p : ℕ) (e : PairingEvent) (o : Outcome) → Matches t w → p + 1 ≡ d → p < devices_of t.ncs → ((b : ℕ) → KeepsLimits (AtDevice b e)) → PairingStep t u p e o → StepsSo u w (AtDevice d e) o
+at-place t u w d p e o m s h limits k = subst (λ (x : ℕ). StepsSo u w (AtDevice x e) o) s (at-device t u w p e o m (subst (λ (n : ℕ). p < n) m.parts.rest.devices h) (limits (p + 1)) k)
 
 pub at-no-place : (t : Play) (w : World) (d n : ℕ) (e : PairingEvent) (o : Outcome) → Matches t w → n ≡ devices_of t.ncs → (nat_le 1 d && nat_le d n) ≡ false → outcome_of o ≡ Told.Impossible → StepsSo t w (AtDevice d e) o
 at-no-place t w d n e o m s h k = no-device t w d e o m (ap (λ (x : ℕ). nat_le 1 d && nat_le d x) (sym (s ∙ m.parts.rest.devices)) ∙ h) k
-
-pub sized-after : (t u : Play) (p : ℕ) (e : PairingEvent) (o : Outcome) → IsSized t → PairingStep t u p e o → IsSized u
-sized-after t u p e o s k = k.gateways ∙ (s ∙ sym k.server.rest.devices)

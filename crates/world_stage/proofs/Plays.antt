@@ -13,7 +13,7 @@ use Rattle.world_laws.specs.Outcomes.{Outcome as Told, outcome_of as outcome_tol
 use Rattle.world_laws.specs.World.{Connection as Line, Direction, Effect, Pairing, World, commanded, kept_journal, lose, no_connection, no_pairing, opening, world_step}
 use Rattle.world_laws.specs.World.Effect.{Impossible, Performed}
 use Rattle.world_laws.specs.World.WorldEvent.{Command, FailNext, Lose, Restart}
-use Rattle.world_laws.proofs.Reaching.{reached-opening, reached-step}
+use Rattle.written_laws.specs.Worlds.{IsSoundCommand, KeepsLimits}
 use Rattle.world_parts.specs.Matching.{HasGateway, MatchesConnections, MatchesGateway}
 use Rattle.world_parts.specs.declared.connection.Connection.{Connection}
 use Rattle.world_parts.specs.declared.gateway.Gateway.{Gateway}
@@ -22,6 +22,7 @@ use Rattle.world_stage.specs.Matching.{Matches, MatchesParts, MatchesServer}
 use Rattle.world_stage.specs.Playing.{AreNew, IsNewServer, IsRestarted}
 use Rattle.world_stage.specs.declared.play.Play.{Play}
 use Rattle.world_stage.proofs.Matched.{StepsSo}
+use Rattle.world_stage.proofs.SoundRuns.{soundly-opening, soundly-step}
 
 -- ---- the opening
 
@@ -50,7 +51,7 @@ opening-matched t devices n g k c = record {
     entries = tt;
     uncertain = λ e h. absurd (cc);
   };
-  reached = reached-opening devices;
+  reached = soundly-opening devices;
 }
 
 -- ---- commands
@@ -96,12 +97,12 @@ commanded-parts t u w e (Refuses r) i m g c k s p = record {
   uncertain = m.uncertain;
 }
 
-pub commanded-so : (t u : Play) (w : World) (e : Entry) (o : Outcome) → IsEntry e → Matches t w → IsCommanded t.ncs u.ncs e o → u.gateways.items ≡ t.gateways.items → u.connections.items ≡ t.connections.items → StepsSo u w (Command e) o
-commanded-so t u w e o i m h g c =
+pub commanded-so : (t u : Play) (w : World) (e : Entry) (o : Outcome) → IsEntry e → IsSoundCommand (Command e) → KeepsLimits (Command e) → Matches t w → IsCommanded t.ncs u.ncs e o → u.gateways.items ≡ t.gateways.items → u.connections.items ≡ t.connections.items → StepsSo u w (Command e) o
+commanded-so t u w e o i sound limits m h g c =
     let k = h.within w m.parts.rest.server in (
       record {
         parts = commanded-parts t u w e (verdict w.stopped w.failing (acceptance w.journal e)) i m.parts g c h.devices k.server k.peers;
-        reached = reached-step w (Command e) m.reached;
+        reached = soundly-step w (Command e) m.reached sound limits;
       },
       k.outcome,
     )
@@ -131,7 +132,7 @@ lost-so t u w c way k o m there n g count lost e =
     } in (
       record {
         parts = subst (λ (b : Bool). let z : World × Effect = if b then x else (w, Impossible) in MatchesParts u z.0) (sym here) parts;
-        reached = reached-step w (Lose c way k) m.reached;
+        reached = soundly-step w (Lose c way k) m.reached tt tt;
       },
       subst (λ (b : Bool). let z : World × Effect = if b then x else (w, Impossible) in outcome_of o ≡ outcome_told z.1) (sym here) e,
     )
@@ -173,7 +174,7 @@ failing-so t u w o m n g c e = (
       entries = m.parts.entries;
       uncertain = m.parts.uncertain;
     };
-    reached = reached-step w FailNext m.reached;
+    reached = soundly-step w FailNext m.reached tt tt;
   },
   e,
 )
@@ -225,5 +226,5 @@ restarted-so t u w kept m r g c =
         entries = kept-entries w.journal kept w.uncertain m.parts.entries m.parts.uncertain;
         uncertain = λ e h. absurd (cc);
       };
-      reached = reached-step w (Restart kept) m.reached;
+      reached = soundly-step w (Restart kept) m.reached tt tt;
     }

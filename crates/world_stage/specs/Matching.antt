@@ -1,10 +1,11 @@
 -- How the parts of a world in memory stand for the world's definition.
-use Rattle.std.specs.Prelude.{◌≡◌, ℕ, ◌+◌, ◌<◌, [], length, slice_get, false, Option, Some, None}
+use Rattle.std.specs.Prelude.{◌≡◌, ℕ, ◌+◌, ◌<◌, List, [], length, slice_get, false, Option, Some, None}
+use Rattle.std.specs.List.{AllByRecursion}
 use Rattle.mos_edits.specs.Entries.{Entry, IsEntry, AreEntries}
 use Rattle.rundown_log.specs.Memory.{MemoryKeeper}
 use Rattle.ncs_core.specs.State.{NcsTables, ncs_of, devices_of}
-use Rattle.world_laws.specs.World.{Pairing, World}
-use Rattle.world_laws.specs.Reached.{IsReached}
+use Rattle.world_laws.specs.World.{Pairing, World, WorldEvent, opening, run}
+use Rattle.written_laws.specs.Worlds.{IsSoundCommand, KeepsLimits}
 use Rattle.world_parts.specs.Matching.{HasGateway, MatchesConnections}
 use Rattle.world_stage.specs.declared.play.Play.{Play}
 
@@ -44,10 +45,23 @@ pub record MatchesParts (t : Play) (w : World) : Type 0 where
   pub entries : AreEntries w.journal
   pub uncertain : (e : Entry) → w.uncertain ≡ Some e → IsEntry e
 
--- The same of a world that some run ends in.
+-- Some run ends in this world, whose commands bring sound edits within the limits of fields and whose gateways are asked for
+-- orders by short roIDs.
+pub record IsReachedSoundly (w : World) : Type 0 where
+  pub devices : ℕ
+  pub events : List WorldEvent
+  pub ends : run (opening devices) events ≡ w
+  pub sound : AllByRecursion IsSoundCommand events
+  pub limits : AllByRecursion KeepsLimits events
+
+-- The parts stand for a world that such a run ends in.
 pub record Matches (t : Play) (w : World) : Type 0 where
   pub parts : MatchesParts t w
-  pub reached : IsReached w
+  pub reached : IsReachedSoundly w
+
+-- they stand for one
+abbrev pub MatchesOne : Play → Type 0
+MatchesOne t = (w : World) × Matches t w
 
 -- each device has its gateway
 abbrev pub IsSized : Play → Type 0

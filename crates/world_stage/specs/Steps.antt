@@ -17,7 +17,7 @@ use Rattle.world_stage.specs.declared.play.Play.{Play}
 use Rattle.world_laws.specs.Outcomes.{outcome_of as outcome_told}
 use Rattle.world_parts.specs.declared.connection.Connection.{Connection}
 use Rattle.world_parts.specs.declared.gateway.Gateway.{Gateway}
-use Rattle.world_parts.specs.Matching.{MatchesConnections, MatchesGateway}
+use Rattle.world_parts.specs.Matching.{HaveEncodings, MatchesConnections, MatchesGateway}
 use Rattle.world_stage.specs.Matching.{MatchesPairing}
 
 -- The gateway and the connections of a device after an event that the device is part of, which made this of the pairing. The
@@ -75,12 +75,13 @@ is_of_device (rows.Want r) = true
 is_of_device (rows.DecksLeft k) = true
 is_of_device rows.Reboot = true
 
--- What the world's invariant says of a pairing: its links are connections of the right end, and the server's views speak of
--- entries that the journal has.
+-- What the world's invariant says of a pairing: its links are connections of the right end, the server's views speak of
+-- entries that the journal has, and all that is unread has an encoding.
 pub record IsReady (journal : List Entry) (l : Pairing) : Type 0 where
   pub links : HasLinks l
   pub entries : AreEntries journal
   pub peer : IsPeerWithin journal l.peer
+  pub encodings : HaveEncodings l.connections
 
 -- What an event at device `d`, from 0, makes of a world's parts.
 pub record PairingStep (t u : Play) (d : ℕ) (e : PairingEvent) (o : Outcome) : Type 0 where

@@ -9,16 +9,16 @@ use Rattle.ncs_core.specs.State.{NcsTables, devices_of}
 use Rattle.world_events.specs.Events.{HasSoundEdit}
 use Rattle.world_laws.specs.World.{WorldEvent}
 use Rattle.world_stage.specs.declared.play.Play.{Play}
-use Rattle.world_stage.specs.Matching.{IsSized}
+use Rattle.world_stage.specs.Matching.{MatchesOne}
 
 -- each edit that is commanded has an encoding
 abbrev pub HaveSoundEdits : List WorldEvent → Type 0
 HaveSoundEdits es = AllByRecursion HasSoundEdit es
 
--- each device has its gateway, where memory didn't run out
-abbrev pub IsSizedWorld : Option Play → Type 0
-IsSizedWorld None = Unit {0}
-IsSizedWorld (Some t) = IsSized t
+-- where memory didn't run out, the parts stand for a world that a run ends in
+abbrev pub ShowsOne : Option Play → Type 0
+ShowsOne None = Unit {0}
+ShowsOne (Some t) = MatchesOne t
 
 -- the server
 abbrev pub ncs_shown : Option Play → Option (NcsTables MemoryKeeper)

@@ -10,7 +10,7 @@ ghost use Rattle.world_laws.specs.Outcomes.{outcome_of as outcome_told};
 ghost use Rattle.world_laws.specs.World.{Connection as Line, Pairing, PairingEvent as rows, asks_on, front, gets_front, opens_one, own_time as own_time_of, reads_front};
 ghost use Rattle.world_laws.specs.World.Effect.{Stepped};
 ghost use Rattle.world_laws.specs.Reached.{HasLinks};
-ghost use Rattle.world_parts.specs.Matching.{Carries, IsOpened, LeavesOthers, MatchesConnections, MatchesGateway};
+ghost use Rattle.world_parts.specs.Matching.{AreReadable, Carries, HaveEncodings, IsOpened, LeavesOthers, MatchesConnections, MatchesGateway};
 ghost use Rattle.world_stage.specs.Steps.{GatewayStep, IsGatewayStep, IsReadAnswered, after_got, after_read, is_of_device as is_of_device_of, read_answer};
 ghost use Rattle.world_parts.specs.declared.connection.Connection.{Connection as Connected};
 ghost use Rattle.world_parts.specs.declared.packet.PacketTag.TheVariants as tags;
@@ -95,6 +95,7 @@ fn answer_to(gateway: &mut Gateway, c: u64, packet: Packet) -> Result<Message, N
 
 /// The device reads a packet that came on connection `c`, and writes its answer.
 fn read_packet(
+    alloc: Global,
     gateway: &mut Gateway,
     connections: &mut [Connection],
     d: u32,
@@ -107,25 +108,27 @@ fn read_packet(
     ensures read { IfOk result (λ o. (l : Pairing) (q : Said) (lines : ℕ → Line) → MatchesGateway gateway.old l → Carries packet q → MatchesConnections connections.old d lines → IsOpened (lines c) → IsReadAnswered l q gateway.new connections.new d c lines o) }
 {
     let message = answer_to(gateway, c, packet)?;
-    let outcome = say_to_server(connections, d, c, untagged(message))?;
+    let outcome = say_to_server(alloc, connections, d, c, untagged(message))?;
     Ok(outcome)
 }
 
 /// The device reads the first unread message on connection `c`.
 fn read_on(
+    alloc: Global,
     gateway: &mut Gateway,
     connections: &mut [Connection],
     d: u32,
     c: u64,
 ) -> Result<Outcome, NoMemory>
-    requires { (gate_of gateway.old.gate).upper ≡ Some c }
+    requires linked { (gate_of gateway.old.gate).upper ≡ Some c }
+    requires readable { AreReadable connections.old d }
     ensures count { length connections.new ≡ length connections.old }
     ensures others { OnOk result (LeavesOthers connections.old connections.new d) }
-    ensures step { IfOk result (λ o. (l : Pairing) → MatchesGateway gateway.old l → MatchesConnections connections.old d l.connections → IsOpened (l.connections c) → IsGatewayStep l (reads_front l c (l.connections c) (front (l.connections c).to_device)) gateway.new connections.new d o) }
+    ensures step { IfOk result (λ o. (l : Pairing) → MatchesGateway gateway.old l → MatchesConnections connections.old d l.connections → IsOpened (l.connections c) → HaveEncodings l.connections → IsGatewayStep l (reads_front l c (l.connections c) (front (l.connections c).to_device)) gateway.new connections.new d o) }
 {
-    match take_to_device(connections, d, c) {
+    match take_to_device(alloc, connections, d, c)? {
         Some(packet) => {
-            let outcome = read_packet(gateway, connections, d, c, packet)?;
+            let outcome = read_packet(alloc, gateway, connections, d, c, packet)?;
             Ok(outcome)
         }
         None => Ok(Outcome::Impossible),
@@ -134,16 +137,18 @@ fn read_on(
 
 /// The device reads the first unread message on the connection of the server, and writes its answer.
 pub fn read(
+    alloc: Global,
     gateway: &mut Gateway,
     connections: &mut [Connection],
     d: u32,
 ) -> Result<Outcome, NoMemory>
+    requires readable { AreReadable connections.old d }
     ensures count { length connections.new ≡ length connections.old }
     ensures others { OnOk result (LeavesOthers connections.old connections.new d) }
-    ensures step { IfOk result (λ o. (journal : List Entry) (n : ℕ) (l : Pairing) → MatchesGateway gateway.old l → MatchesConnections connections.old d l.connections → HasLinks l → GatewayStep journal n l rows.Read gateway.new connections.new d o) }
+    ensures step { IfOk result (λ o. (journal : List Entry) (n : ℕ) (l : Pairing) → MatchesGateway gateway.old l → MatchesConnections connections.old d l.connections → HasLinks l → HaveEncodings l.connections → GatewayStep journal n l rows.Read gateway.new connections.new d o) }
 {
     match gateway.gate.upper_link() {
-        Some(c) => Ok(read_on(gateway, connections, d, c)?),
+        Some(c) => Ok(read_on(alloc, gateway, connections, d, c)?),
         None => Ok(Outcome::Impossible),
     }
 }
@@ -166,6 +171,7 @@ pub fn dial(
 
 /// The device writes what it has to ask on its connection `c`.
 fn ask_on(
+    alloc: Global,
     gateway: &mut Gateway,
     connections: &mut [Connection],
     d: u32,
@@ -179,7 +185,7 @@ fn ask_on(
     match gateway.gate.next_ask(c, &own_time())? {
         Sent::Out { message, tag } => {
             let_go(tag);
-            let outcome = say_to_server(connections, d, c, untagged(message))?;
+            let outcome = say_to_server(alloc, connections, d, c, untagged(message))?;
             Ok(outcome)
         }
         Sent::Nothing => Ok(Outcome::Nothing),
@@ -189,6 +195,7 @@ fn ask_on(
 
 /// The device writes what it has to ask on the connection that it opened.
 pub fn ask(
+    alloc: Global,
     gateway: &mut Gateway,
     connections: &mut [Connection],
     d: u32,
@@ -198,7 +205,7 @@ pub fn ask(
     ensures step { IfOk result (λ o. (journal : List Entry) (n : ℕ) (l : Pairing) → MatchesGateway gateway.old l → MatchesConnections connections.old d l.connections → HasLinks l → GatewayStep journal n l rows.Ask gateway.new connections.new d o) }
 {
     match gateway.gate.own_link() {
-        Some(c) => Ok(ask_on(gateway, connections, d, c)?),
+        Some(c) => Ok(ask_on(alloc, gateway, connections, d, c)?),
         None => Ok(Outcome::Impossible),
     }
 }
@@ -230,17 +237,19 @@ fn get_one(gateway: &mut Gateway, c: u64, packet: Packet) -> Result<Outcome, NoM
 
 /// The device takes the first unread answer on its connection `c`.
 fn get_on(
+    alloc: Global,
     gateway: &mut Gateway,
     connections: &mut [Connection],
     d: u32,
     c: u64,
 ) -> Result<Outcome, NoMemory>
-    requires { (gate_of gateway.old.gate).link ≡ Some c }
+    requires linked { (gate_of gateway.old.gate).link ≡ Some c }
+    requires readable { AreReadable connections.old d }
     ensures count { length connections.new ≡ length connections.old }
     ensures others { OnOk result (LeavesOthers connections.old connections.new d) }
-    ensures step { IfOk result (λ o. (l : Pairing) → MatchesGateway gateway.old l → MatchesConnections connections.old d l.connections → IsOpened (l.connections c) → IsGatewayStep l (gets_front l c (l.connections c) (front (l.connections c).to_device)) gateway.new connections.new d o) }
+    ensures step { IfOk result (λ o. (l : Pairing) → MatchesGateway gateway.old l → MatchesConnections connections.old d l.connections → IsOpened (l.connections c) → HaveEncodings l.connections → IsGatewayStep l (gets_front l c (l.connections c) (front (l.connections c).to_device)) gateway.new connections.new d o) }
 {
-    match take_to_device(connections, d, c) {
+    match take_to_device(alloc, connections, d, c)? {
         Some(packet) => {
             let outcome = get_one(gateway, c, packet)?;
             Ok(outcome)
@@ -251,16 +260,18 @@ fn get_on(
 
 /// The device takes the first unread answer on the connection that it opened.
 pub fn get(
+    alloc: Global,
     gateway: &mut Gateway,
     connections: &mut [Connection],
     d: u32,
 ) -> Result<Outcome, NoMemory>
+    requires readable { AreReadable connections.old d }
     ensures count { length connections.new ≡ length connections.old }
     ensures others { OnOk result (LeavesOthers connections.old connections.new d) }
-    ensures step { IfOk result (λ o. (journal : List Entry) (n : ℕ) (l : Pairing) → MatchesGateway gateway.old l → MatchesConnections connections.old d l.connections → HasLinks l → GatewayStep journal n l rows.Got gateway.new connections.new d o) }
+    ensures step { IfOk result (λ o. (journal : List Entry) (n : ℕ) (l : Pairing) → MatchesGateway gateway.old l → MatchesConnections connections.old d l.connections → HasLinks l → HaveEncodings l.connections → GatewayStep journal n l rows.Got gateway.new connections.new d o) }
 {
     match gateway.gate.own_link() {
-        Some(c) => Ok(get_on(gateway, connections, d, c)?),
+        Some(c) => Ok(get_on(alloc, gateway, connections, d, c)?),
         None => Ok(Outcome::Impossible),
     }
 }
@@ -326,16 +337,17 @@ fn event_on(
 ) -> Result<Outcome, NoMemory>
     requires device { is_of_device_of (pairing_event_of event.now) ≡ true }
     requires opens { opens_one (pairing_event_of event.now) ≡ 0 }
+    requires readable { AreReadable connections.old d }
     ensures count { length connections.new ≡ length connections.old }
     ensures others { OnOk result (LeavesOthers connections.old connections.new d) }
-    ensures step { IfOk result (λ o. (journal : List Entry) (n : ℕ) (l : Pairing) → MatchesGateway gateway.old l → MatchesConnections connections.old d l.connections → HasLinks l → GatewayStep journal n l (pairing_event_of event.now) gateway.new connections.new d o) }
+    ensures step { IfOk result (λ o. (journal : List Entry) (n : ℕ) (l : Pairing) → MatchesGateway gateway.old l → MatchesConnections connections.old d l.connections → HasLinks l → HaveEncodings l.connections → GatewayStep journal n l (pairing_event_of event.now) gateway.new connections.new d o) }
 {
     match event {
         PairingEvent::Accept { c } => Ok(accept(gateway, connections, d, *c)),
         PairingEvent::Leave => Ok(leave(gateway)),
-        PairingEvent::Read => Ok(read(gateway, connections, d)?),
-        PairingEvent::Ask => Ok(ask(gateway, connections, d)?),
-        PairingEvent::Got => Ok(get(gateway, connections, d)?),
+        PairingEvent::Read => Ok(read(alloc, gateway, connections, d)?),
+        PairingEvent::Ask => Ok(ask(alloc, gateway, connections, d)?),
+        PairingEvent::Got => Ok(get(alloc, gateway, connections, d)?),
         PairingEvent::Hangup => Ok(hang_up(gateway)),
         PairingEvent::DeviceBeat => Ok(beat(gateway)),
         PairingEvent::Want { ro } => Ok(want(gateway, ro)?),
@@ -353,10 +365,11 @@ pub fn device_event(
     d: u32,
     event: &PairingEvent,
 ) -> Result<Outcome, NoMemory>
-    requires { is_of_device_of (pairing_event_of event.now) ≡ true }
+    requires device { is_of_device_of (pairing_event_of event.now) ≡ true }
+    requires readable { AreReadable connections.old.items d }
     ensures count { OnOk result (length connections.new.items ≡ length connections.old.items + opens_one (pairing_event_of event.now)) }
     ensures others { OnOk result (LeavesOthers connections.old.items connections.new.items d) }
-    ensures step { IfOk result (λ o. (journal : List Entry) (l : Pairing) → MatchesGateway gateway.old l → MatchesConnections connections.old.items d l.connections → HasLinks l → GatewayStep journal (length connections.old.items + 1) l (pairing_event_of event.now) gateway.new connections.new.items d o) }
+    ensures step { IfOk result (λ o. (journal : List Entry) (l : Pairing) → MatchesGateway gateway.old l → MatchesConnections connections.old.items d l.connections → HasLinks l → HaveEncodings l.connections → GatewayStep journal (length connections.old.items + 1) l (pairing_event_of event.now) gateway.new connections.new.items d o) }
 {
     match event {
         PairingEvent::Dial => Ok(dial(alloc, gateway, connections, d)?),

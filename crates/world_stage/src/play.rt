@@ -6,12 +6,14 @@ ghost use Rattle.world_events.specs.Events.{HasSoundEdit, direction_of, event_of
 ghost use Rattle.world_events.specs.Outcomes.{outcome_of};
 ghost use Rattle.world_laws.specs.Outcomes.{outcome as outcome_told};
 ghost use Rattle.world_laws.specs.World.{World, WorldEvent as events, opening, world_step};
-ghost use Rattle.world_stage.specs.Matching.{Matches, IsSized};
+ghost use Rattle.world_parts.specs.Matching.{AreReadable};
+ghost use Rattle.world_stage.specs.Matching.{IsSized, Matches, MatchesOne};
 ghost use Rattle.world_stage.specs.Playing.{AreNew, IsNewServer, IsRestarted, IsStartedAgain, is_restart};
 ghost use Rattle.world_stage.specs.Steps.{PairingStep, is_of_device as is_of_device_of};
 
 use crate::commanding::command;
 use crate::device_events::device_event;
+use crate::limits::{edit_keeps_limits, event_keeps_limits};
 use crate::server_events::server_event;
 use mos_fields::NoMemory;
 use mos_values::Edit;
@@ -145,6 +147,7 @@ impl Play {
         requires within { d < devices_of self.old.ncs }
         requires few { d < 64 }
         requires sized { IsSized self.old }
+        requires readable { AreReadable self.old.connections.items (d + 1) }
         ensures { IfOk result (λ o. PairingStep self.old self.new d (pairing_event_of event.now) o) }
     {
         if is_of_device(event) {
@@ -162,10 +165,10 @@ impl Play {
         d: u32,
         event: &PairingEvent,
     ) -> Result<Outcome, NoMemory>
-        requires { IsSized self.old }
-        ensures sized { OnOk result (IsSized self.new) }
-        ensures step { IfOk result (λ o. (w : World) → Matches self.old w → Matches self.new (world_step w (events.AtDevice d (pairing_event_of event.now))).0 × (outcome_of o ≡ outcome_told w (events.AtDevice d (pairing_event_of event.now)))) }
+        requires { MatchesOne self.old }
+        ensures { IfOk result (λ o. (w : World) → Matches self.old w → Matches self.new (world_step w (events.AtDevice d (pairing_event_of event.now))).0 × (outcome_of o ≡ outcome_told w (events.AtDevice d (pairing_event_of event.now)))) }
     {
+        event_keeps_limits(event);
         match place_of(self.ncs.devices(), d) {
             Some(place) => Ok(self.pairing_event(alloc, place, event)?),
             None => Ok(Outcome::Impossible),
@@ -175,16 +178,15 @@ impl Play {
     /// An editor's command.
     fn command(&mut self, alloc: Global, edit: &Edit) -> Result<Outcome, NoMemory>
         requires { HasSoundEdit (events.Command (entry_of edit.now)) }
-        ensures sized { OnOk result (IsSized self.old → IsSized self.new) }
-        ensures step { IfOk result (λ o. (w : World) → Matches self.old w → Matches self.new (world_step w (events.Command (entry_of edit.now))).0 × (outcome_of o ≡ outcome_told w (events.Command (entry_of edit.now)))) }
+        ensures { IfOk result (λ o. (w : World) → Matches self.old w → Matches self.new (world_step w (events.Command (entry_of edit.now))).0 × (outcome_of o ≡ outcome_told w (events.Command (entry_of edit.now)))) }
     {
+        edit_keeps_limits(edit);
         Ok(command(alloc, &mut self.ncs, edit)?)
     }
 
     /// A loss on connection `c`.
     fn lose(&mut self, c: u64, way: Direction, k: u64) -> Outcome
-        ensures sized { IsSized self.old → IsSized self.new }
-        ensures step { (w : World) → Matches self.old w → Matches self.new (world_step w (events.Lose c (direction_of way) k)).0 × (outcome_of result ≡ outcome_told w (events.Lose c (direction_of way) k)) }
+        ensures { (w : World) → Matches self.old w → Matches self.new (world_step w (events.Lose c (direction_of way) k)).0 × (outcome_of result ≡ outcome_told w (events.Lose c (direction_of way) k)) }
     {
         if lose(&mut self.connections, c, way, k) {
             Outcome::Done
@@ -195,8 +197,7 @@ impl Play {
 
     /// The next append to the journal fails.
     fn fail_next(&mut self) -> Outcome
-        ensures sized { IsSized self.old → IsSized self.new }
-        ensures step { (w : World) → Matches self.old w → Matches self.new (world_step w events.FailNext).0 × (outcome_of result ≡ outcome_told w events.FailNext) }
+        ensures { (w : World) → Matches self.old w → Matches self.new (world_step w events.FailNext).0 × (outcome_of result ≡ outcome_told w events.FailNext) }
     {
         self.ncs.fail_next_append();
         Outcome::Done
@@ -204,8 +205,7 @@ impl Play {
 
     /// The server restarts.
     fn restart(self, kept: bool) -> Result<Self, NoMemory>
-        ensures sized { IfOk result (λ u. IsSized self → IsSized u) }
-        ensures step { IfOk result (λ u. (w : World) → Matches self w → Matches u (world_step w (events.Restart kept)).0) }
+        ensures { IfOk result (λ u. (w : World) → Matches self w → Matches u (world_step w (events.Restart kept)).0) }
     {
         let Play {
             ncs,
@@ -229,10 +229,9 @@ impl Play {
     /// An event that isn't a restart.
     fn event(&mut self, alloc: Global, e: &WorldEvent) -> Result<Outcome, NoMemory>
         requires sound { HasSoundEdit (event_of e.now) }
-        requires sized { IsSized self.old }
+        requires world { MatchesOne self.old }
         requires runs { is_restart (event_of e.now) ≡ false }
-        ensures sized { OnOk result (IsSized self.new) }
-        ensures step { IfOk result (λ o. (w : World) → Matches self.old w → Matches self.new (world_step w (event_of e.now)).0 × (outcome_of o ≡ outcome_told w (event_of e.now))) }
+        ensures { IfOk result (λ o. (w : World) → Matches self.old w → Matches self.new (world_step w (event_of e.now)).0 × (outcome_of o ≡ outcome_told w (event_of e.now))) }
     {
         match e {
             WorldEvent::Command(edit) => Ok(self.command(alloc, edit)?),
@@ -246,8 +245,8 @@ impl Play {
     /// The parts after an event, and what came of it.
     pub fn step(self, alloc: Global, e: &WorldEvent) -> Result<(Self, Outcome), NoMemory>
         requires sound { HasSoundEdit (event_of e.now) }
-        requires sized { IsSized self }
-        ensures sized { IfOk result (λ r. IsSized r.0) }
+        requires world { MatchesOne self }
+        ensures world { IfOk result (λ r. MatchesOne r.0) }
         ensures step { IfOk result (λ r. (w : World) → Matches self w → Matches r.0 (world_step w (event_of e.now)).0 × (outcome_of r.1 ≡ outcome_told w (event_of e.now))) }
     {
         match e {

@@ -6,11 +6,13 @@ ghost use Rattle.world_parts.specs.Matching.{Carries, IsOpened, LeavesOthers, Ma
 ghost use Rattle.world_stage.specs.Saying.{IsSaid};
 
 use mos_fields::NoMemory;
+use std::alloc::Global;
 use world_events::Outcome;
 use world_parts::{Connection, Packet, let_go, told, write_to_device, write_to_server};
 
 /// Writes a packet to the server on connection `c` of device `d`, and tells of it.
 pub fn say_to_server(
+    alloc: Global,
     connections: &mut [Connection],
     d: u32,
     c: u64,
@@ -21,7 +23,7 @@ pub fn say_to_server(
     ensures said { IfOk result (λ o. (lines : ℕ → Line) (q : Said) → MatchesConnections connections.old d lines → IsOpened (lines c) → Carries packet q → IsSaid connections.new d c lines (write_server q (lines c)) q o) }
 {
     match told(&packet) {
-        Ok(outcome) => match write_to_server(connections, d, c, packet) {
+        Ok(outcome) => match write_to_server(alloc, connections, d, c, packet) {
             Ok(()) => Ok(outcome),
             Err(_) => {
                 let_go(outcome);
@@ -37,6 +39,7 @@ pub fn say_to_server(
 
 /// Writes a packet to device `d` on its connection `c`, and tells of it.
 pub fn say_to_device(
+    alloc: Global,
     connections: &mut [Connection],
     d: u32,
     c: u64,
@@ -47,7 +50,7 @@ pub fn say_to_device(
     ensures said { IfOk result (λ o. (lines : ℕ → Line) (q : Said) → MatchesConnections connections.old d lines → IsOpened (lines c) → Carries packet q → IsSaid connections.new d c lines (write_device q (lines c)) q o) }
 {
     match told(&packet) {
-        Ok(outcome) => match write_to_device(connections, d, c, packet) {
+        Ok(outcome) => match write_to_device(alloc, connections, d, c, packet) {
             Ok(()) => Ok(outcome),
             Err(_) => {
                 let_go(outcome);

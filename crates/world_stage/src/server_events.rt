@@ -10,7 +10,7 @@ ghost use Rattle.world_events.specs.Outcomes.{outcome_of};
 ghost use Rattle.world_laws.specs.Outcomes.{outcome_of as outcome_told};
 ghost use Rattle.world_laws.specs.World.{Connection as Line, Pairing, PairingEvent as rows, front, hears_front, opens_one, own_beat as own_beat_of, own_time as own_time_of, sends_on, takes_front};
 ghost use Rattle.world_laws.specs.World.Effect.{Stepped};
-ghost use Rattle.world_parts.specs.Matching.{Carries, IsOpened, LeavesOthers, MatchesConnections};
+ghost use Rattle.world_parts.specs.Matching.{AreReadable, Carries, HaveEncodings, IsOpened, LeavesOthers, MatchesConnections};
 ghost use Rattle.world_stage.specs.Steps.{IsHeardAnswered, IsReady, IsServerEventStep, LeavesServer, ServerEventStep, is_of_device as is_of_device_of};
 ghost use Rattle.world_parts.specs.declared.connection.Connection.{Connection as Connected};
 
@@ -52,7 +52,7 @@ pub fn open_to(
     ensures step { IfOk result (λ o. (l : Pairing) → (ncs_of ncs.old).peers d ≡ l.peer → MatchesConnections connections.old.items (d + 1) l.connections → ServerEventStep (length connections.old.items + 1) l rows.OpenTo ncs.old ncs.new connections.new.items d o) }
 {
     let c = open(alloc, connections, d + 1, Opener::Server)?;
-    write_to_device(connections, d + 1, c, own_beat())?;
+    write_to_device(alloc, connections, d + 1, c, own_beat())?;
     ncs.upper_opened(d, c);
     Ok(Outcome::Connection { c })
 }
@@ -75,6 +75,7 @@ pub fn cut(ncs: &mut Ncs<MemKeeper>, d: u32) -> Outcome
 
 /// The server writes what is due on its connection `c`.
 fn send_on(
+    alloc: Global,
     ncs: &mut Ncs<MemKeeper>,
     connections: &mut [Connection],
     d: u32,
@@ -91,7 +92,7 @@ fn send_on(
     match ncs.next_send(d, c, &own_time())? {
         Sent::Out { message, tag } => {
             let tag = packet_tag(tag);
-            let outcome = say_to_device(connections, d + 1, c, Packet { message, tag })?;
+            let outcome = say_to_device(alloc, connections, d + 1, c, Packet { message, tag })?;
             Ok(outcome)
         }
         Sent::Nothing => Ok(Outcome::Nothing),
@@ -101,6 +102,7 @@ fn send_on(
 
 /// The server writes what is due on the connection that it opened.
 pub fn send(
+    alloc: Global,
     ncs: &mut Ncs<MemKeeper>,
     connections: &mut [Connection],
     d: u32,
@@ -113,28 +115,35 @@ pub fn send(
     ensures step { IfOk result (λ o. (n : ℕ) (l : Pairing) → (ncs_of ncs.old).peers d ≡ l.peer → MatchesConnections connections.old (d + 1) l.connections → IsReady ncs.old.server.journal l → ServerEventStep n l rows.Send ncs.old ncs.new connections.new d o) }
 {
     match ncs.upper(d).link() {
-        Some(c) => Ok(send_on(ncs, connections, d, c)?),
+        Some(c) => Ok(send_on(alloc, ncs, connections, d, c)?),
         None => Ok(Outcome::Impossible),
     }
 }
 
 /// The server takes the first unread answer on its connection `c`.
-fn take_back_on(ncs: &mut Ncs<MemKeeper>, connections: &mut [Connection], d: u32, c: u64) -> Outcome
+fn take_back_on(
+    alloc: Global,
+    ncs: &mut Ncs<MemKeeper>,
+    connections: &mut [Connection],
+    d: u32,
+    c: u64,
+) -> Result<Outcome, NoMemory>
     requires within { d < devices_of ncs.old }
     requires few { d < 64 }
     requires linked { upper_link ((ncs_of ncs.old).peers d).upper ≡ Some c }
-    ensures server { LeavesServer ncs.old ncs.new d }
+    requires readable { AreReadable connections.old (d + 1) }
+    ensures server { OnOk result (LeavesServer ncs.old ncs.new d) }
     ensures count { length connections.new ≡ length connections.old }
-    ensures others { LeavesOthers connections.old connections.new (d + 1) }
-    ensures step { (l : Pairing) → (ncs_of ncs.old).peers d ≡ l.peer → MatchesConnections connections.old (d + 1) l.connections → IsOpened (l.connections c) → IsServerEventStep l (takes_front ncs.old.server.journal l c (l.connections c) (front (l.connections c).to_server)) ncs.new connections.new d result }
+    ensures others { OnOk result (LeavesOthers connections.old connections.new (d + 1)) }
+    ensures step { IfOk result (λ o. (l : Pairing) → (ncs_of ncs.old).peers d ≡ l.peer → MatchesConnections connections.old (d + 1) l.connections → IsOpened (l.connections c) → HaveEncodings l.connections → IsServerEventStep l (takes_front ncs.old.server.journal l c (l.connections c) (front (l.connections c).to_server)) ncs.new connections.new d o) }
 {
-    match take_to_server(connections, d + 1, c) {
+    match take_to_server(alloc, connections, d + 1, c)? {
         Some(packet) => {
             let step = ncs.upper_answer(d, c, &packet.message);
             let_go(packet);
-            told_step(step)
+            Ok(told_step(step))
         }
-        None => Outcome::Impossible,
+        None => Ok(Outcome::Impossible),
     }
 }
 
@@ -150,17 +159,23 @@ fn told_step(step: Step) -> Outcome
 }
 
 /// The server takes the first unread answer on the connection that it opened.
-pub fn take_back(ncs: &mut Ncs<MemKeeper>, connections: &mut [Connection], d: u32) -> Outcome
+pub fn take_back(
+    alloc: Global,
+    ncs: &mut Ncs<MemKeeper>,
+    connections: &mut [Connection],
+    d: u32,
+) -> Result<Outcome, NoMemory>
     requires within { d < devices_of ncs.old }
     requires few { d < 64 }
-    ensures server { LeavesServer ncs.old ncs.new d }
+    requires readable { AreReadable connections.old (d + 1) }
+    ensures server { OnOk result (LeavesServer ncs.old ncs.new d) }
     ensures count { length connections.new ≡ length connections.old }
-    ensures others { LeavesOthers connections.old connections.new (d + 1) }
-    ensures step { (n : ℕ) (l : Pairing) → (ncs_of ncs.old).peers d ≡ l.peer → MatchesConnections connections.old (d + 1) l.connections → IsReady ncs.old.server.journal l → ServerEventStep n l rows.Back ncs.old ncs.new connections.new d result }
+    ensures others { OnOk result (LeavesOthers connections.old connections.new (d + 1)) }
+    ensures step { IfOk result (λ o. (n : ℕ) (l : Pairing) → (ncs_of ncs.old).peers d ≡ l.peer → MatchesConnections connections.old (d + 1) l.connections → IsReady ncs.old.server.journal l → ServerEventStep n l rows.Back ncs.old ncs.new connections.new d o) }
 {
     match ncs.upper(d).link() {
-        Some(c) => take_back_on(ncs, connections, d, c),
-        None => Outcome::Impossible,
+        Some(c) => Ok(take_back_on(alloc, ncs, connections, d, c)?),
+        None => Ok(Outcome::Impossible),
     }
 }
 
@@ -222,6 +237,7 @@ fn hear_one(ncs: &mut Ncs<MemKeeper>, d: u32, c: u64, packet: Packet) -> Result<
 
 /// The server hears a packet, and writes its answer.
 fn hear_and_answer(
+    alloc: Global,
     ncs: &mut Ncs<MemKeeper>,
     connections: &mut [Connection],
     d: u32,
@@ -237,12 +253,13 @@ fn hear_and_answer(
     ensures heard { IfOk result (λ o. (q : Said) (lines : ℕ → Line) → Carries packet q → AreEntries ncs.old.server.journal → MatchesConnections connections.old (d + 1) lines → IsOpened (lines c) → IsHeardAnswered ncs.old ncs.new q connections.new d c lines o) }
 {
     let answer = hear_one(ncs, d, c, packet)?;
-    let outcome = say_to_device(connections, d + 1, c, answer)?;
+    let outcome = say_to_device(alloc, connections, d + 1, c, answer)?;
     Ok(outcome)
 }
 
 /// The server hears the first unread message on the device's connection `c`.
 fn hear_on(
+    alloc: Global,
     ncs: &mut Ncs<MemKeeper>,
     connections: &mut [Connection],
     d: u32,
@@ -251,14 +268,15 @@ fn hear_on(
     requires within { d < devices_of ncs.old }
     requires few { d < 64 }
     requires linked { ((ncs_of ncs.old).peers d).link ≡ Some c }
+    requires readable { AreReadable connections.old (d + 1) }
     ensures server { OnOk result (LeavesServer ncs.old ncs.new d) }
     ensures count { length connections.new ≡ length connections.old }
     ensures others { OnOk result (LeavesOthers connections.old connections.new (d + 1)) }
-    ensures step { IfOk result (λ o. (l : Pairing) → (ncs_of ncs.old).peers d ≡ l.peer → MatchesConnections connections.old (d + 1) l.connections → AreEntries ncs.old.server.journal → IsOpened (l.connections c) → IsServerEventStep l (hears_front ncs.old.server.journal l c (l.connections c) (front (l.connections c).to_server)) ncs.new connections.new d o) }
+    ensures step { IfOk result (λ o. (l : Pairing) → (ncs_of ncs.old).peers d ≡ l.peer → MatchesConnections connections.old (d + 1) l.connections → AreEntries ncs.old.server.journal → IsOpened (l.connections c) → HaveEncodings l.connections → IsServerEventStep l (hears_front ncs.old.server.journal l c (l.connections c) (front (l.connections c).to_server)) ncs.new connections.new d o) }
 {
-    match take_to_server(connections, d + 1, c) {
+    match take_to_server(alloc, connections, d + 1, c)? {
         Some(packet) => {
-            let outcome = hear_and_answer(ncs, connections, d, c, packet)?;
+            let outcome = hear_and_answer(alloc, ncs, connections, d, c, packet)?;
             Ok(outcome)
         }
         None => Ok(Outcome::Impossible),
@@ -267,19 +285,21 @@ fn hear_on(
 
 /// The server hears the first unread message on the connection that the device opened, and writes its answer.
 pub fn hear(
+    alloc: Global,
     ncs: &mut Ncs<MemKeeper>,
     connections: &mut [Connection],
     d: u32,
 ) -> Result<Outcome, NoMemory>
     requires within { d < devices_of ncs.old }
     requires few { d < 64 }
+    requires readable { AreReadable connections.old (d + 1) }
     ensures server { OnOk result (LeavesServer ncs.old ncs.new d) }
     ensures count { length connections.new ≡ length connections.old }
     ensures others { OnOk result (LeavesOthers connections.old connections.new (d + 1)) }
     ensures step { IfOk result (λ o. (n : ℕ) (l : Pairing) → (ncs_of ncs.old).peers d ≡ l.peer → MatchesConnections connections.old (d + 1) l.connections → IsReady ncs.old.server.journal l → ServerEventStep n l rows.Hear ncs.old ncs.new connections.new d o) }
 {
     match ncs.device_link(d) {
-        Some(c) => Ok(hear_on(ncs, connections, d, c)?),
+        Some(c) => Ok(hear_on(alloc, ncs, connections, d, c)?),
         None => Ok(Outcome::Impossible),
     }
 }
@@ -316,6 +336,7 @@ pub fn beat(ncs: &mut Ncs<MemKeeper>, d: u32) -> Outcome
 
 /// An event that the server is part of, and that opens no connection.
 fn event_on(
+    alloc: Global,
     ncs: &mut Ncs<MemKeeper>,
     connections: &mut [Connection],
     d: u32,
@@ -325,6 +346,7 @@ fn event_on(
     requires few { d < 64 }
     requires server { is_of_device_of (pairing_event_of event.now) ≡ false }
     requires opens { opens_one (pairing_event_of event.now) ≡ 0 }
+    requires readable { AreReadable connections.old (d + 1) }
     ensures server { OnOk result (LeavesServer ncs.old ncs.new d) }
     ensures count { length connections.new ≡ length connections.old }
     ensures others { OnOk result (LeavesOthers connections.old connections.new (d + 1)) }
@@ -332,10 +354,10 @@ fn event_on(
 {
     match event {
         PairingEvent::Cut => Ok(cut(ncs, d)),
-        PairingEvent::Send => Ok(send(ncs, connections, d)?),
-        PairingEvent::Back => Ok(take_back(ncs, connections, d)),
+        PairingEvent::Send => Ok(send(alloc, ncs, connections, d)?),
+        PairingEvent::Back => Ok(take_back(alloc, ncs, connections, d)?),
         PairingEvent::Admit { c } => Ok(admit(ncs, connections, d, *c)),
-        PairingEvent::Hear => Ok(hear(ncs, connections, d)?),
+        PairingEvent::Hear => Ok(hear(alloc, ncs, connections, d)?),
         PairingEvent::Miss => Ok(miss(ncs, d)),
         PairingEvent::Beat => Ok(beat(ncs, d)),
         _ => unreachable!(),
@@ -353,6 +375,7 @@ pub fn server_event(
     requires within { d < devices_of ncs.old }
     requires few { d < 64 }
     requires server { is_of_device_of (pairing_event_of event.now) ≡ false }
+    requires readable { AreReadable connections.old.items (d + 1) }
     ensures server { OnOk result (LeavesServer ncs.old ncs.new d) }
     ensures count { OnOk result (length connections.new.items ≡ length connections.old.items + opens_one (pairing_event_of event.now)) }
     ensures others { OnOk result (LeavesOthers connections.old.items connections.new.items (d + 1)) }
@@ -360,6 +383,6 @@ pub fn server_event(
 {
     match event {
         PairingEvent::OpenTo => Ok(open_to(alloc, ncs, connections, d)?),
-        _ => Ok(event_on(ncs, connections, d, event)?),
+        _ => Ok(event_on(alloc, ncs, connections, d, event)?),
     }
 }

@@ -35,13 +35,13 @@ pub struct World {
 impl Model for World {
     ghost use Rattle.std.specs.Prelude.{Option};
     ghost use Rattle.world_stage.specs.declared.play.Play.{Play};
-    ghost use Rattle.world_stage.specs.Worlds.{IsSizedWorld};
+    ghost use Rattle.world_stage.specs.Worlds.{ShowsOne};
 
     ghost Value = { Option Play };
 
     ghost view = { λ w. w.play };
 
-    ghost invariant = { λ w. IsSizedWorld w.play };
+    ghost invariant = { λ w. ShowsOne w.play };
 }
 
 impl World {

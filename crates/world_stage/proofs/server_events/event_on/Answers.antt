@@ -9,8 +9,8 @@ returns-in-Miss-clause-step c = rw c.in-Miss.is (λ n l p m r. c.miss.ensures.st
 pub returns-in-Beat-clause-step : goal.returns-in-Beat-clause-step
 returns-in-Beat-clause-step c = rw c.in-Beat.is (λ n l p m r. c.beat.ensures.step n c.args.connections.now l p m)
 
-pub returns-in-Back-clause-step : goal.returns-in-Back-clause-step
-returns-in-Back-clause-step c = rw c.in-Back.is (λ n l p m r. c.take_back.ensures.step n l p m r)
+pub returns-in_ok-take_back-in-Back-clause-step : goal.returns-in_ok-take_back-in-Back-clause-step
+returns-in_ok-take_back-in-Back-clause-step c = rw c.in-Back.is (λ n l p m r. c.in_ok-take_back-in-Back.ensures.step n l p m r)
 
 pub returns-in-Admit-clause-step : goal.returns-in-Admit-clause-step
 returns-in-Admit-clause-step c = rw c.in-Admit.is (λ n l p m r. c.admit.ensures.step n l p m)

@@ -4,6 +4,7 @@ use Rattle.mos_machines.specs.Server.{peer_answered}
 use Rattle.mos_machines.specs.Values.{seen}
 use Rattle.machine_answers.specs.Answers.{step_of}
 use Rattle.ncs_core.specs.State.{ncs_of}
+use Rattle.world_parts.proofs.ReadableLines.{at-some}
 use Rattle.world_stage.proofs.OwnLinks.{answer-own}
 use Rattle.world_stage.proofs.ServerSaid.{answered-as, stepped-answer, stepped-state, taken-back}
 use Rattle.world_stage.proofs.Tables.{leaves-written, peer-written}
@@ -17,8 +18,8 @@ returns-in-Some-clause-server c =
     leaves-written c.args.ncs.now c.upper_answer-step.new.self c.args.d z.0 (c.upper_answer-step.ensures.step ∙ (ap (λ (x : StepAnswer × ServerState). x.1) (answer-own s c.args.d c.args.c m c.requires.linked) ∙ stepped-state s c.args.d z)) c.upper_answer-step.ensures.rest
 
 pub returns-in-Some-clause-step : goal.returns-in-Some-clause-step
-returns-in-Some-clause-step c = λ l p m opened.
-    let some = c.in-Some.ensures.some l.connections m in
+returns-in-Some-clause-step c = λ l p m opened a.
+    let some = at-some _ c.in_ok-take_to_server.field-0 c.in-Some.packet c.in-Some.is c.in_ok-take_to_server.ensures.some l.connections m a in
     let q = some.0 in
     let own = answered-as c.args.ncs.now c.args.d c.args.c c.in-Some.packet q some.2 c.requires.linked in
     let z = peer_answered c.args.ncs.now.server.journal ((ncs_of c.args.ncs.now).peers c.args.d) q.message in

@@ -11,8 +11,8 @@ use Rattle.world_stage.specs.declared.play.Play.{Play}
 use Rattle.world_stage.proofs.Plays.{lost-so}
 use Rattle.world_stage.proofs.play.Play.lose.Goals as goal
 
-pub returns-then-lose-clause-step : goal.returns-then-lose-clause-step
-returns-then-lose-clause-step c = λ w m.
+pub returns-then-lose : goal.returns-then-lose
+returns-then-lose c = λ w m.
     let t : Play = c.args.self.now in
     let xs = t.connections.items in
     let u : Play = record { ncs = t.ncs; gateways = t.gateways; connections = with_items t.connections c.lose.new.connections } in

@@ -1,0 +1,6 @@
+use Rattle.std.proofs.Common.{drop}
+use Rattle.size_laws.specs.Small.{AreSmallStories}
+use Rattle.world_stage.proofs.limits.stories_are_small.Given as goal
+
+abbrev pub invariant-stories : goal.invariant-stories
+invariant-stories l = AreSmallStories (drop l.story-index l.stories) → AreSmallStories l.stories
