@@ -19,7 +19,7 @@ returns-in-Some-clause-server c =
 
 pub returns-in-Some-clause-step : goal.returns-in-Some-clause-step
 returns-in-Some-clause-step c = λ l p m opened a.
-    let some = at-some _ c.in_ok-take_to_server.field-0 c.in-Some.packet c.in-Some.is c.in_ok-take_to_server.ensures.some l.connections m a in
+    let some = at-some _ _ c.in-Some.packet c.in-Some.is c.in_ok-packet.ensures.some l.connections m a in
     let q = some.0 in
     let own = answered-as c.args.ncs.now c.args.d c.args.c c.in-Some.packet q some.2 c.requires.linked in
     let z = peer_answered c.args.ncs.now.server.journal ((ncs_of c.args.ncs.now).peers c.args.d) q.message in
