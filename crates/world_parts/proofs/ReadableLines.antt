@@ -1,5 +1,5 @@
 -- What can be read of what is unread, and what a packet carries that is written or read.
-use Rattle.std.proofs.Common.{◌≡◌, ℕ, ◌≤◌, suc, List, [], ◌∷◌, length, get_or, Option, Some, None, IfNone, IfSome, refl, sym, ap, ◌∙◌, subst, arith}
+use Rattle.std.proofs.Common.{◌≡◌, ℕ, suc, List, [], ◌∷◌, length, get_or, Option, Some, None, IfNone, IfSome, refl, ap, ◌∙◌, subst, arith}
 use Rattle.std.specs.List.{AllByRecursion}
 use Rattle.mos_machines.specs.Messages.{Packet as Said}
 use Rattle.mos_machines.specs.Values.{message_of}

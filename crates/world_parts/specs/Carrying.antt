@@ -1,6 +1,5 @@
 -- Packets on their way, as bytes.
-use Rattle.std.specs.Prelude.{◌≡◌, ℕ, List, Option, Some, None}
-use Rattle.std.specs.List.{AllByRecursion}
+use Rattle.std.specs.Prelude.{◌≡◌, ℕ}
 use Rattle.mos_values.specs.declared.message.Envelope.{Envelope}
 use Rattle.world_messages.specs.Messages.{Encodes, IsEncodingOf}
 use Rattle.world_parts.specs.declared.packet.Packet.{Packet}
