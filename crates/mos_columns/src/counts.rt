@@ -1,11 +1,11 @@
 //! What a tag shows by the fields that were seen.
-ghost use Rattle.std.specs.Prelude.{◌≡◌, ◌&&◌, List, cond, drop, nat_lt, Option, Some, None};
+ghost use Rattle.std.specs.Prelude.{◌≡◌, ◌&&◌, List, cond, drop, nat_lt, MatchOption, Option, Some, None};
 ghost use Rattle.mos_fields.specs.declared.field.Field.{Field as FieldOf};
 ghost use Rattle.mos_tables.specs.Tables.{columns as columns_of, ack_columns as ack_columns_of};
 ghost use Rattle.mos_grammar.specs.Records.{column_of, is_named as is_named_of, field_fault, wanted, lacking as lacking_of, lack_of, least_count as least_count_of, is_single as is_single_of, or_else};
 ghost use Rattle.mos_grammar.specs.declared.fault.Fault.{Fault as FaultOf};
 ghost use Rattle.mos_grammar.specs.declared.fault.Fault.TheVariants.{Twice as twice, Order as out_of_order};
-ghost use Rattle.mos_columns.specs.Counts.{counts_of, any_counted as any_counted_of, lacking_by, repeated_by, before_by, tag_fault_by, end_fault_by};
+ghost use Rattle.mos_columns.specs.Counts.{counts_of, any_counted as any_counted_of, lacking_by, repeated_by, before_by, end_fault_by};
 
 use crate::names::is_name;
 use mos_fields::{Field, Form};
@@ -22,7 +22,7 @@ fn is_named(column: &Column, name: &[u16]) -> bool
 }
 
 /// The column of an element with this name, if the table has one.
-pub fn find_column(columns: &[Column], name: &[u16]) -> Option<Column>
+fn find_column(columns: &[Column], name: &[u16]) -> Option<Column>
     ensures { result ≡ column_of columns.now name.now }
 {
     match columns {
@@ -34,6 +34,20 @@ pub fn find_column(columns: &[Column], name: &[u16]) -> Option<Column>
                 find_column(cs, name)
             }
         }
+    }
+}
+
+/// The same, where no field of these columns was counted: what lacked before is all that a tag shows.
+fn find_uncounted(
+    columns: &[Column],
+    name: &[u16],
+    lacked: Option<Fault>,
+) -> Option<(Column, Option<Fault>)>
+    ensures { MatchOption result (column_of columns.now name.now ≡ None) (λ r. (column_of columns.now name.now ≡ Some r.0) × (r.1 ≡ lacked)) }
+{
+    match find_column(columns, name) {
+        None => None,
+        Some(column) => Some((column, lacked)),
     }
 }
 
@@ -126,43 +140,42 @@ fn fault_here(
     }
 }
 
-/// What the tag of a field shows, where a required field may have lacked before these columns.
+/// The column of an element with this name, if the table has one, and what its tag shows, where a required field may have
+/// lacked before these columns.
 #[tactic(auto, using(crate::proofs::CountLaws::or_none))]
-fn fault_from(
+fn find_from(
     columns: &[Column],
     counts: &[usize],
     name: &[u16],
     lacked: Option<Fault>,
-) -> Option<Fault>
-    ensures { result ≡ or_else (repeated_by columns.now counts.now name.now) (or_else lacked (before_by columns.now counts.now name.now)) }
+) -> Option<(Column, Option<Fault>)>
+    ensures { MatchOption result (column_of columns.now name.now ≡ None) (λ r. (column_of columns.now name.now ≡ Some r.0) × (r.1 ≡ or_else (repeated_by columns.now counts.now name.now) (or_else lacked (before_by columns.now counts.now name.now)))) }
 {
     match columns {
-        [] => lacked,
+        [] => None,
         [c, cs @ ..] => match counts {
-            [] => lacked,
+            [] => find_uncounted(columns, name, lacked),
             [k, ks @ ..] => {
                 if is_named(c, name) {
-                    fault_here(c, *k, ks, lacked)
+                    Some((*c, fault_here(c, *k, ks, lacked)))
                 } else {
-                    fault_from(cs, ks, name, first_lack(lacked, c, *k))
+                    find_from(cs, ks, name, first_lack(lacked, c, *k))
                 }
             }
         },
     }
 }
 
-fn tag_fault(columns: &[Column], counts: &[usize], name: &[u16]) -> Option<Fault>
-    ensures { result ≡ tag_fault_by columns.now counts.now name.now }
+/// The column of an element with this name, if the table has one, and what its tag shows behind the fields seen, which the
+/// counts count: that it was there already, that a later field was there, or the first required field before it that lacks.
+pub fn find_tag(
+    columns: &[Column],
+    counts: &[usize],
+    name: &[u16],
+) -> Option<(Column, Option<Fault>)>
+    ensures { (seen : List FieldOf) → counts.now ≡ counts_of columns.now seen → MatchOption result (column_of columns.now name.now ≡ None) (λ r. (column_of columns.now name.now ≡ Some r.0) × (r.1 ≡ field_fault columns.now seen name.now)) }
 {
-    fault_from(columns, counts, name, None)
-}
-
-/// What the tag of a field shows behind the fields seen, which the counts count: that it was there already, that a later
-/// field was there, or the first required field before it that lacks.
-pub fn find_tag_fault(columns: &[Column], counts: &[usize], name: &[u16]) -> Option<Fault>
-    ensures { (seen : List FieldOf) → counts.now ≡ counts_of columns.now seen → result ≡ field_fault columns.now seen name.now }
-{
-    tag_fault(columns, counts, name)
+    find_from(columns, counts, name, None)
 }
 
 fn has_group(counts: &[usize]) -> bool

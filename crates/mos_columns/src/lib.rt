@@ -9,7 +9,7 @@ mod messages;
 mod names;
 mod noting;
 
-pub use counts::{find_column, find_end_fault, find_tag_fault};
+pub use counts::{find_end_fault, find_tag};
 pub use messages::{find_message, message_table};
 pub use names::is_name;
 pub use noting::{may_grow, note, start_counts};

@@ -97,8 +97,8 @@ pub fn record_slots<const N: usize>(
     ensures fit { IfOk result (λ s. AllFit table (places (columns_of table)) (parts_of s)) }
     ensures events { IfOk result (λ s. cursor ≡ parts_events (places (columns_of table)) (parts_of s)) }
 {
-    let slots = Vec::new(alloc);
-    let slots = fill(alloc, &mut cursor, table.columns(), slots)?;
+    let room = Vec::with_capacity(alloc, N)?;
+    let slots = fill(alloc, &mut cursor, table.columns(), room)?;
     match <[Slot; N]>::try_from(slots) {
         Ok(slots) => Ok(slots),
         Err(_) => unreachable!(),

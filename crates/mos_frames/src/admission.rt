@@ -11,7 +11,6 @@ use crate::empty::{leaf_fault, table_end_fault};
 use crate::frame::Frame;
 use crate::open_field::OpenField;
 use crate::role::{Role, find_role};
-use mos_columns::find_column;
 use mos_events::{ElementName, KnownAttribute};
 use mos_fields::{Field, Form, NoMemory};
 use mos_forms::{Given, read_attribute};
@@ -83,14 +82,14 @@ fn earlier_or(fault: Fault, behind: Option<Fault>) -> Fault
     }
 }
 
-/// What the tag of an element of this column shows of the fields seen.
-fn outside_fault(frame: &Frame, column: Option<Column>, name: &[u16]) -> Option<Fault>
-    requires { column ≡ column_of (columns_of (frame.now).table) name.now }
-    ensures { result ≡ outside_fault_of (frame.now).table (frame.now).before name.now }
+/// The column of an element with this name, and what its tag shows of the fields seen.
+fn find_outside(frame: &Frame, name: &[u16]) -> (Option<Column>, Option<Fault>)
+    ensures column { result.0 ≡ column_of (columns_of (frame.now).table) name.now }
+    ensures fault { result.1 ≡ outside_fault_of (frame.now).table (frame.now).before name.now }
 {
-    match column {
-        None => None,
-        Some(_) => frame.tag_fault(name),
+    match frame.find_tag(name) {
+        None => (None, None),
+        Some((column, fault)) => (Some(column), fault),
     }
 }
 
@@ -165,10 +164,10 @@ pub fn admit(
 ) -> Result<Admission, NoMemory>
     ensures { IfOk result (λ a. IsAdmission a name.now (admission (frame.now).table (frame.now).before name.now attributes.now)) }
 {
-    let column = find_column(frame.table().columns(), name);
+    let (column, outside) = find_outside(frame, name);
     let role = find_role(alloc, frame, column, name, attributes)?;
     let given = read_attribute(alloc, wanted(role), attributes)?;
-    Ok(admitted(role, outside_fault(frame, column, name), given, None))
+    Ok(admitted(role, outside, given, None))
 }
 
 /// How the element of an empty tag begins. The only error is that memory runs out.
@@ -180,9 +179,9 @@ pub fn admit_empty(
 ) -> Result<Admission, NoMemory>
     ensures { IfOk result (λ a. IsAdmission a name.now (empty_admission (frame.now).table [] (frame.now).before name.now attributes.now)) }
 {
-    let column = find_column(frame.table().columns(), name);
+    let (column, outside) = find_outside(frame, name);
     let role = find_role(alloc, frame, column, name, attributes)?;
     let given = read_attribute(alloc, wanted(role), attributes)?;
     let inside = inside_fault(alloc, role)?;
-    Ok(admitted(role, outside_fault(frame, column, name), given, inside))
+    Ok(admitted(role, outside, given, inside))
 }

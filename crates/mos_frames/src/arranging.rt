@@ -53,13 +53,31 @@ fn take_at(children: &mut [Child], place: usize, field: Field) -> Part
     take_part(&mut children[place], field)
 }
 
+/// Moves what the child at this place adds, if it is of this field, to the end of the events.
+fn move_found(
+    children: &mut [Child],
+    place: usize,
+    field: Field,
+    out: &mut Vec<Event>,
+) -> Result<(), NoMemory>
+    requires { place < length children.old }
+    ensures next { OnOk result (events_of out.new.items ++ found field (children_of (drop (place + 1) children.new)) ≡ events_of out.old.items ++ found field (children_of (drop place children.old))) }
+    ensures others { OnOk result ((g : FieldOf) → same_field_of field g ≡ false → found g (children_of children.new) ≡ found g (children_of children.old)) }
+{
+    if same_field(field, children[place].field) {
+        push_part(take_at(children, place, field), out)
+    } else {
+        Ok(())
+    }
+}
+
 /// Moves what the children of this field add to the end of the events.
 fn take_found(children: &mut [Child], field: Field, out: &mut Vec<Event>) -> Result<(), NoMemory>
     ensures found { OnOk result (events_of out.new.items ≡ events_of out.old.items ++ found field (children_of children.old)) }
     ensures others { OnOk result ((g : FieldOf) → same_field_of field g ≡ false → found g (children_of children.new) ≡ found g (children_of children.old)) }
 {
     for i in 0..children.len() {
-        push_part(take_at(children, i, field), out)?;
+        move_found(children, i, field, out)?;
     }
     Ok(())
 }

@@ -1,9 +1,9 @@
 //! Open records.
-ghost use Rattle.std.specs.Prelude.{◌≡◌, [], IfOk, OnOk};
+ghost use Rattle.std.specs.Prelude.{◌≡◌, [], IfOk, MatchOption, None, OnOk, Some};
 ghost use Rattle.mos_fields.specs.Fields.{same};
 ghost use Rattle.mos_fields.specs.Forms.{among};
 ghost use Rattle.mos_tables.specs.Tables.{columns as columns_of};
-ghost use Rattle.mos_grammar.specs.Records.{field_fault, end_fault as end_fault_of, aim_of as aim_of_lem};
+ghost use Rattle.mos_grammar.specs.Records.{column_of, field_fault, end_fault as end_fault_of, aim_of as aim_of_lem};
 ghost use Rattle.mos_columns.specs.Counts.{counts_of};
 ghost use Rattle.mos_events.specs.EventView.{attributes_of, element_text, events_of};
 ghost use Rattle.mos_frames.specs.Parts.{part_events};
@@ -14,11 +14,11 @@ use crate::arranging::arrange;
 use crate::child::{Child, Part};
 use crate::key_set::KeySet;
 use crate::times::times;
-use mos_columns::{find_end_fault, find_tag_fault, is_name, may_grow, note, start_counts};
+use mos_columns::{find_end_fault, find_tag, is_name, may_grow, note, start_counts};
 use mos_events::{ElementName, Event, KnownAttribute};
 use mos_fields::{Field, NoMemory, Text};
 use mos_grammar::Fault;
-use mos_tables::{Aim, Table};
+use mos_tables::{Aim, Column, Table};
 use std::alloc::{AllocError, Global};
 use std::marker::Model;
 
@@ -123,11 +123,12 @@ impl Frame {
         is_name(self.name.name(), name)
     }
 
-    /// What the tag of a field shows behind the children so far.
-    pub fn tag_fault(&self, name: &[u16]) -> Option<Fault>
-        ensures { result ≡ field_fault (columns_of (self.now).table) (seen_in self.now) name.now }
+    /// The column of an element with this name, if its table has one, and what the element's tag shows behind the children so
+    /// far.
+    pub fn find_tag(&self, name: &[u16]) -> Option<(Column, Option<Fault>)>
+        ensures { MatchOption result (column_of (columns_of (self.now).table) name.now ≡ None) (λ r. (column_of (columns_of (self.now).table) name.now ≡ Some r.0) × (r.1 ≡ field_fault (columns_of (self.now).table) (seen_in self.now) name.now)) }
     {
-        find_tag_fault(self.table.columns(), &self.counts, name)
+        find_tag(self.table.columns(), &self.counts, name)
     }
 
     /// What its end tag shows.

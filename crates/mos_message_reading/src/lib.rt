@@ -16,4 +16,4 @@ mod requests;
 
 pub use envelopes::envelope_of;
 pub use laws::{encoded_message, read_message};
-pub use messages::message_of;
+pub use messages::{message_of, read_object, read_order};

@@ -1,12 +1,12 @@
 //! Messages from their elements.
-ghost use Rattle.std.specs.Prelude.{◌≡◌, IfOk};
+ghost use Rattle.std.specs.Prelude.{◌≡◌, IfOk, MatchOption, false, true};
 ghost use Rattle.mos_fields.specs.declared.field.Field.TheVariants as fields;
 ghost use Rattle.mos_events.specs.EventView.{element_text, message_text};
 ghost use Rattle.mos_values.specs.MessageViews.{message_events};
 ghost use Rattle.mos_cursor.specs.Accepted.{MessageFits, OneMessage};
 ghost use Rattle.mos_cursor.specs.Parts.{part_events, record_events};
 ghost use Rattle.mos_cursor.specs.Slots.{part_of, record_of};
-ghost use Rattle.mos_message_reading.specs.Values.{IsNamed};
+ghost use Rattle.mos_message_reading.specs.Values.{IsNamed, is_order_name};
 
 use crate::answers::{order_ack_of, order_action_of, readiness_of, status_of, story_sent_of};
 use crate::attributes::{level_of, operation_of};
@@ -27,21 +27,31 @@ use mos_fields::NoMemory;
 use mos_values::Message;
 use std::alloc::Global;
 
-/// The message of this name. The only error is that memory runs out.
-fn named_message(alloc: Global, name: MessageName, nested: Nested) -> Result<Message, NoMemory>
-    requires { MessageFits (message_text name) (record_of nested) }
+/// Whether the message is about running orders.
+fn is_order(name: MessageName) -> bool
+    ensures { result ≡ is_order_name name }
+{
+    match name {
+        MessageName::Heartbeat
+        | MessageName::ReqMachInfo
+        | MessageName::ListMachInfo
+        | MessageName::MosAck
+        | MessageName::MosObj
+        | MessageName::MosReqObj
+        | MessageName::MosReqAll
+        | MessageName::MosListAll => false,
+        _ => true,
+    }
+}
+
+/// The message about running orders of this name.
+fn order_message(alloc: Global, name: MessageName, nested: Nested) -> Result<Message, NoMemory>
+    requires order { is_order_name name ≡ true }
+    requires fits { MessageFits (message_text name) (record_of nested) }
     ensures { IfOk result (λ m. message_events m ≡ record_events (message_text name) (record_of nested)) }
 {
     let Nested { attribute, inner } = nested;
     match name {
-        MessageName::Heartbeat => heartbeat_of(alloc, inner),
-        MessageName::ReqMachInfo => Ok(machine_request_of(inner)),
-        MessageName::ListMachInfo => machine_of(alloc, inner),
-        MessageName::MosAck => object_ack_of(alloc, inner),
-        MessageName::MosObj => one_object_of(alloc, inner),
-        MessageName::MosReqObj => object_request_of(alloc, inner),
-        MessageName::MosReqAll => list_request_of(alloc, inner),
-        MessageName::MosListAll => all_objects_of(alloc, inner),
         MessageName::RoCreate => creation_of(alloc, inner),
         MessageName::RoReplace => replacement_of(alloc, inner),
         MessageName::RoList => listing_of(alloc, inner),
@@ -55,6 +65,77 @@ fn named_message(alloc: Global, name: MessageName, nested: Nested) -> Result<Mes
         MessageName::RoReadyToAir => readiness_of(alloc, inner),
         MessageName::RoAck => order_ack_of(alloc, inner),
         MessageName::RoStorySend => story_sent_of(alloc, inner),
+        _ => unreachable!(),
+    }
+}
+
+/// The message about machines or objects of this name.
+fn object_message(alloc: Global, name: MessageName, nested: Nested) -> Result<Message, NoMemory>
+    requires object { is_order_name name ≡ false }
+    requires fits { MessageFits (message_text name) (record_of nested) }
+    ensures { IfOk result (λ m. message_events m ≡ record_events (message_text name) (record_of nested)) }
+{
+    let inner = nested.inner;
+    match name {
+        MessageName::Heartbeat => heartbeat_of(alloc, inner),
+        MessageName::ReqMachInfo => Ok(machine_request_of(inner)),
+        MessageName::ListMachInfo => machine_of(alloc, inner),
+        MessageName::MosAck => object_ack_of(alloc, inner),
+        MessageName::MosObj => one_object_of(alloc, inner),
+        MessageName::MosReqObj => object_request_of(alloc, inner),
+        MessageName::MosReqAll => list_request_of(alloc, inner),
+        MessageName::MosListAll => all_objects_of(alloc, inner),
+        _ => unreachable!(),
+    }
+}
+
+/// The message about running orders, of Profiles 2 and 4, whose element has this name and these events inside; `None`
+/// exactly where the name is that of a message of Profiles 0 and 1. The only error is that memory runs out.
+///
+/// The events have to be those that the message's table accepts, as a reader hands them out.
+pub fn read_order(
+    alloc: Global,
+    name: MessageName,
+    nested: Nested,
+) -> Result<Option<Message>, NoMemory>
+    requires { MessageFits (message_text name) (record_of nested) }
+    ensures { IfOk result (λ o. MatchOption o (is_order_name name ≡ false) (λ m. (is_order_name name ≡ true) × (message_events m ≡ record_events (message_text name) (record_of nested)))) }
+{
+    if is_order(name) {
+        Ok(Some(order_message(alloc, name, nested)?))
+    } else {
+        Ok(None)
+    }
+}
+
+/// The message about machines or objects, of Profiles 0 and 1, whose element has this name and these events inside; `None`
+/// exactly where the name is that of a message of Profiles 2 and 4. The only error is that memory runs out.
+///
+/// The events have to be those that the message's table accepts, as a reader hands them out.
+pub fn read_object(
+    alloc: Global,
+    name: MessageName,
+    nested: Nested,
+) -> Result<Option<Message>, NoMemory>
+    requires { MessageFits (message_text name) (record_of nested) }
+    ensures { IfOk result (λ o. MatchOption o (is_order_name name ≡ true) (λ m. (is_order_name name ≡ false) × (message_events m ≡ record_events (message_text name) (record_of nested)))) }
+{
+    if is_order(name) {
+        Ok(None)
+    } else {
+        Ok(Some(object_message(alloc, name, nested)?))
+    }
+}
+
+/// The message of this name. The only error is that memory runs out.
+fn named_message(alloc: Global, name: MessageName, nested: Nested) -> Result<Message, NoMemory>
+    requires { MessageFits (message_text name) (record_of nested) }
+    ensures { IfOk result (λ m. message_events m ≡ record_events (message_text name) (record_of nested)) }
+{
+    if is_order(name) {
+        order_message(alloc, name, nested)
+    } else {
+        object_message(alloc, name, nested)
     }
 }
 

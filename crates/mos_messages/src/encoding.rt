@@ -64,13 +64,16 @@ fn write_envelope(out: &mut Vec<u8>, e: &Envelope) -> Result<(), NoMemory>
     Ok(())
 }
 
+/// Most messages have so many bytes or fewer, which are taken at once.
+const SMALL_MESSAGE: usize = 512;
+
 /// The canonical encoding of an envelope: UTF-16 with the high byte first, no white space between elements, the fields
 /// in the order of their tables, absent ones left out. The only error is that memory runs out.
 #[tactic(auto, unfolding(mos_writer::specs::Encoded::encoded))]
 pub fn encode(alloc: Global, e: &Envelope) -> Result<Vec<u8>, NoMemory>
     ensures { IfOk result (λ v. v.items ≡ bytes_of (units_of (canonical (envelope_events e.now)))) }
 {
-    let mut out = Vec::new(alloc);
+    let mut out = Vec::with_capacity(alloc, SMALL_MESSAGE)?;
     write_envelope(&mut out, e)?;
     Ok(out)
 }

@@ -3,6 +3,9 @@ ghost use Rattle.std.specs.Prelude.{◌≡◌, ◌≤◌, ◌<◌, ◌+◌, ◌&
 ghost use Rattle.mos_fields.specs.Names.{is_further as is_further_of};
 ghost use Rattle.mos_scanner.specs.Runs.{is_plain_but};
 
+/// So many units of a run are looked at one by one before blocks are.
+const SHORT_RUN: usize = 8;
+
 /// The unit is no allowed character by itself, or one of these three.
 #[inline(always)]
 fn is_special(u: u16, p: u16, q: u16, r: u16) -> bool
@@ -32,7 +35,8 @@ fn is_plain_block(s: &[u16], from: usize, p: u16, q: u16, r: u16) -> bool
     hits == 0
 }
 
-/// The end of a run of units from `from` on none of which is special.
+/// The end of a run of units from `from` on none of which is special. Short runs are most of them, and end before a block
+/// is looked at.
 pub fn plain_end(s: &[u16], from: usize, p: u16, q: u16, r: u16) -> usize
     requires { from ≤ length s.now }
     ensures within { result ≤ length s.now }
@@ -40,6 +44,12 @@ pub fn plain_end(s: &[u16], from: usize, p: u16, q: u16, r: u16) -> usize
     ensures plain { (k : ℕ) → from ≤ k → k < result → is_plain_but p q r (slice_index s.now k) ≡ true }
 {
     let mut n = from;
+    while n < s.len() && n - from < SHORT_RUN {
+        if is_special(s[n], p, q, r) {
+            return n;
+        }
+        n += 1;
+    }
     while s.len() - n >= 16 {
         if !is_plain_block(s, n, p, q, r) {
             break;

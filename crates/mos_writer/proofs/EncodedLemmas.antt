@@ -1,7 +1,7 @@
 -- The bytes of code units, part by part.
-use Rattle.std.proofs.Common.{Ok, Err, Bool, true, false, ◌≡◌, ℕ, ◌+◌, ◌*◌, ◌/◌, ◌%◌, ◌^◌, ◌<◌, ◌≤◌, List, [], ◌∷◌, ◌++◌, length, map, take, get_or, refl, sym, ap, subst, ◌∙◌, append_assoc, arith}
+use Rattle.std.proofs.Common.{Ok, Err, Bool, true, false, ◌≡◌, ℕ, ◌+◌, ◌*◌, ◌/◌, ◌%◌, ◌^◌, ◌<◌, ◌≤◌, List, [], ◌∷◌, ◌++◌, ◌-◌, length, map, take, drop, get_or, refl, sym, ap, subst, ◌∙◌, append_assoc, arith}
 use Rattle.std.specs.List.{flat_map}
-use Rattle.std.proofs.lemmas.List.{append-nil, take_more}
+use Rattle.std.proofs.lemmas.List.{append-nil, take_more, take_rest}
 use Rattle.std.proofs.lemmas.List.Concat.{flat_map-append, flat_map-cons}
 use Rattle.std.specs.Prelude.{Result, OnOk}
 use Rattle.std.specs.Fmt.{decimal}
@@ -41,6 +41,36 @@ pub in_bytes-nil : in_bytes [] ≡ []
 unfolding in_bytes
 in_bytes-nil = refl
 
+pub units_start : (a : List ℕ) → a ≡ a ++ in_bytes []
+units_start a = sym (ap (λ (ys : List ℕ). a ++ ys) in_bytes-nil ∙ append-nil a)
+
+-- no code unit; one, or four, and the rest behind them
+pub when_empty : (us a : List ℕ) → length us < 1 → a ≡ a ++ in_bytes us
+when_empty [] a lt = units_start a
+when_empty (u ∷ us) a lt = absurd (grind (arith))
+
+pub one_and_rest : (us a m w : List ℕ) → 1 ≤ length us → m ≡ a ++ unit_bytes (get_or us 0 0) → w ≡ m ++ in_bytes (take (length us - 1) (drop 1 us)) → w ≡ a ++ in_bytes us
+unfolding in_bytes
+one_and_rest [] a m w le first then = absurd (grind (arith))
+one_and_rest (u ∷ us) a m w le first then =
+    then ∙ ap (λ ys. m ++ in_bytes ys) (take_rest (u ∷ us) 1) ∙ ap (λ ys. ys ++ in_bytes us) first ∙ append_assoc a (unit_bytes u) (in_bytes us)
+
+pub four_and_rest : (us a m w : List ℕ) → 4 ≤ length us
+    → m ≡ a ++ (unit_bytes (get_or us 0 0) ++ (unit_bytes (get_or us 1 0) ++ (unit_bytes (get_or us 2 0) ++ unit_bytes (get_or us 3 0))))
+    → w ≡ m ++ in_bytes (take (length us - 4) (drop 4 us)) → w ≡ a ++ in_bytes us
+unfolding in_bytes
+four_and_rest [] a m w le first then = absurd (grind (arith))
+four_and_rest (t ∷ []) a m w le first then = absurd (grind (arith))
+four_and_rest (t ∷ u ∷ []) a m w le first then = absurd (grind (arith))
+four_and_rest (t ∷ u ∷ v ∷ []) a m w le first then = absurd (grind (arith))
+four_and_rest (t ∷ u ∷ v ∷ x ∷ us) a m w le first then =
+    then ∙ ap (λ ys. m ++ in_bytes ys) (take_rest (t ∷ u ∷ v ∷ x ∷ us) 4) ∙ ap (λ ys. ys ++ in_bytes us) first
+    ∙ append_assoc a (unit_bytes t ++ (unit_bytes u ++ (unit_bytes v ++ unit_bytes x))) (in_bytes us)
+
+pub on_ok_to : {P Q : Type 0} (r : Result (Unit {0}) AllocError) → (P → Q) → OnOk r P → OnOk r Q
+on_ok_to (Ok v) go p = go p
+on_ok_to (Err e) go p = p
+
 pub joins : {a b x y : List ℕ} → a ≡ b → x ≡ y → a ++ x ≡ b ++ y
 joins p q = cc
 
@@ -65,9 +95,6 @@ one_more g xs i x a l w lt is before after =
 
 step_at : {X Y : Type 0} (g : X → List Y) (xs : List X) (i : ℕ) (d : X) → i < length xs → flat_map g (take (i + 1) xs) ≡ flat_map g (take i xs) ++ g (get_or xs i d)
 step_at g xs i d lt = ap (flat_map g) (take_more xs i d lt) ∙ flat_map-append g (take i xs) (get_or xs i d ∷ []) ∙ ap (λ ys. flat_map g (take i xs) ++ ys) (append-nil (g (get_or xs i d)))
-
-pub units_start : (a : List ℕ) → a ≡ a ++ in_bytes []
-units_start a = sym (ap (λ (ys : List ℕ). a ++ ys) in_bytes-nil ∙ append-nil a)
 
 -- one more code unit
 pub units_step : (us : List ℕ) (i : ℕ) (a l w : List ℕ) → i < length us → l ≡ a ++ in_bytes (take i us) → w ≡ l ++ unit_bytes (get_or us i 0) → w ≡ a ++ in_bytes (take (i + 1) us)

@@ -13,24 +13,50 @@ fn push_unit(out: &mut Vec<u8>, unit: u16) -> Result<(), NoMemory>
     Ok(())
 }
 
-fn push_byte(out: &mut Vec<u8>, byte: u8) -> Result<(), NoMemory>
-    ensures { OnOk result (out.new.items ≡ out.old.items ++ unit_bytes byte) }
+/// Appends four code units at once, which is faster than one after the other.
+fn push_four(out: &mut Vec<u8>, a: u16, b: u16, c: u16, d: u16) -> Result<(), NoMemory>
+    ensures { OnOk result (out.new.items ≡ out.old.items ++ (unit_bytes a ++ (unit_bytes b ++ (unit_bytes c ++ unit_bytes d)))) }
 {
-    let unit = u16::from(byte);
-    out.push((unit / 256) as u8)?;
-    out.push((unit % 256) as u8)?;
+    out.extend_from_slice(&[
+        (a / 256) as u8,
+        (a % 256) as u8,
+        (b / 256) as u8,
+        (b % 256) as u8,
+        (c / 256) as u8,
+        (c % 256) as u8,
+        (d / 256) as u8,
+        (d % 256) as u8,
+    ])?;
     Ok(())
+}
+
+fn push_character(out: &mut Vec<u8>, character: u8) -> Result<(), NoMemory>
+    ensures { OnOk result (out.new.items ≡ out.old.items ++ unit_bytes character) }
+{
+    push_unit(out, u16::from(character))
+}
+
+fn push_four_characters(out: &mut Vec<u8>, a: u8, b: u8, c: u8, d: u8) -> Result<(), NoMemory>
+    ensures { OnOk result (out.new.items ≡ out.old.items ++ (unit_bytes a ++ (unit_bytes b ++ (unit_bytes c ++ unit_bytes d)))) }
+{
+    push_four(out, u16::from(a), u16::from(b), u16::from(c), u16::from(d))
 }
 
 /// Appends characters of ASCII.
 pub fn push_ascii(out: &mut Vec<u8>, text: &[u8]) -> Result<(), NoMemory>
     ensures { OnOk result (out.new.items ≡ out.old.items ++ in_bytes text.now) }
 {
-    out.reserve(text.len().saturating_mul(2))?;
-    for byte in text {
-        push_byte(out, *byte)?;
+    match text {
+        [] => Ok(()),
+        [a, b, c, d, rest @ ..] => {
+            push_four_characters(out, *a, *b, *c, *d)?;
+            push_ascii(out, rest)
+        }
+        [a, rest @ ..] => {
+            push_character(out, *a)?;
+            push_ascii(out, rest)
+        }
     }
-    Ok(())
 }
 
 /// Appends code units.

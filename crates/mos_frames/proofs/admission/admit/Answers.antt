@@ -7,5 +7,5 @@ pub returns : goal.returns
 returns c =
     let n = c.args.name.now in
     let g = c.args.attributes.now in
-    start_is c.admitted.result c.in_ok-role.role c.args.frame.now.table c.args.frame.now.before n g c.outside_fault.result c.in_ok-role.ensures c.outside_fault.ensures
+    start_is c.admitted.result c.in_ok-role.role c.args.frame.now.table c.args.frame.now.before n g c.find_outside-column.result.1 c.in_ok-role.ensures c.find_outside-column.ensures.fault
     (c.admitted.ensures n g c.in_ok-role.ensures.name (subst (λ w. IsGiven w g c.in_ok-given.given) c.wanted.ensures c.in_ok-given.ensures))

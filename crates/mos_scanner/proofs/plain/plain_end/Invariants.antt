@@ -13,3 +13,9 @@ invariant-loop-n-2 l = (l.n ≤ length l.s) × (l.from ≤ l.n) × ((k : ℕ) �
 
 abbrev pub decreases-loop-n-2 : goal.decreases-loop-n-2
 decreases-loop-n-2 l = length l.s - l.n
+
+abbrev pub invariant-loop-n-3 : goal.invariant-loop-n-3
+invariant-loop-n-3 l = (l.n ≤ length l.s) × (l.from ≤ l.n) × ((k : ℕ) → l.from ≤ k → k < l.n → is_plain_but l.p l.q l.r (get_or l.s k 0) ≡ true)
+
+abbrev pub decreases-loop-n-3 : goal.decreases-loop-n-3
+decreases-loop-n-3 l = length l.s - l.n
