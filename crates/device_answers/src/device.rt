@@ -1,11 +1,11 @@
 //! A device that answers.
-ghost use Rattle.std.specs.Prelude.{◌≡◌, [], IfOk};
+ghost use Rattle.std.specs.Prelude.{◌≡◌, [], IfOk, OnOk};
 ghost use Rattle.mos_machines.specs.Device.{gate_read};
 ghost use Rattle.mos_machines.specs.Tables.{gate_of};
 ghost use Rattle.mos_machines.specs.Values.{seen, message_of};
 ghost use Rattle.mos_values.specs.declared.message.Envelope.{Envelope as Enveloped};
 ghost use Rattle.mos_values.specs.declared.message.Message.{Message as Carried};
-ghost use Rattle.device_answers.specs.Taking.{IsAnswered, answer_to, device_after, encoding, no_decks, with_message};
+ghost use Rattle.device_answers.specs.Taking.{IsAnswered, answer_to, device_after, encoding, no_decks};
 
 use crate::wide::wide;
 use gateway_core::{DeckState, Gate};
@@ -51,25 +51,6 @@ impl Model for Device {
 // Lets a value go. What is let go here is dropped by a function of its type, and not variant by variant on each path.
 fn let_go<T: Drop>(_value: T) {}
 
-/// The envelope with another message.
-fn exchanged(envelope: Envelope, message: Message) -> Envelope
-    ensures { result ≡ with_message envelope message }
-{
-    let mut envelope = envelope;
-    let former = replace(&mut envelope.message, message);
-    let_go(former);
-    envelope
-}
-
-/// The canonical encoding of an envelope, which is let go.
-fn encoded(alloc: Global, envelope: Envelope) -> Result<Vec<u8>, NoMemory>
-    ensures { IfOk result (λ bytes. bytes.items ≡ encoding envelope) }
-{
-    let bytes = encode(alloc, &envelope);
-    let_go(envelope);
-    bytes
-}
-
 impl Device {
     /// A device to which nothing was sent yet. It takes no memory; what it keeps grows in this allocator.
     pub fn new(alloc: Global) -> Self
@@ -91,25 +72,26 @@ impl Device {
         }
     }
 
-    /// The answer to a message, in the message's names and with its messageID.
-    fn answer(&mut self, envelope: Envelope) -> Result<Envelope, NoMemory>
-        ensures { IfOk result (λ a. (a ≡ answer_to (gate_of self.old) envelope) × (gate_of self.new ≡ device_after (gate_of self.old) envelope)) }
+    /// Puts the answer in the place of a message: the names and the messageID stay.
+    fn answer(&mut self, envelope: &mut Envelope) -> Result<(), NoMemory>
+        ensures answered { OnOk result (envelope.new ≡ answer_to (gate_of self.old) envelope.old) }
+        ensures device { OnOk result (gate_of self.new ≡ device_after (gate_of self.old) envelope.old) }
     {
-        match self.read(&envelope.message) {
-            Ok(answer) => Ok(exchanged(envelope, answer)),
-            Err(_) => {
-                let_go(envelope);
-                Err(NoMemory)
-            }
-        }
+        let answer = self.read(&envelope.message)?;
+        let_go(replace(&mut envelope.message, answer));
+        Ok(())
     }
 
-    /// The encoding of that answer.
-    fn answer_encoded(&mut self, alloc: Global, envelope: Envelope) -> Result<Vec<u8>, NoMemory>
-        ensures { IfOk result (λ bytes. (bytes.items ≡ encoding (answer_to (gate_of self.old) envelope)) × (gate_of self.new ≡ device_after (gate_of self.old) envelope)) }
+    /// The encoding of the answer to a message, which it takes the place of.
+    fn answer_encoded(
+        &mut self,
+        alloc: Global,
+        envelope: &mut Envelope,
+    ) -> Result<Vec<u8>, NoMemory>
+        ensures { IfOk result (λ bytes. (bytes.items ≡ encoding (answer_to (gate_of self.old) envelope.old)) × (gate_of self.new ≡ device_after (gate_of self.old) envelope.old)) }
     {
-        let answer = self.answer(envelope)?;
-        encoded(alloc, answer)
+        self.answer(envelope)?;
+        encode(alloc, envelope)
     }
 }
 
@@ -126,8 +108,10 @@ impl Teller for Device {
 
     fn tell(&mut self, alloc: Global, found: Found) -> Result<Vec<u8>, NoMemory> {
         read_message();
-        let envelope = envelope_of(alloc, found.value)?;
-        self.answer_encoded(alloc, envelope)
+        let mut envelope = envelope_of(alloc, found.value)?;
+        let text = self.answer_encoded(alloc, &mut envelope);
+        let_go(envelope);
+        text
     }
 
     fn tell_last(

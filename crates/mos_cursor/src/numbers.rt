@@ -22,8 +22,7 @@ fn chars_of(alloc: Global, text: &Text) -> Result<Vec<char>, NoMemory>
     ensures value { IfOk result (λ v. v.items ≡ text.now) }
     ensures allowed { IfOk result (λ _. are_allowed text.now ≡ true) }
 {
-    let _units = text.units();
-    let mut chars = Vec::new(alloc);
+    let mut chars = Vec::with_capacity(alloc, text.units().len())?;
     text.push_to(&mut chars)?;
     Ok(chars)
 }

@@ -1,10 +1,10 @@
 -- The units of a name are its characters.
-use Rattle.std.proofs.Common.{◌≡◌, ℕ, ◌+◌, ◌<◌, ◌≤◌, Bool, true, false, cond, ◌&&◌, not, List, [], ◌∷◌, ◌++◌, refl, sym, ap, ◌∙◌, subst, arith}
+use Rattle.std.proofs.Common.{◌≡◌, ℕ, ◌<◌, Bool, true, false, cond, [], ◌∷◌, ◌++◌, refl, ap, ◌∙◌, arith}
 use Rattle.std.specs.List.{list_all}
 use Rattle.std.proofs.lemmas.Bool.{and_parts, and_from}
 use Rattle.std.proofs.lemmas.Bool.Decides.{nat_tests}
 use Rattle.mos_fields.specs.Characters.{Text, units_of}
-use Rattle.mos_fields.specs.Names.{is_empty, is_name, named, is_start, is_further, may_grow}
+use Rattle.mos_fields.specs.Names.{is_name, named, is_start, is_further, may_grow}
 use Rattle.mos_fields.proofs.CharacterLemmas.{one_unit}
 
 start_further : (c : ℕ) → is_start c ≡ true → is_further c ≡ true

@@ -1,18 +1,11 @@
 -- What children add, one after another.
-use Rattle.std.proofs.Common.{◌≡◌, ℕ, suc, zero, ◌+◌, ◌<◌, Bool, true, false, cond, not, ◌&&◌, ◌||◌, List, [], ◌∷◌, ◌++◌, length, get_or, set, take, drop, map, refl, sym, ap, ◌∙◌, subst, arith, append_assoc}
-use Rattle.std.proofs.lemmas.List.{append-nil, map-append, drop_more}
-use Rattle.std.specs.List.{flat_map}
-use Rattle.mos_fields.specs.Fields.{same_field}
-use Rattle.mos_fields.specs.declared.field.Field.{Field}
-use Rattle.mos_fields.specs.declared.field.Field.TheVariants as fields
+use Rattle.std.proofs.Common.{◌≡◌, List, [], ◌∷◌, ◌++◌, sym}
+use Rattle.std.proofs.lemmas.List.{append-nil, map-append}
 use Rattle.mos_tables.specs.Events.{Event}
-use Rattle.mos_tables.specs.declared.column.Column.{Column}
-use Rattle.mos_grammar.specs.Records.{found, flat, column_events}
-use Rattle.mos_grammar.specs.Records.{Child as ChildOf}
 use Rattle.mos_events.specs.EventView.{event_of, events_of}
 use Rattle.mos_events.specs.declared.event.Event.{Event as Stored}
 use Rattle.mos_frames.specs.declared.child.Child.{Child}
-use Rattle.mos_frames.specs.Parts.{child_of, children_of, part_events}
+use Rattle.mos_frames.specs.Parts.{child_of, children_of}
 
 pub none_more : (es : List Event) → es ≡ es ++ []
 none_more es = sym (append-nil es)

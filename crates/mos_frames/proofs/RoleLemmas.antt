@@ -3,16 +3,15 @@ use Rattle.std.proofs.Common.{◌≡◌, ℕ, Bool, true, false, cond, ◌&&◌,
 use Rattle.std.specs.Prelude.{is_some}
 use Rattle.mos_fields.specs.Characters.{Text}
 use Rattle.mos_fields.specs.Fields.{name_of, same}
-use Rattle.mos_fields.specs.Forms.{is_trimmed, is_white, reads}
+use Rattle.mos_fields.specs.Forms.{is_trimmed, reads}
 use Rattle.mos_fields.specs.declared.field.Field.{Field}
 use Rattle.mos_fields.specs.declared.field.Field.TheVariants as fields
 use Rattle.mos_fields.specs.declared.form.Form.{Form}
 use Rattle.mos_fields.specs.declared.operation.Operation.{Operation}
 use Rattle.mos_fields.proofs.WordLemmas.{same_is}
 use Rattle.mos_tables.specs.Events.{Attribute}
-use Rattle.mos_tables.specs.Tables.{columns, others, attribute_of_table, attribute_of_form, messages, table_of_name}
+use Rattle.mos_tables.specs.Tables.{columns, others, attribute_of_table, attribute_of_form}
 use Rattle.mos_tables.specs.declared.column.Column.{Column}
-use Rattle.mos_tables.specs.declared.column.Shape.{Shape}
 use Rattle.mos_tables.specs.declared.column.Shape.TheVariants as shapes
 use Rattle.mos_tables.specs.declared.table.Table.{Table}
 use Rattle.mos_tables.specs.declared.table.Table.TheVariants.{Envelope, Body, HeaderPatch, Story, Item, MosObj, Heartbeat, NoFields, ListMachInfo, SupportedProfiles, MosAck, MosReqObj, MosReqAll, MosListAll, OneOrder, RoListAll, ElementStat, Action, Target, Source, ReadyToAir, RoAck, StorySend}
@@ -22,14 +21,14 @@ use Rattle.mos_grammar.specs.Records.{Child, column_of, is_named, is_full, is_op
 use Rattle.mos_columns.specs.Counts.{counts_of}
 use Rattle.mos_columns.specs.Messages.{all_messages, named_in, record_if, record_of}
 use Rattle.mos_columns.proofs.MessageLaws.{message_is}
-use Rattle.mos_events.specs.EventView.{attributes_of, element_text, message_text}
+use Rattle.mos_events.specs.EventView.{message_text}
 use Rattle.mos_events.specs.declared.element_name.ElementName.TheVariants as names
 use Rattle.mos_events.specs.declared.message_name.MessageName.{MessageName}
 use Rattle.mos_events.specs.declared.known_attribute.KnownAttribute.{KnownAttribute}
 use Rattle.mos_forms.specs.Known.{IsGivenAs}
 use Rattle.mos_frames.proofs.TextLemmas.{events_empty}
 use Rattle.mos_frames.specs.Opened.{times_by}
-use Rattle.mos_frames.specs.Roles.{IsRole, IsAdmission, role_of, wanted_of, HasName, admission_of, HasAdmittedName}
+use Rattle.mos_frames.specs.Roles.{IsRole, IsAdmission, role_of, wanted_of}
 use Rattle.mos_frames.specs.declared.role.Role.{Role as RoleCode}
 use Rattle.mos_frames.specs.declared.role.Role.TheVariants as roles
 use Rattle.mos_frames.specs.declared.admission.Admission.{Admission as AdmissionCode}

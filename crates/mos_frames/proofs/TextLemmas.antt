@@ -1,8 +1,8 @@
 -- Texts beside keys, and empty texts.
-use Rattle.std.proofs.Common.{◌≡◌, ℕ, Bool, true, false, cond, ◌&&◌, ◌||◌, List, [], ◌∷◌, Option, Some, None, refl, sym, ap, ◌∙◌, subst}
+use Rattle.std.proofs.Common.{◌≡◌, true, false, cond, ◌&&◌, List, [], Option, Some, None, refl, ap}
 use Rattle.std.specs.Prelude.{is_some}
 use Rattle.mos_fields.specs.Characters.{Text}
-use Rattle.mos_fields.specs.Forms.{among, reads, is_white}
+use Rattle.mos_fields.specs.Forms.{reads}
 use Rattle.mos_fields.specs.declared.form.Form.{Form}
 use Rattle.mos_fields.specs.declared.form.Form.TheVariants as forms
 use Rattle.mos_grammar.specs.Records.{field_events, leaf_event, OpenField}

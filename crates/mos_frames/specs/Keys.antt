@@ -1,5 +1,5 @@
 -- Keys in memory, to be looked up.
-use Rattle.std.specs.Prelude.{◌≡◌, ℕ, List, is_some}
+use Rattle.std.specs.Prelude.{◌≡◌, List, is_some}
 use Rattle.std.specs.BTreeMap.{get, BTreeMap}
 use Rattle.std.specs.Cmp.Lexicographic.{slice_cmp}
 use Rattle.std.specs.Ordering.{nat_cmp}

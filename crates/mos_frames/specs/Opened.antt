@@ -5,7 +5,6 @@ use Rattle.mos_fields.specs.declared.field.Field.{Field}
 use Rattle.mos_tables.specs.declared.column.Column.{Column}
 use Rattle.mos_tables.specs.declared.table.Table.{Table}
 use Rattle.mos_tables.specs.Events.{Attribute, Event}
-use Rattle.mos_tables.specs.Tables.{columns}
 use Rattle.mos_grammar.specs.Records.{Child, is_named, keys, seen_of, nested}
 use Rattle.mos_grammar.specs.RecordMachine.{Frame}
 

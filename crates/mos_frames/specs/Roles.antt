@@ -1,12 +1,11 @@
 -- How an element is read and how it begins, in memory, as the grammar's.
-use Rattle.std.specs.Prelude.{◌≡◌, ℕ, List, Option, Some, None, ⊤}
+use Rattle.std.specs.Prelude.{◌≡◌, List, Option, None, ⊤}
 use Rattle.mos_fields.specs.Characters.{Text}
 use Rattle.mos_fields.specs.Fields.{name_of}
 use Rattle.mos_fields.specs.declared.field.Field.{Field}
 use Rattle.mos_tables.specs.Events.{Attribute}
 use Rattle.mos_tables.specs.Tables.{attribute_of_table, attribute_of_form}
 use Rattle.mos_events.specs.EventView.{element_text, attributes_of}
-use Rattle.mos_events.specs.declared.known_attribute.KnownAttribute.{KnownAttribute}
 use Rattle.mos_grammar.specs.Records.{given_of, out_of_place, leaf_role, raw_role, record_role, not_admitted, admitted_leaf, admitted_raw, admitted_record}
 use Rattle.mos_grammar.specs.Records.{OpenField as OpenFieldOf, Role as RoleOf, Admission as AdmissionOf}
 use Rattle.mos_frames.specs.declared.open_field.OpenField.{OpenField}

@@ -1,5 +1,5 @@
 -- Where reading stands, and what one more token does.
-use Rattle.std.specs.Prelude.{◌≡◌, Result, Ok, Err, Option, Some, None}
+use Rattle.std.specs.Prelude.{◌≡◌, List, Result, Ok, Err, Option, Some, None}
 use Rattle.mos_tables.specs.declared.table.Table.TheVariants.{Envelope}
 use Rattle.mos_grammar.specs.Tokens.{Token}
 use Rattle.mos_grammar.specs.declared.fault.Fault.{Fault}
@@ -13,28 +13,39 @@ use Rattle.mos_frames.specs.declared.place.Place.TheVariants.{Before, InMessage,
 use Rattle.mos_frames.specs.declared.place.Stage.{Stage}
 use Rattle.mos_frames.specs.declared.place.Stage.TheVariants.{BeforeProlog, BehindMark, BehindDeclaration}
 use Rattle.mos_frames.specs.declared.progress.Progress.{Progress}
-use Rattle.mos_frames.specs.declared.progress.Progress.TheVariants.{More, Message}
+use Rattle.mos_frames.specs.declared.progress.Progress.TheVariants.{More}
 use Rattle.mos_frames.specs.declared.inside.Inside.{Inside}
-use Rattle.mos_frames.specs.States.{state_of}
+use Rattle.mos_tables.specs.Events.{Event}
+use Rattle.mos_frames.specs.States.{state_of, progress_in, value_in}
 
 -- in front of a message or in it; or it has failed with this fault
 pub data Standing : Type 0 where
   reads : Position → Standing
   failed : FrameFault → Standing
 
--- what a step comes to: a message that is whole is handed out
+-- what a step comes to
 abbrev pub progress_of : Result Position Fault → Result Progress FrameFault
 progress_of (Ok (before_message g)) = Ok More
-progress_of (Ok (inside (at m f fs))) = Ok More
-progress_of (Ok (inside (complete v))) = Ok (Message v)
+progress_of (Ok (inside s)) = Ok (progress_in s)
 progress_of (Err k) = Err (Rejected k)
 
--- where reading stands behind it: behind a whole message in front of the next one
+-- where reading stands behind it
 abbrev pub standing_of : Result Position Fault → Standing
-standing_of (Ok (before_message g)) = reads (before_message g)
-standing_of (Ok (inside (at m f fs))) = reads (inside (at m f fs))
-standing_of (Ok (inside (complete v))) = reads (before_message before_prolog)
+standing_of (Ok p) = reads p
 standing_of (Err k) = failed (Rejected k)
+
+-- the value of the message that is whole where reading stands
+abbrev pub value_of : Standing → Option (List Event)
+value_of (reads (before_message g)) = None
+value_of (reads (inside s)) = value_in s
+value_of (failed k) = None
+
+-- where reading stands once that was taken
+abbrev pub taken_of : Standing → Standing
+taken_of (reads (before_message g)) = reads (before_message g)
+taken_of (reads (inside (at m f fs))) = reads (inside (at m f fs))
+taken_of (reads (inside (complete v))) = reads (before_message before_prolog)
+taken_of (failed k) = failed k
 
 -- A step is answered so, and reading stands so behind it; or there was no memory, and reading has failed.
 abbrev pub TakesStep : Result Position Fault → Result Progress FrameFault → Standing → Type 0

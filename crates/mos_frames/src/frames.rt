@@ -5,7 +5,7 @@ ghost use Rattle.mos_grammar.specs.Streams.{inside as inside_position};
 ghost use Rattle.mos_tokens.specs.TokenView.{IsSound, token_of};
 ghost use Rattle.mos_frames.specs.Ahead.{is_in_raw as is_in_raw_of, may_stay, stands_in_raw, stands_outside};
 ghost use Rattle.mos_frames.specs.States.{state_of};
-ghost use Rattle.mos_frames.specs.Standing.{Takes, TakesStep, reads, stage_of, standing_in};
+ghost use Rattle.mos_frames.specs.Standing.{Takes, TakesStep, reads, stage_of, standing_in, taken_of, value_of};
 
 use crate::fault::FrameFault;
 use crate::inside::Inside;
@@ -13,6 +13,7 @@ use crate::mode::Mode;
 use crate::place::{Place, Stage};
 use crate::progress::Progress;
 use crate::prolog::step_before;
+use mos_events::Events;
 use mos_tokens::Token;
 use std::alloc::Global;
 use std::marker::Model;
@@ -83,9 +84,9 @@ fn take_inside(
             *place = Place::InMessage;
             Ok(Progress::More)
         }
-        Ok(Progress::Message(value)) => {
-            *place = Place::Before(Stage::BeforeProlog);
-            Ok(Progress::Message(value))
+        Ok(Progress::Whole) => {
+            *place = Place::InMessage;
+            Ok(Progress::Whole)
         }
     }
 }
@@ -111,8 +112,8 @@ impl Frames {
         }
     }
 
-    /// Takes the next token: the message goes on, or it is whole with this token, and then its value is handed out and the
-    /// next message may begin.
+    /// Takes the next token: the message goes on, or it is whole with this token. Its value waits then for `take_value`,
+    /// and until that was called no token fits.
     ///
     /// `Rejected` comes exactly where the token doesn't fit behind the tokens before it, with the fault that it shows.
     /// `NoMemory` comes where there is no memory for what the token adds. Behind either each later token is answered with
@@ -129,6 +130,22 @@ impl Frames {
                 take_inside(self.alloc, &mut self.place, &mut self.inside, token)
             }
             Place::Failed(fault) => Err(fault),
+        }
+    }
+
+    /// The value of the message that is whole with the last token, and the next message may begin. `None` exactly where
+    /// none is whole, or its value was taken; then reading stands as it did.
+    pub fn take_value(&mut self) -> Option<Events>
+        ensures value { result ≡ value_of self.old }
+        ensures stands { self.new ≡ taken_of self.old }
+    {
+        match self.place {
+            Place::InMessage => {
+                let value = self.inside.take_value()?;
+                self.place = Place::Before(Stage::BeforeProlog);
+                Some(value)
+            }
+            _ => None,
         }
     }
 

@@ -14,7 +14,7 @@ ghost use Rattle.mos_tokens.specs.TokenView.{IsSound, IsTag, token_of};
 ghost use Rattle.mos_frames.specs.Opened.{frame_in, frames_in};
 ghost use Rattle.mos_frames.specs.Parts.{part_events};
 ghost use Rattle.mos_frames.specs.Roles.{open_field_of};
-ghost use Rattle.mos_frames.specs.States.{Stepped, state_of, state_with};
+ghost use Rattle.mos_frames.specs.States.{Stepped, state_of, state_with, value_in};
 
 use crate::admission::{Admission, admit, admit_empty};
 use crate::child::Part;
@@ -125,7 +125,8 @@ impl Inside {
         match self.outer.pop() {
             None => {
                 let frame = replace(&mut self.inner, Frame::blank(alloc));
-                Ok(Progress::Message(Events::from_vec(frame.close(alloc)?)))
+                self.mode = Mode::Ended(Events::from_vec(frame.close(alloc)?));
+                Ok(Progress::Whole)
             }
             Some(around) => {
                 let frame = replace(&mut self.inner, around);
@@ -396,6 +397,7 @@ impl Inside {
     }
 
     /// Takes one token, with what the innermost record is in taken out of it.
+    #[tactic(auto, unfolding(mos_grammar::specs::RecordMachine::step))]
     fn take_owned(&mut self, alloc: Global, token: Token<'_>) -> Result<Progress, FrameFault>
         requires { IsSound token }
         ensures { Stepped result (state_of self.new) (step (state_of self.old) (token_of token.entry)) }
@@ -405,6 +407,7 @@ impl Inside {
             Mode::InField(leaf) => self.in_field(alloc, leaf, token),
             Mode::BehindText(leaf, part) => self.behind_text(alloc, leaf, part, token),
             Mode::InRaw(start) => self.in_raw(alloc, start, token),
+            Mode::Ended(_) => misplaced(),
         }
     }
 
@@ -417,6 +420,21 @@ impl Inside {
             Mode::Between => self.between(alloc, token),
             Mode::InField(leaf) => self.in_field(alloc, leaf, token),
             _ => self.take_owned(alloc, token),
+        }
+    }
+
+    /// The value of a message that is whole. Nothing is promised of the state behind it; where there is none, the state is
+    /// as it was.
+    pub fn take_value(&mut self) -> Option<Events>
+        ensures value { result ≡ value_in (state_of self.old) }
+        ensures unchanged { result ≡ None → state_of self.new ≡ state_of self.old }
+    {
+        match replace(&mut self.mode, Mode::Between) {
+            Mode::Ended(value) => Some(value),
+            other => {
+                self.mode = other;
+                None
+            }
         }
     }
 }

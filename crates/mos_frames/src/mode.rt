@@ -4,6 +4,7 @@ ghost use Rattle.mos_fields.specs.Names.{is_name};
 
 use crate::child::Part;
 use crate::open_field::OpenField;
+use mos_events::Events;
 use mos_fields::{Field, Text};
 
 /// A raw element behind its start tag: its name, the field that it is, and the tag as it was written.
@@ -15,7 +16,7 @@ pub struct RawStart {
     pub ghost named: { is_name name.items ≡ true },
 }
 
-/// What the innermost record is in.
+/// What the innermost record is in, or the value of a message behind its end.
 #[derive(Drop)]
 pub enum Mode {
     /// between its elements
@@ -26,4 +27,6 @@ pub enum Mode {
     BehindText(OpenField, Part),
     /// in a raw element
     InRaw(RawStart),
+    /// in none: the message is whole, with this value
+    Ended(Events),
 }

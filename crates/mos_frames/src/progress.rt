@@ -1,11 +1,9 @@
 //! What taking a token comes to.
-use mos_events::Events;
-
 /// What taking a token comes to.
-#[derive(Drop)]
+#[derive(Clone, Copy)]
 pub enum Progress {
     /// the message goes on
     More,
-    /// the message is whole, with this value
-    Message(Events),
+    /// the message is whole: its value waits to be taken
+    Whole,
 }

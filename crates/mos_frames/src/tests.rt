@@ -197,7 +197,10 @@ fn trace(alloc: Global, steps: &[Step]) -> Result<String, NoMemory> {
     for step in steps {
         match take(&mut frames, alloc, *step) {
             Ok(Progress::More) => {}
-            Ok(Progress::Message(events)) => push_events(alloc, &mut out, events)?,
+            Ok(Progress::Whole) => match frames.take_value() {
+                Some(events) => push_events(alloc, &mut out, events)?,
+                None => out.push_str("!none")?,
+            },
             Err(fault) => push_rejection(&mut out, fault)?,
         }
     }

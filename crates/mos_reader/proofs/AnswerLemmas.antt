@@ -1,14 +1,11 @@
 -- What the reader of a stream answers, and what it holds then.
-use Rattle.std.proofs.Common.{◌≡◌, ℕ, ◌+◌, ◌-◌, ◌<◌, ◌≤◌, List, [], ◌++◌, length, drop, refl, sym, ap, ◌∙◌, subst, arith, length-drop}
-use Rattle.std.specs.Prelude.{Option, Some, None, Result, Ok, Err}
-use Rattle.std.proofs.lemmas.List.{drop-drop}
+use Rattle.std.proofs.Common.{◌≡◌, ℕ, ◌+◌, ◌-◌, List, length, sym, ap}
+use Rattle.std.specs.Prelude.{Some, None, Ok, Err}
 use Rattle.mos_tables.specs.Events.{Event}
 use Rattle.mos_lexer.specs.declared.kind.Kind.{Kind}
-use Rattle.mos_lexer.specs.Units.{start_reader, UnitRun, still_reads, completed, rejected_at, unit_run}
+use Rattle.mos_lexer.specs.Units.{UnitRun, still_reads, completed, rejected_at}
 use Rattle.mos_lexer.specs.Units.{Reader as ReaderOf}
-use Rattle.mos_reader.specs.declared.found.Found.{Found}
-use Rattle.mos_reader.specs.declared.found.ReadFault.{ReadFault}
-use Rattle.mos_reader.specs.declared.found.ReadFault.TheVariants.{Rejected, NoMemory}
+use Rattle.mos_reader.specs.declared.found.ReadFault.TheVariants.{Rejected}
 use Rattle.mos_reader.specs.Answers.{Stream, answer_of, stream_behind}
 
 pub reads_still : (s : Stream) (run : UnitRun) → ((t : ReaderOf) × (run ≡ still_reads t)) → (answer_of s.base run ≡ Ok None) × (s ≡ stream_behind s run)

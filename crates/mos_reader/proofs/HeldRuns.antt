@@ -1,15 +1,13 @@
 -- What is held, read as far as a character or as what is none.
-use Rattle.std.proofs.Common.{◌≡◌, ℕ, suc, ◌+◌, ◌-◌, ◌<◌, ◌≤◌, Bool, true, false, List, [], ◌∷◌, ◌++◌, length, take, drop, get_or, refl, sym, ap, ◌∙◌, subst, inl, inr, ◌⊎◌, arith, add-one, length-drop, drop-cons}
+use Rattle.std.proofs.Common.{◌≡◌, ℕ, ◌+◌, ◌-◌, ◌<◌, ◌≤◌, Bool, true, false, List, [], ◌∷◌, ◌++◌, length, take, drop, refl, sym, ap, ◌∙◌, subst, inl, inr, ◌⊎◌, arith, add-one, length-drop, drop-cons}
 use Rattle.std.specs.Prelude.{Option, Some, None, slice_index, nat_le, ◌&&◌}
 use Rattle.std.proofs.lemmas.Bool.{le-leb, leb-true}
-use Rattle.std.proofs.lemmas.List.{append-nil, take-append-drop, drop-drop, take-append-le}
+use Rattle.std.proofs.lemmas.List.{take-append-drop, drop-drop}
 use Rattle.std.specs.Char.Escape.{encode_utf16}
 use Rattle.mos_fields.specs.Characters.{is_high, is_low}
-use Rattle.mos_tables.specs.Events.{Event}
-use Rattle.mos_lexer.specs.declared.kind.Kind.{Kind}
 use Rattle.mos_lexer.specs.declared.kind.Kind.TheVariants as kinds
 use Rattle.mos_lexer.specs.LexMachine.{lex_step}
-use Rattle.mos_lexer.specs.Units.{UnitStep, reads_on, completes, rejects, UnitRun, start_reader, still_reads, completed, rejected_at, message_limit, is_outside, lexed, unit_run, may_rest, is_blank, is_resting}
+use Rattle.mos_lexer.specs.Units.{UnitStep, reads_on, completes, rejects, start_reader, still_reads, completed, rejected_at, message_limit, is_outside, lexed, unit_run, may_rest, is_blank, is_resting}
 use Rattle.mos_lexer.specs.Units.{Reader as ReaderOf}
 use Rattle.mos_lexer.specs.Laws.{run_on}
 use Rattle.mos_lexer.proofs.UnitLaws.{pieces_one}
@@ -20,7 +18,7 @@ use Rattle.mos_scanner.proofs.UnitLemmas.{ended, character_read}
 use Rattle.mos_reader.specs.declared.outcome.Outcome.{Outcome}
 use Rattle.mos_reader.specs.declared.outcome.Outcome.TheVariants.{ReadsOn, Completes, Rejects}
 use Rattle.mos_reader.specs.declared.reading.Reading.{Reading}
-use Rattle.mos_reader.specs.Places.{reader_of, outcome_of, IsSoundBehind, IsOn, IsWhole, HasRead, HasCompleted, HasRejected, Came, Ended, IsPaused, capped_of, IsOnward, WentOn}
+use Rattle.mos_reader.specs.Places.{reader_of, value_at, outcome_of, IsSoundBehind, HasRead, HasRejected, Came, IsPaused, capped_of, IsOnward, WentOn}
 use Rattle.mos_reader.proofs.UnitForms.{capped, over_read, both_over, some_units, nothing_read, waiting, high_waits, high_over, lone_low, high_alone, forbidden_read}
 
 take_split : (held : List ℕ) (here next : ℕ) → here ≤ next → take next held ≡ take here held ++ part held here next
@@ -83,8 +81,8 @@ came_within old new held next c o h i w e b = go o e b
       short = subst (λ k. k ≤ message_limit) (sym b.is) w;
       same = ap (λ k. unit_run start_reader (take k held)) b.is ∙ ran ReadsOn e;
     }
-    go (Completes began v) e b = record {
-      same = ran (Completes began v) e ∙ ap (λ k. completed began v (drop k held)) (sym b.is);
+    go (Completes began) e b = record {
+      same = ran (Completes began) e ∙ ap (λ k. completed began (value_at new.frames) (drop k held)) (sym b.is);
       stands = b.stands;
       within = subst (λ k. k ≤ length held) (sym b.is) i.within;
       onward = subst (λ k. began ≤ k) (sym b.is) b.onward;
@@ -114,7 +112,7 @@ came_over old new held next c o h i w e b = go o e b
 
     go : (o : Outcome) → outcome_of o new held ≡ lexed (reader_of old held) old.here next (lex_step (is_outside (reader_of old held).position) (reader_of old held).lex c) → IsSoundBehind o new held next → Came (capped_of o) new held
     go ReadsOn e b = record { same = ran ReadsOn e; within = limit }
-    go (Completes began v) e b = record { same = ran (Completes began v) e; within = limit }
+    go (Completes began) e b = record { same = ran (Completes began) e; within = limit }
     go (Rejects place k) e b = record { same = ran (Rejects place k) e; within = let w = i.within in omega (arith, b, w) }
 
 pub came_far_over : (r new : Reading) (held : List ℕ) (next c : ℕ) → HasRead r held → IsCharacter held r.here next c → message_limit + 1 < next → Came (Rejects message_limit kinds.TooLong) new held
@@ -140,13 +138,13 @@ character_short held here next c i =
 
 pub onward_of : (o : Outcome) (old new : Reading) (held : List ℕ) (next c : ℕ) → IsCharacter held old.here next c → IsSoundBehind o new held next → IsOnward o old new
 onward_of ReadsOn old new held next c i b = subst (λ k. old.here < k) (sym b.is) (character_onward held old.here next c i)
-onward_of (Completes began v) old new held next c i b = tt
+onward_of (Completes began) old new held next c i b = tt
 onward_of (Rejects place k) old new held next c i b = tt
 
 -- a character behind which reading goes on
 abbrev pub then_of : Outcome → Option Outcome
 then_of ReadsOn = None
-then_of (Completes began v) = Some (Completes began v)
+then_of (Completes began) = Some (Completes began)
 then_of (Rejects place k) = Some (Rejects place k)
 
 -- ---- what is no character
@@ -249,5 +247,5 @@ module _ (r : Reading) (held : List ℕ) (h : HasRead r held) where
 -- behind a character: reading went on, or it ends so
 pub went_on : (o : Outcome) (old new : Reading) (held : List ℕ) → Came o new held → IsOnward o old new → WentOn (then_of o) old new held
 went_on ReadsOn old new held a b = (a, b)
-went_on (Completes began v) old new held a b = a
+went_on (Completes began) old new held a b = a
 went_on (Rejects place k) old new held a b = a

@@ -1,5 +1,5 @@
 -- A token was taken and the message goes on: the next token begins.
-use Rattle.std.proofs.Common.{◌≡◌, ℕ, true, cond, List, [], Ok, refl, sym, ap, ◌∙◌, subst}
+use Rattle.std.proofs.Common.{◌≡◌, ℕ, true, cond, List, [], Ok, sym, ap, ◌∙◌, subst}
 use Rattle.std.specs.Prelude.{None}
 use Rattle.mos_grammar.specs.Tokens.{Token}
 use Rattle.mos_grammar.specs.Streams.{Position, message_step}

@@ -1,14 +1,13 @@
 -- Runs of characters of one unit, behind each of which the same token goes on.
-use Rattle.std.proofs.Common.{◌≡◌, ℕ, suc, ◌+◌, ◌-◌, ◌<◌, ◌≤◌, Bool, true, false, ◌&&◌, List, [], ◌∷◌, length, drop, refl, ap, ◌∙◌, arith}
-use Rattle.std.specs.Prelude.{Option, Some, None, nat_le}
+use Rattle.std.proofs.Common.{◌≡◌, ℕ, suc, ◌+◌, ◌<◌, ◌≤◌, Bool, true, false, List, [], ◌∷◌, length, drop, refl, ap, ◌∙◌, arith}
+use Rattle.std.specs.Prelude.{Some, None, nat_le}
 use Rattle.std.specs.List.{list_all}
 use Rattle.std.proofs.lemmas.Bool.{and_parts, leb-true, leb-false}
 use Rattle.std.proofs.lemmas.Bool.Decides.{nat_tests}
 use Rattle.mos_fields.specs.Characters.{is_allowed, is_high, is_low}
-use Rattle.mos_grammar.specs.Streams.{Position}
 use Rattle.mos_lexer.specs.declared.kind.Kind.TheVariants as kinds
 use Rattle.mos_lexer.specs.LexMachine.{LexState, LexStep, continues, whole_token, text_before, text_before_mark, no_token, no_reference, lex_step}
-use Rattle.mos_lexer.specs.Units.{start_reader, UnitStep, reads_on, UnitRun, still_reads, rejected_at, message_limit, is_outside, lexed, unit_read, unit_step, unit_run, then_units}
+use Rattle.mos_lexer.specs.Units.{reads_on, still_reads, rejected_at, message_limit, is_outside, lexed, unit_read, unit_step, unit_run, then_units}
 use Rattle.mos_lexer.specs.Units.{Reader as ReaderOf}
 use Rattle.mos_lexer.specs.Laws.{run_on}
 use Rattle.mos_scanner.specs.Parts.{part}

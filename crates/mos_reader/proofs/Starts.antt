@@ -1,15 +1,15 @@
 -- Where nothing was read, and where more is held.
-use Rattle.std.proofs.Common.{◌≡◌, ℕ, ◌+◌, ◌≤◌, List, [], ◌++◌, length, take, refl, sym, ap, ◌∙◌, subst, arith}
+use Rattle.std.proofs.Common.{◌≡◌, ℕ, List, ◌++◌, take, sym, ap, ◌∙◌, subst, arith}
 use Rattle.std.specs.Prelude.{None}
 use Rattle.std.proofs.lemmas.List.{take-append-le, length-append}
 use Rattle.mos_grammar.specs.Streams.{Position, before_message, before_prolog}
 use Rattle.mos_lexer.specs.LexMachine.{LexState, begin}
-use Rattle.mos_lexer.specs.Units.{start_reader, still_reads, unit_run, message_limit}
+use Rattle.mos_lexer.specs.Units.{start_reader, still_reads, unit_run}
 use Rattle.mos_lexer.specs.Units.{Reader as ReaderOf}
-use Rattle.mos_frames.specs.Standing.{Standing, reads}
+use Rattle.mos_frames.specs.Standing.{reads}
 use Rattle.mos_scanner.specs.ScannerView.{lex_of, IsSound}
 use Rattle.mos_reader.specs.declared.reading.Reading.{Reading}
-use Rattle.mos_reader.specs.Places.{position_of, reader_of, HasRead}
+use Rattle.mos_reader.specs.Places.{position_of, HasRead}
 use Rattle.mos_reader.proofs.UnitForms.{nothing_read}
 
 abbrev made : Position → LexState → ℕ → ℕ → ℕ → ReaderOf

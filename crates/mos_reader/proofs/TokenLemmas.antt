@@ -1,24 +1,22 @@
 -- What taking a token comes to in the definition's terms.
-use Rattle.std.proofs.Common.{◌≡◌, ℕ, Bool, true, false, cond, List, [], ◌∷◌, Option, Some, None, Result, Ok, Err, refl, sym, ap, ◌∙◌, subst}
+use Rattle.std.proofs.Common.{◌≡◌, ℕ, true, cond, List, [], Some, None, Result, Ok, Err, refl, sym, ap, ◌∙◌, subst}
 use Rattle.mos_fields.specs.Characters.{Text}
-use Rattle.mos_tables.specs.Events.{Event}
-use Rattle.mos_grammar.specs.Tokens.{Token, open_tag, empty_tag, close_tag, text, tail, mark, declaration}
+use Rattle.mos_grammar.specs.Tokens.{Token, text}
 use Rattle.mos_grammar.specs.declared.fault.Fault.{Fault}
 use Rattle.mos_grammar.specs.RecordMachine.{at, complete, between, in_field, behind_text, in_raw}
 use Rattle.mos_grammar.specs.Streams.{Position, before_message, inside, before_prolog, message_step}
 use Rattle.mos_lexer.specs.LexMachine.{LexState, begin, in_tail}
 use Rattle.mos_lexer.specs.Units.{UnitStep, reads_on, completes, rejects, lex_at, behind, at_token, kind_of, is_outside}
-use Rattle.mos_frames.specs.Standing.{Standing, reads, failed, progress_of, standing_of, TakesStep, Takes}
+use Rattle.mos_frames.specs.Standing.{Standing, reads, failed, progress_of, standing_of, value_of, taken_of, TakesStep, Takes}
 use Rattle.mos_frames.specs.Ahead.{stands_outside, stands_in_raw}
 use Rattle.mos_frames.specs.declared.fault.FrameFault.{FrameFault}
-use Rattle.mos_frames.specs.declared.fault.FrameFault.TheVariants.{Rejected, NoMemory}
 use Rattle.mos_frames.specs.declared.progress.Progress.{Progress}
-use Rattle.mos_frames.specs.declared.progress.Progress.TheVariants.{More, Message}
+use Rattle.mos_frames.specs.declared.progress.Progress.TheVariants.{More, Whole}
 use Rattle.mos_scanner.specs.ScannerView.{kind_token, tag_name, IsWhole}
 use Rattle.mos_scanner.specs.declared.scanner.Scanner.{Scanner}
 use Rattle.mos_scanner.specs.declared.scanned.Kind.{Kind as TokenKind}
 use Rattle.mos_scanner.specs.declared.scanned.Kind.TheVariants.{OpenTag, EmptyTag, CloseTag, Tail, Mark, Declaration}
-use Rattle.mos_reader.specs.Places.{position_of}
+use Rattle.mos_reader.specs.Places.{IsComplete, position_of, value_at}
 use Rattle.mos_reader.proofs.RawNames.{opened_name, raw_is_opened, no_text_completes}
 
 -- where reading stands as long as it hasn't failed, a token takes a step from there
@@ -54,36 +52,33 @@ behind_more (Ok (inside (at m k ks))) new f place opened start count h e = ap (�
 behind_more (Ok (inside (complete v))) new f place opened start count h e = absurd (cc)
 behind_more (Err k) new f place opened start count h e = absurd (cc)
 
-same_value : (u v : List Event) → ◌≡◌ {A = Result Progress FrameFault} (Ok (Message u)) (Ok (Message v)) → u ≡ v
-same_value u v h = cc
-
 -- behind a token that completes a message
-pub behind_whole : (w : Result Position Fault) (new : Standing) (f : Position → LexState) (place opened start count : ℕ) (v : List Event) → progress_of w ≡ Ok (Message v)
-    → at_token place w (λ p. behind opened start count (f p) p) ≡ completes opened v
-behind_whole (Ok (before_message g)) new f place opened start count v h = absurd (cc)
-behind_whole (Ok (inside (at m k ks))) new f place opened start count v h = absurd (cc)
-behind_whole (Ok (inside (complete u))) new f place opened start count v h = ap (completes opened) (same_value u v h)
-behind_whole (Err k) new f place opened start count v h = absurd (cc)
+pub behind_whole : (w : Result Position Fault) (new : Standing) (f : Position → LexState) (place opened start count : ℕ) → progress_of w ≡ Ok Whole → new ≡ standing_of w
+    → at_token place w (λ p. behind opened start count (f p) p) ≡ completes opened (value_at new)
+behind_whole (Ok (before_message g)) new f place opened start count h e = absurd (cc)
+behind_whole (Ok (inside (at m k ks))) new f place opened start count h e = absurd (cc)
+behind_whole (Ok (inside (complete u))) new f place opened start count h e = ap (λ z. completes opened (value_at z)) (sym e)
+behind_whole (Err k) new f place opened start count h e = absurd (cc)
 
-pub whole_stands : (w : Result Position Fault) (new : Standing) (v : List Event) → progress_of w ≡ Ok (Message v) → new ≡ standing_of w → new ≡ reads (before_message before_prolog)
-whole_stands (Ok (before_message g)) new v h e = absurd (cc)
-whole_stands (Ok (inside (at m k ks))) new v h e = absurd (cc)
-whole_stands (Ok (inside (complete u))) new v h e = e
-whole_stands (Err k) new v h e = absurd (cc)
+pub whole_stands : (w : Result Position Fault) (new : Standing) → progress_of w ≡ Ok Whole → new ≡ standing_of w → IsComplete new
+whole_stands (Ok (before_message g)) new h e = absurd (cc)
+whole_stands (Ok (inside (at m k ks))) new h e = absurd (cc)
+whole_stands (Ok (inside (complete u))) new h e = e ∙ ap (λ z. reads (inside (complete (value_at z)))) (sym e)
+whole_stands (Err k) new h e = absurd (cc)
 
 -- a text completes none
-pub text_not_whole : (p : Position) (x y : Text) (v : List Event) → progress_of (message_step p (text x y)) ≡ Ok (Message v) → ⊥
-text_not_whole p x y v h = go (message_step p (text x y)) refl h
+pub text_not_whole : (p : Position) (x y : Text) → progress_of (message_step p (text x y)) ≡ Ok Whole → ⊥
+text_not_whole p x y h = go (message_step p (text x y)) refl h
   where
-    go : (w : Result Position Fault) → message_step p (text x y) ≡ w → progress_of w ≡ Ok (Message v) → ⊥
+    go : (w : Result Position Fault) → message_step p (text x y) ≡ w → progress_of w ≡ Ok Whole → ⊥
     go (Ok (before_message g)) e h = absurd (cc)
     go (Ok (inside (at m k ks))) e h = absurd (cc)
     go (Ok (inside (complete u))) e h = no_text_completes p x y u e
     go (Err k) e h = absurd (cc)
 
-pub text_stops : (st new : Standing) (t : Token) (x y : Text) (g : Progress) (v : List Event) → st ≡ reads (position_of st) → Takes st t (Ok g) new → t ≡ text x y → g ≡ Message v → ⊥
-text_stops st new t x y g v e h i j =
-    text_not_whole (position_of st) x y v (takes_step st new (text x y) (Ok (Message v)) e (subst (λ z. Takes st z (Ok (Message v)) new) i (subst (λ z. Takes st t (Ok z) new) j h))).0
+pub text_stops : (st new : Standing) (t : Token) (x y : Text) (g : Progress) → st ≡ reads (position_of st) → Takes st t (Ok g) new → t ≡ text x y → g ≡ Whole → ⊥
+text_stops st new t x y g e h i j =
+    text_not_whole (position_of st) x y (takes_step st new (text x y) (Ok Whole) e (subst (λ z. Takes st z (Ok Whole) new) i (subst (λ z. Takes st t (Ok z) new) j h))).0
 
 -- a token that doesn't fit
 pub behind_fault : (w : Result Position Fault) (k : Fault) (place : ℕ) (f : Position → UnitStep) → w ≡ Err k → at_token place w f ≡ rejects place (kind_of k)
@@ -118,3 +113,11 @@ next_open p (inside (at between f fs)) k s held next e r w = absurd (cc)
 next_open p (inside (at (in_field n o) f fs)) k s held next e r w = absurd (cc)
 next_open p (inside (at (behind_text n o es) f fs)) k s held next e r w = absurd (cc)
 next_open p (inside (at (in_raw n c x) f fs)) k s held next e r w = subst (λ z. IsWhole z s held next) (opened_is k s held next n (raw_is_opened p (kind_token k s held next) n c x f fs e)).0 w
+
+-- ---- a message that is whole
+
+pub complete_value : (s : Standing) → IsComplete s → value_of s ≡ Some (value_at s)
+complete_value s e = ap value_of e
+
+pub complete_taken : (s : Standing) → IsComplete s → taken_of s ≡ reads (before_message before_prolog)
+complete_taken s e = ap taken_of e

@@ -1,5 +1,5 @@
 -- One character, or what is none, in the reading of code units, also where the message gets too long.
-use Rattle.std.proofs.Common.{◌≡◌, ℕ, suc, ◌+◌, ◌-◌, ◌*◌, ◌/◌, ◌%◌, ◌<◌, ◌≤◌, true, false, List, [], ◌∷◌, length, refl, sym, ap, ◌∙◌, subst, inl, inr, ◌⊎◌, arith}
+use Rattle.std.proofs.Common.{◌≡◌, ℕ, ◌+◌, ◌-◌, ◌*◌, ◌/◌, ◌%◌, ◌<◌, ◌≤◌, true, false, List, [], ◌∷◌, length, refl, sym, ap, ◌∙◌, subst, inl, inr, ◌⊎◌, arith}
 use Rattle.std.specs.Prelude.{Option, Some, None, nat_le}
 use Rattle.std.proofs.lemmas.Bool.{le-leb, lt-leb, cond-true, cond-false}
 use Rattle.std.proofs.lemmas.Bool.Decides.{nat_tests}
@@ -8,7 +8,7 @@ use Rattle.mos_fields.specs.Characters.{is_allowed, is_high, is_low}
 use Rattle.mos_fields.proofs.CharacterLemmas.{allowed_cases, one_unit, two_units, not_high-low, not_high-above}
 use Rattle.mos_lexer.specs.declared.kind.Kind.TheVariants as kinds
 use Rattle.mos_lexer.specs.LexMachine.{LexStep, continues, whole_token, text_before, text_before_mark, no_token, no_reference, lex_step}
-use Rattle.mos_lexer.specs.Units.{Reader, UnitStep, reads_on, completes, rejects, UnitRun, still_reads, completed, rejected_at, message_limit, is_outside, read_char, lexed, unit_read, too_long, unit_step, unit_run, then_units}
+use Rattle.mos_lexer.specs.Units.{Reader, UnitStep, reads_on, completes, rejects, still_reads, rejected_at, message_limit, is_outside, read_char, lexed, unit_read, too_long, unit_step, unit_run, then_units}
 use Rattle.mos_scanner.proofs.UnitLemmas.{ended}
 
 -- ---- the units of a character

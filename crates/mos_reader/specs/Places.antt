@@ -1,6 +1,7 @@
 -- Where the reading of a message is, in memory and as the definition's.
-use Rattle.std.specs.Prelude.{◌≡◌, ◌≤◌, ◌<◌, ℕ, Bool, List, length, take, drop, Option, Some, None, ⊤, nat_le, ◌&&◌}
-use Rattle.mos_grammar.specs.Streams.{Position, before_message, before_prolog}
+use Rattle.std.specs.Prelude.{◌≡◌, ◌≤◌, ◌<◌, ℕ, Bool, List, [], length, take, drop, Option, Some, None, ⊤, nat_le, ◌&&◌}
+use Rattle.mos_grammar.specs.RecordMachine.{at, complete}
+use Rattle.mos_grammar.specs.Streams.{Position, before_message, before_prolog, inside}
 use Rattle.mos_frames.specs.Standing.{Standing, reads, failed}
 use Rattle.mos_tables.specs.Events.{Event}
 use Rattle.mos_lexer.specs.declared.kind.Kind.{Kind}
@@ -19,6 +20,17 @@ use Rattle.mos_reader.specs.declared.reading.Reading.{Reading}
 abbrev pub position_of : Standing → Position
 position_of (reads p) = p
 position_of (failed k) = before_message before_prolog
+
+-- the value of the message that is whole where the reading of tokens stands
+abbrev pub value_at : Standing → List Event
+value_at (reads (before_message g)) = []
+value_at (reads (inside (at m f fs))) = []
+value_at (reads (inside (complete v))) = v
+value_at (failed k) = []
+
+-- it stands behind a whole message
+abbrev pub IsComplete : Standing → Type 0
+IsComplete s = s ≡ reads (inside (complete (value_at s)))
 
 -- the definition's reader, where these units are held and so many of them were read
 abbrev pub reader_of : Reading → List ℕ → ReaderOf
@@ -50,7 +62,7 @@ pub record IsAt (r : Reading) (held : List ℕ) : Type 0 where
 -- what a character came to, as the definition says it
 abbrev pub outcome_of : Outcome → Reading → List ℕ → UnitStep
 outcome_of ReadsOn r held = reads_on (reader_of r held)
-outcome_of (Completes began v) r held = completes began v
+outcome_of (Completes began) r held = completes began (value_at r.frames)
 outcome_of (Rejects place k) r held = rejects place k
 
 -- reading goes on behind a character
@@ -60,14 +72,14 @@ pub record IsOn (r : Reading) (held : List ℕ) (next : ℕ) : Type 0 where
 
 -- a message is complete with a character
 pub record IsWhole (began : ℕ) (r : Reading) (next : ℕ) : Type 0 where
-  pub stands : r.frames ≡ reads (before_message before_prolog)
+  pub stands : IsComplete r.frames
   pub is : r.here ≡ next
   pub onward : began ≤ next
 
 -- what holds behind a character that ends at this place
 abbrev pub IsSoundBehind : Outcome → Reading → List ℕ → ℕ → Type 0
 IsSoundBehind ReadsOn r held next = IsOn r held next
-IsSoundBehind (Completes began v) r held next = IsWhole began r next
+IsSoundBehind (Completes began) r held next = IsWhole began r next
 IsSoundBehind (Rejects place k) r held next = place ≤ next
 
 -- ---- from the beginning of a message
@@ -79,9 +91,9 @@ pub record HasRead (r : Reading) (held : List ℕ) : Type 0 where
   pub same : unit_run start_reader (take r.here held) ≡ still_reads (reader_of r held)
 
 -- a message ends with the last unit that was read
-pub record HasCompleted (began : ℕ) (v : List Event) (r : Reading) (held : List ℕ) : Type 0 where
-  pub same : unit_run start_reader held ≡ completed began v (drop r.here held)
-  pub stands : r.frames ≡ reads (before_message before_prolog)
+pub record HasCompleted (began : ℕ) (r : Reading) (held : List ℕ) : Type 0 where
+  pub same : unit_run start_reader held ≡ completed began (value_at r.frames) (drop r.here held)
+  pub stands : IsComplete r.frames
   pub within : r.here ≤ length held
   pub onward : began ≤ r.here
 
@@ -93,7 +105,7 @@ pub record HasRejected (place : ℕ) (k : Kind) (held : List ℕ) : Type 0 where
 -- what reading from the beginning of a message came to
 abbrev pub Came : Outcome → Reading → List ℕ → Type 0
 Came ReadsOn r held = HasRead r held
-Came (Completes began v) r held = HasCompleted began v r held
+Came (Completes began) r held = HasCompleted began r held
 Came (Rejects place k) r held = HasRejected place k held
 
 -- all units were read, and nothing but white space and U+FEFF came since the last message
@@ -109,7 +121,7 @@ pub record IsPaused (r : Reading) (held : List ℕ) : Type 0 where
 -- what reading all that is held came to
 abbrev pub Ended : Outcome → Reading → List ℕ → Type 0
 Ended ReadsOn r held = IsPaused r held
-Ended (Completes began v) r held = HasCompleted began v r held
+Ended (Completes began) r held = HasCompleted began r held
 Ended (Rejects place k) r held = HasRejected place k held
 
 -- what one character, or what is none, came to: reading went on, or it ends so
@@ -125,11 +137,11 @@ RanOn (Some o) old new held = Ended o new held
 -- behind a character that goes on, more was read
 abbrev pub IsOnward : Outcome → Reading → Reading → Type 0
 IsOnward ReadsOn old new = old.here < new.here
-IsOnward (Completes began v) old new = ⊤
+IsOnward (Completes began) old new = ⊤
 IsOnward (Rejects place k) old new = ⊤
 
 -- where the last unit of a character is one too many, only a rejection that the character shows stays
 abbrev pub capped_of : Outcome → Outcome
 capped_of ReadsOn = Rejects message_limit kinds.TooLong
-capped_of (Completes began v) = Rejects message_limit kinds.TooLong
+capped_of (Completes began) = Rejects message_limit kinds.TooLong
 capped_of (Rejects place k) = Rejects place k

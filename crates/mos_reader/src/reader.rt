@@ -189,13 +189,12 @@ impl Reader {
                 }
                 Ok(None)
             }
-            Ok(Outcome::Completes(began, value)) => {
+            Ok(Outcome::Completes(began)) => {
                 let read = self.reading.here;
                 let found = Found {
                     began: self.base + began,
-                    value,
+                    value: self.reading.take_value(),
                 };
-                self.reading.restart();
                 self.from += read;
                 self.base += read;
                 Ok(Some(found))

@@ -1,17 +1,17 @@
 //! Where the reading of a message is.
 ghost use Rattle.std.specs.Prelude.{◌≡◌, ◌≤◌, ◌++◌, ℕ, List, [], cond, length, true, IfOk};
-ghost use Rattle.mos_grammar.specs.Streams.{before_message, before_prolog, message_step};
+ghost use Rattle.mos_grammar.specs.Streams.{message_step};
 ghost use Rattle.mos_grammar.specs.Tokens.{mark};
 ghost use Rattle.mos_lexer.specs.LexMachine.{begin, in_tail, lex_step, whole_token};
 ghost use Rattle.mos_lexer.specs.Units.{at_token, is_outside as is_outside_of, kind_of as kind_of_fault, lexed, rests};
 ghost use Rattle.mos_scanner.specs.Parts.{IsCharacter};
 ghost use Rattle.mos_scanner.specs.ScannerView.{IsSound, IsTextBefore, IsWhole, IsWholeText, kind_token, lex_of, tag_name};
 ghost use Rattle.mos_scanner.specs.declared.scanned.Kind.TheVariants.{OpenTag};
-ghost use Rattle.mos_frames.specs.Standing.{reads};
 ghost use Rattle.mos_frames.specs.Ahead.{stands_in_raw, stands_outside};
-ghost use Rattle.mos_reader.specs.Places.{HasRead, IsAt, IsPlaced, IsSoundBehind, before_mark, before_tag, outcome_of, position_of, reader_of, rests_at};
+ghost use Rattle.mos_reader.specs.Places.{HasRead, IsAt, IsComplete, IsPlaced, IsSoundBehind, before_mark, before_tag, outcome_of, position_of, reader_of, rests_at, value_at};
 
 use crate::outcome::Outcome;
+use mos_events::Events;
 use mos_fields::NoMemory;
 use mos_frames::{FrameFault, Frames, Progress};
 use mos_grammar::Fault;
@@ -74,15 +74,21 @@ impl Reading {
         }
     }
 
-    /// Behind a message that is complete: the next one begins with what is held then.
-    pub fn restart(&mut self)
-        requires { (self.old).frames ≡ reads (before_message before_prolog) }
-        ensures { (held : List ℕ) → HasRead self.new held }
+    /// The value of a message that is complete. The next one begins with what is held then.
+    #[tactic(auto, using(crate::proofs::TokenLemmas::complete_value))]
+    pub fn take_value(&mut self) -> Events
+        requires { IsComplete (self.old).frames }
+        ensures value { result ≡ value_at (self.old).frames }
+        ensures read { (held : List ℕ) → HasRead self.new held }
     {
         self.scanner.begin(0);
         self.start = 0;
         self.opened = 0;
         self.here = 0;
+        match self.frames.take_value() {
+            Some(value) => value,
+            None => unreachable!(),
+        }
     }
 
     /// What was read stays the same where more is held. It does nothing.
@@ -146,9 +152,9 @@ impl Reading {
         match self.frames.take(self.scanner.token(kind, held, next)) {
             Err(FrameFault::NoMemory) => Err(NoMemory),
             Err(FrameFault::Rejected(fault)) => Ok(Outcome::Rejects(self.start, kind_of(fault))),
-            Ok(Progress::Message(value)) => {
+            Ok(Progress::Whole) => {
                 self.here = next;
-                Ok(Outcome::Completes(opened, value))
+                Ok(Outcome::Completes(opened))
             }
             Ok(Progress::More) => {
                 self.rest(held, next, opened);
@@ -169,9 +175,9 @@ impl Reading {
         match self.frames.take(self.scanner.text(held, place)) {
             Err(FrameFault::NoMemory) => Err(NoMemory),
             Err(FrameFault::Rejected(fault)) => Ok(Outcome::Rejects(self.start, kind_of(fault))),
-            Ok(Progress::Message(value)) => {
+            Ok(Progress::Whole) => {
                 self.here = next;
-                Ok(Outcome::Completes(opened, value))
+                Ok(Outcome::Completes(opened))
             }
             Ok(Progress::More) => {
                 self.scanner.begin_tag(held, place, next);
@@ -195,9 +201,9 @@ impl Reading {
         match self.frames.take(Token::Mark) {
             Err(FrameFault::NoMemory) => Err(NoMemory),
             Err(FrameFault::Rejected(fault)) => Ok(Outcome::Rejects(place, kind_of(fault))),
-            Ok(Progress::Message(value)) => {
+            Ok(Progress::Whole) => {
                 self.here = next;
-                Ok(Outcome::Completes(place, value))
+                Ok(Outcome::Completes(place))
             }
             Ok(Progress::More) => {
                 self.rest(held, next, place);
@@ -218,7 +224,7 @@ impl Reading {
         match self.frames.take(self.scanner.text(held, self.here)) {
             Err(FrameFault::NoMemory) => Err(NoMemory),
             Err(FrameFault::Rejected(fault)) => Ok(Outcome::Rejects(self.start, kind_of(fault))),
-            Ok(Progress::Message(_)) => unreachable!(),
+            Ok(Progress::Whole) => unreachable!(),
             Ok(Progress::More) => self.take_mark(held, next),
         }
     }

@@ -37,7 +37,7 @@ fn cap(outcome: Outcome) -> Outcome
 {
     match outcome {
         Outcome::ReadsOn => too_long(),
-        Outcome::Completes(_, _) => too_long(),
+        Outcome::Completes(_) => too_long(),
         Outcome::Rejects(place, kind) => Outcome::Rejects(place, kind),
     }
 }
@@ -152,8 +152,7 @@ impl Reading {
         match character_at(held, self.here) {
             Character::Whole(c, next) => match self.read_character(alloc, held, next, c)? {
                 Outcome::ReadsOn => Ok(None),
-                Outcome::Completes(began, value) => Ok(Some(Outcome::Completes(began, value))),
-                Outcome::Rejects(place, kind) => Ok(Some(Outcome::Rejects(place, kind))),
+                outcome => Ok(Some(outcome)),
             },
             Character::Cut => Ok(Some(self.at_cut(held))),
             Character::Unpaired => Ok(Some(self.at_unpaired(held))),

@@ -67,6 +67,20 @@ four_and_rest (t ∷ u ∷ v ∷ x ∷ us) a m w le first then =
     then ∙ ap (λ ys. m ++ in_bytes ys) (take_rest (t ∷ u ∷ v ∷ x ∷ us) 4) ∙ ap (λ ys. ys ++ in_bytes us) first
     ∙ append_assoc a (unit_bytes t ++ (unit_bytes u ++ (unit_bytes v ++ unit_bytes x))) (in_bytes us)
 
+-- one code unit alone, or two
+pub one_alone : (us a w : List ℕ) → 1 ≤ length us → length us < 2 → w ≡ a ++ unit_bytes (get_or us 0 0) → w ≡ a ++ in_bytes us
+unfolding in_bytes
+one_alone [] a w le lt h = absurd (grind (arith))
+one_alone (u ∷ []) a w le lt h = h ∙ ap (λ ys. a ++ ys) (sym (append-nil (unit_bytes u)))
+one_alone (u ∷ v ∷ us) a w le lt h = absurd (grind (arith))
+
+pub two_alone : (us a w : List ℕ) → 2 ≤ length us → length us < 3 → w ≡ a ++ (unit_bytes (get_or us 0 0) ++ unit_bytes (get_or us 1 0)) → w ≡ a ++ in_bytes us
+unfolding in_bytes
+two_alone [] a w le lt h = absurd (grind (arith))
+two_alone (u ∷ []) a w le lt h = absurd (grind (arith))
+two_alone (u ∷ v ∷ []) a w le lt h = h ∙ ap (λ ys. a ++ (unit_bytes u ++ ys)) (sym (append-nil (unit_bytes v)))
+two_alone (u ∷ v ∷ x ∷ us) a w le lt h = absurd (grind (arith))
+
 pub on_ok_to : {P Q : Type 0} (r : Result (Unit {0}) AllocError) → (P → Q) → OnOk r P → OnOk r Q
 on_ok_to (Ok v) go p = go p
 on_ok_to (Err e) go p = p

@@ -42,20 +42,37 @@ fn push_four_characters(out: &mut Vec<u8>, a: u8, b: u8, c: u8, d: u8) -> Result
     push_four(out, u16::from(a), u16::from(b), u16::from(c), u16::from(d))
 }
 
-/// Appends characters of ASCII.
-pub fn push_ascii(out: &mut Vec<u8>, text: &[u8]) -> Result<(), NoMemory>
+fn push_two_characters(out: &mut Vec<u8>, a: u8, b: u8) -> Result<(), NoMemory>
+    ensures { OnOk result (out.new.items ≡ out.old.items ++ (unit_bytes a ++ unit_bytes b)) }
+{
+    out.extend_from_slice(&[0, a, 0, b])?;
+    Ok(())
+}
+
+fn push_characters(out: &mut Vec<u8>, text: &[u8]) -> Result<(), NoMemory>
     ensures { OnOk result (out.new.items ≡ out.old.items ++ in_bytes text.now) }
 {
     match text {
         [] => Ok(()),
         [a, b, c, d, rest @ ..] => {
             push_four_characters(out, *a, *b, *c, *d)?;
-            push_ascii(out, rest)
+            push_characters(out, rest)
         }
         [a, rest @ ..] => {
             push_character(out, *a)?;
-            push_ascii(out, rest)
+            push_characters(out, rest)
         }
+    }
+}
+
+/// Appends characters of ASCII. One or two, as they begin and end a tag, go the short way.
+pub fn push_ascii(out: &mut Vec<u8>, text: &[u8]) -> Result<(), NoMemory>
+    ensures { OnOk result (out.new.items ≡ out.old.items ++ in_bytes text.now) }
+{
+    match text {
+        [a] => push_character(out, *a),
+        [a, b] => push_two_characters(out, *a, *b),
+        _ => push_characters(out, text),
     }
 }
 

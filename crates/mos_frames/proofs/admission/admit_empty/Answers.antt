@@ -1,4 +1,4 @@
-use Rattle.std.proofs.Common.{sym, subst, ◌∙◌}
+use Rattle.std.proofs.Common.{subst}
 use Rattle.mos_forms.specs.Known.{IsGiven}
 use Rattle.mos_frames.proofs.RoleLemmas.{empty_is}
 use Rattle.mos_frames.proofs.admission.admit_empty.Goals as goal

@@ -1,4 +1,4 @@
-use Rattle.std.proofs.Common.{◌≡◌, List, IfOk, refl, sym, ap, subst, ◌∙◌}
+use Rattle.std.proofs.Common.{IfOk, refl, sym, ap, subst, ◌∙◌}
 use Rattle.mos_tables.specs.Tables.{columns, others}
 use Rattle.mos_grammar.specs.Records.{Role, other_role}
 use Rattle.mos_frames.specs.Roles.{IsRole}

@@ -1,4 +1,4 @@
-use Rattle.std.proofs.Common.{◌+◌, subst, sym, arith}
+use Rattle.std.proofs.Common.{subst, sym, arith}
 use Rattle.mos_reader.specs.Places.{Ended}
 use Rattle.mos_reader.proofs.HeldRuns.{cut_waits, high_too_long}
 use Rattle.mos_reader.proofs.reading.Reading.at_cut.Goals as goal

@@ -1,8 +1,5 @@
-use Rattle.std.proofs.Common.{◌≡◌, Ok, ◌∙◌}
-use Rattle.mos_grammar.specs.Streams.{message_step}
+use Rattle.std.proofs.Common.{◌∙◌}
 use Rattle.mos_lexer.specs.Units.{opened_by}
-use Rattle.mos_frames.specs.Standing.{TakesStep}
-use Rattle.mos_frames.specs.declared.progress.Progress.TheVariants.{More}
 use Rattle.mos_scanner.specs.ScannerView.{kind_token}
 use Rattle.mos_reader.specs.Places.{position_of, reader_of}
 use Rattle.mos_reader.proofs.TokenLemmas.{outside_cond}
