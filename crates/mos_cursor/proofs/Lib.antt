@@ -9,6 +9,7 @@ pub mod Balanced
 pub mod EventLists
 pub mod Taken
 pub mod Names
+pub mod FieldNames
 pub mod Lengths
 pub mod Fill
 pub mod Typed

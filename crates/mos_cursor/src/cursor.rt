@@ -1,5 +1,5 @@
 //! Events that are still to be read.
-ghost use Rattle.std.specs.Prelude.{◌≡◌, List, [], ◌∷◌, ◌++◌, reverse, MatchOption, IfOk, length};
+ghost use Rattle.std.specs.Prelude.{◌≡◌, List, [], ◌∷◌, ◌++◌, reverse, MatchOption, IfOk, length, true};
 ghost use Rattle.std.specs.Option.{option_copied};
 ghost use Rattle.mos_events.specs.EventView.{event_of, events_of, element_text};
 ghost use Rattle.mos_fields.specs.Fields.{name_of, number_of, same, same_field};
@@ -27,13 +27,6 @@ impl Model for Cursor {
     ghost view = { λ a. reverse (events_of a.rest.items) };
 }
 
-/// Whether the field has this name.
-pub(crate) fn is_named(name: ElementName, field: Field) -> bool
-    ensures { result ≡ same (element_text name) (name_of field) }
-{
-    name.name() == field.name()
-}
-
 /// The number of the field.
 fn number(field: Field) -> u8
     ensures { result ≡ number_of field }
@@ -46,6 +39,31 @@ pub(crate) fn is_field(field: Field, other: Field) -> bool
     ensures { result ≡ same_field field other }
 {
     number(field) == number(other)
+}
+
+/// Whether the name is that of the field itself, which tells without a look at texts that they are the same.
+#[tactic(auto, using(crate::proofs::FieldNames::own_name))]
+fn is_own(name: ElementName, field: Field) -> bool
+    ensures { result ≡ true → same (element_text name) (name_of field) ≡ true }
+{
+    match name {
+        ElementName::Field(own) => is_field(own, field),
+        ElementName::Mos | ElementName::Message(_) => false,
+    }
+}
+
+/// Whether both have one text as their names.
+fn have_one_text(name: ElementName, field: Field) -> bool
+    ensures { result ≡ same (element_text name) (name_of field) }
+{
+    name.name() == field.name()
+}
+
+/// Whether the field has this name.
+pub(crate) fn is_named(name: ElementName, field: Field) -> bool
+    ensures { result ≡ same (element_text name) (name_of field) }
+{
+    is_own(name, field) || have_one_text(name, field)
 }
 
 impl Cursor {

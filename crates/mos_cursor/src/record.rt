@@ -1,5 +1,5 @@
 //! The parts of a record.
-ghost use Rattle.std.specs.Prelude.{◌≡◌, List, IfOk, length, true, false};
+ghost use Rattle.std.specs.Prelude.{◌≡◌, List, IfOk, OnOk, length, true, false};
 ghost use Rattle.mos_fields.specs.Characters.{Text};
 ghost use Rattle.mos_fields.specs.Fields.{same_field};
 ghost use Rattle.mos_fields.specs.declared.field.Field.TheVariants.{Metadata as metadata_field};
@@ -62,12 +62,12 @@ fn fill(
     alloc: Global,
     cursor: &mut Cursor,
     columns: &[Column],
-    mut slots: Vec<Slot>,
-) -> Result<Vec<Slot>, NoMemory>
-    ensures { IfOk result (λ v. Filled columns.now cursor.old slots.items v.items cursor.new) }
+    slots: &mut Vec<Slot>,
+) -> Result<(), NoMemory>
+    ensures { OnOk result (Filled columns.now cursor.old slots.old.items slots.new.items cursor.new) }
 {
     match columns {
-        [] => Ok(slots),
+        [] => Ok(()),
         [column, rest @ ..] => {
             let slot = take_slot(alloc, cursor, *column)?;
             slots.push(slot)?;
@@ -97,8 +97,8 @@ pub fn record_slots<const N: usize>(
     ensures fit { IfOk result (λ s. AllFit table (places (columns_of table)) (parts_of s)) }
     ensures events { IfOk result (λ s. cursor ≡ parts_events (places (columns_of table)) (parts_of s)) }
 {
-    let room = Vec::with_capacity(alloc, N)?;
-    let slots = fill(alloc, &mut cursor, table.columns(), room)?;
+    let mut slots = Vec::with_capacity(alloc, N)?;
+    fill(alloc, &mut cursor, table.columns(), &mut slots)?;
     match <[Slot; N]>::try_from(slots) {
         Ok(slots) => Ok(slots),
         Err(_) => unreachable!(),

@@ -10,18 +10,18 @@ use Rattle.mos_cursor.proofs.record.record_slots.Goals as goal
 pub unreachable-requires : goal.unreachable-requires
 unreachable-requires g c =
     let a = c.requires.accepted in
-    let f = filled_here c.args.table _ _ _ _ _ c.columns.ensures c.in_ok-room.ensures.items c.in_ok-slots.ensures in
-    let l = filled_length c.args.table a.0 c.args.cursor c.in_ok-slots.slots.items c.fill.new.cursor c.requires.single a.1 f in
-    c.in-Err.ensures.1 (c.in_ok-slots.slots.ok.0 ∙ l ∙ sym c.requires.size)
+    let f = filled_here c.args.table _ _ _ _ _ c.columns.ensures c.in_ok-slots.ensures.items c.in_ok-fill.ensures in
+    let l = filled_length c.args.table a.0 c.args.cursor c.fill.new.slots.items c.fill.new.cursor c.requires.single a.1 f in
+    c.in-Err.ensures.1 (c.fill.new.slots.ok.0 ∙ l ∙ sym c.requires.size)
 
 pub returns-clause-fit : goal.returns-clause-fit
 returns-clause-fit g c =
     let a = c.requires.accepted in
-    let f = filled_here c.args.table _ _ _ _ _ c.columns.ensures c.in_ok-room.ensures.items c.in_ok-slots.ensures in
-    subst (λ (z : List Slot). AllFit c.args.table (places (columns_of c.args.table)) (parts_of z)) (sym c.in-Ok.ensures.0) (filled_fits c.args.table a.0 c.args.cursor c.in_ok-slots.slots.items c.fill.new.cursor c.requires.single a.1 f)
+    let f = filled_here c.args.table _ _ _ _ _ c.columns.ensures c.in_ok-slots.ensures.items c.in_ok-fill.ensures in
+    subst (λ (z : List Slot). AllFit c.args.table (places (columns_of c.args.table)) (parts_of z)) (sym c.in-Ok.ensures.0) (filled_fits c.args.table a.0 c.args.cursor c.fill.new.slots.items c.fill.new.cursor c.requires.single a.1 f)
 
 pub returns-clause-events : goal.returns-clause-events
 returns-clause-events g c =
     let a = c.requires.accepted in
-    let f = filled_here c.args.table _ _ _ _ _ c.columns.ensures c.in_ok-room.ensures.items c.in_ok-slots.ensures in
-    filled_events c.args.table a.0 c.args.cursor c.in_ok-slots.slots.items c.fill.new.cursor c.requires.single a.1 f ∙ ap (λ (z : List Slot). parts_events (places (columns_of c.args.table)) (parts_of z)) (sym c.in-Ok.ensures.0)
+    let f = filled_here c.args.table _ _ _ _ _ c.columns.ensures c.in_ok-slots.ensures.items c.in_ok-fill.ensures in
+    filled_events c.args.table a.0 c.args.cursor c.fill.new.slots.items c.fill.new.cursor c.requires.single a.1 f ∙ ap (λ (z : List Slot). parts_events (places (columns_of c.args.table)) (parts_of z)) (sym c.in-Ok.ensures.0)
