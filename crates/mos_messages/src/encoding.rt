@@ -54,12 +54,12 @@ fn write_names(out: &mut Vec<u8>, e: &Envelope) -> Result<(), NoMemory>
     Ok(())
 }
 
-fn write_envelope(out: &mut Vec<u8>, e: &Envelope) -> Result<(), NoMemory>
-    ensures { OnOk result (out.new.items ≡ out.old.items ++ encoded (envelope_events e.now)) }
+fn write_envelope(out: &mut Vec<u8>, e: &Envelope, m: &Message) -> Result<(), NoMemory>
+    ensures { OnOk result (out.new.items ≡ out.old.items ++ encoded (envelope_events (record e.now { message = m.now }))) }
 {
     push_start(out, "mos")?;
     write_names(out, e)?;
-    write_message(out, &e.message)?;
+    write_message(out, m)?;
     push_end(out, "mos")?;
     Ok(())
 }
@@ -67,13 +67,21 @@ fn write_envelope(out: &mut Vec<u8>, e: &Envelope) -> Result<(), NoMemory>
 /// Most messages have so many bytes or fewer, which are taken at once.
 const SMALL_MESSAGE: usize = 512;
 
+/// The canonical encoding of an envelope with this message in the place of its own, as an answer to it is written: the names
+/// and the messageID are the envelope's. The only error is that memory runs out.
+#[tactic(auto, unfolding(mos_writer::specs::Encoded::encoded))]
+pub fn encode_with(alloc: Global, e: &Envelope, m: &Message) -> Result<Vec<u8>, NoMemory>
+    ensures { IfOk result (λ v. v.items ≡ bytes_of (units_of (canonical (envelope_events (record e.now { message = m.now }))))) }
+{
+    let mut out = Vec::with_capacity(alloc, SMALL_MESSAGE)?;
+    write_envelope(&mut out, e, m)?;
+    Ok(out)
+}
+
 /// The canonical encoding of an envelope: UTF-16 with the high byte first, no white space between elements, the fields
 /// in the order of their tables, absent ones left out. The only error is that memory runs out.
-#[tactic(auto, unfolding(mos_writer::specs::Encoded::encoded))]
 pub fn encode(alloc: Global, e: &Envelope) -> Result<Vec<u8>, NoMemory>
     ensures { IfOk result (λ v. v.items ≡ bytes_of (units_of (canonical (envelope_events e.now)))) }
 {
-    let mut out = Vec::with_capacity(alloc, SMALL_MESSAGE)?;
-    write_envelope(&mut out, e)?;
-    Ok(out)
+    encode_with(alloc, e, &e.message)
 }

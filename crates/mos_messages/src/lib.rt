@@ -3,4 +3,4 @@
 
 mod encoding;
 
-pub use encoding::encode;
+pub use encoding::{encode, encode_with};
