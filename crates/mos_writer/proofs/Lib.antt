@@ -1,1 +1,2 @@
 pub mod EncodedLemmas
+pub mod TagLemmas
