@@ -168,26 +168,13 @@ decimal_more n h lt = sym (in_bytes-append (decimal (n / 10)) ((48 + n % 10) ∷
 pub decimal_one : (n : ℕ) → n < 10 → in_bytes ((48 + n) ∷ []) ≡ in_bytes (decimal n)
 decimal_one n h = ap in_bytes (sym (decimal_digit n h))
 
-five : (d t c m z : List ℕ) → (((in_bytes d ++ in_bytes t) ++ in_bytes c) ++ in_bytes m) ++ in_bytes z ≡ in_bytes (d ++ (t ++ (c ++ (m ++ z))))
-five d t c m z =
-    let e1 = in_bytes-append d t in
-    let e2 = in_bytes-append (d ++ t) c in
-    let e3 = in_bytes-append ((d ++ t) ++ c) m in
-    let e4 = in_bytes-append (((d ++ t) ++ c) ++ m) z in
-    let whole : (((d ++ t) ++ c) ++ m) ++ z ≡ d ++ (t ++ (c ++ (m ++ z))) = simp append_assoc in
-    let e5 : in_bytes ((((d ++ t) ++ c) ++ m) ++ z) ≡ in_bytes (d ++ (t ++ (c ++ (m ++ z)))) = ap in_bytes whole in
-    cc
-
-regroup : (x c m z : List ℕ) → x ++ ((c ++ m) ++ z) ≡ ((x ++ c) ++ m) ++ z
-regroup x c m z = simp append_assoc
-
--- five parts, one behind the other
-pub five_parts : (a w1 w2 w3 w4 w5 d t c m z : List ℕ) → w1 ≡ a ++ in_bytes d → w2 ≡ w1 ++ in_bytes t → w3 ≡ w2 ++ in_bytes c → w4 ≡ w3 ++ in_bytes m → w5 ≡ w4 ++ in_bytes z
-    → w5 ≡ a ++ in_bytes (d ++ (t ++ (c ++ (m ++ z))))
-five_parts a w1 w2 w3 w4 w5 d t c m z p q r s e =
-    three w2 w3 w4 w5 (in_bytes c) (in_bytes m) (in_bytes z) r s e ∙ ap (λ (ys : List ℕ). ys ++ ((in_bytes c ++ in_bytes m) ++ in_bytes z)) (two a w1 w2 (in_bytes d) (in_bytes t) p q)
-    ∙ append_assoc a (in_bytes d ++ in_bytes t) ((in_bytes c ++ in_bytes m) ++ in_bytes z)
-    ∙ ap (λ (ys : List ℕ). a ++ ys) (regroup (in_bytes d ++ in_bytes t) (in_bytes c) (in_bytes m) (in_bytes z) ∙ five d t c m z)
+-- the front of a time, and what may stand behind it
+pub time_parts : (a w1 w2 w3 d c m z : List ℕ) → w1 ≡ a ++ in_bytes (d ++ 84 ∷ c) → w2 ≡ w1 ++ in_bytes m → w3 ≡ w2 ++ in_bytes z
+    → w3 ≡ a ++ in_bytes (d ++ 84 ∷ (c ++ (m ++ z)))
+time_parts a w1 w2 w3 d c m z p q r =
+    let whole : ((d ++ 84 ∷ c) ++ m) ++ z ≡ d ++ 84 ∷ (c ++ (m ++ z)) = simp append_assoc in
+    three a w1 w2 w3 (in_bytes (d ++ 84 ∷ c)) (in_bytes m) (in_bytes z) p q r
+    ∙ ap (λ (ys : List ℕ). a ++ ys) (ap (λ (ys : List ℕ). ys ++ in_bytes z) (sym (in_bytes-append (d ++ 84 ∷ c) m)) ∙ sym (in_bytes-append ((d ++ 84 ∷ c) ++ m) z) ∙ ap in_bytes whole)
 
 -- an absent field appends nothing
 pub appends_nothing : (a : List ℕ) → a ≡ a ++ encoded []

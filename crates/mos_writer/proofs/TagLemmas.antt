@@ -63,3 +63,9 @@ starts_wide w a us s h = h ∙ ap (λ ys. a ++ ys) (wide_is (60 ∷ (us ++ 62 �
 pub ends_wide : (w a us : List ℕ) → AreSmall us → w ≡ a ++ wide (60 ∷ 47 ∷ (us ++ 62 ∷ [])) → w ≡ a ++ end_bytes us
 unfolding end_bytes in_bytes
 ends_wide w a us s h = h ∙ ap (λ ys. a ++ ys) (wide_is (60 ∷ 47 ∷ (us ++ 62 ∷ [])) (omega (arith), (omega (arith), with_end us s)))
+
+pub written_wide : (w a us : List ℕ) → AreSmall us → w ≡ a ++ wide us → w ≡ a ++ in_bytes us
+written_wide w a us s h = h ∙ ap (λ ys. a ++ ys) (wide_is us s)
+
+pub digit_small : (n : ℕ) → 48 + n % 10 < 2 ^ 8
+digit_small n = omega (arith)

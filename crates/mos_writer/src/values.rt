@@ -1,5 +1,5 @@
 //! The canonical texts of numbers, times and words.
-ghost use Rattle.std.specs.Prelude.{◌≡◌, ◌≤◌, ◌++◌, OnOk};
+ghost use Rattle.std.specs.Prelude.{◌≡◌, ◌≤◌, ◌∷◌, ◌++◌, OnOk};
 ghost use Rattle.std.specs.Fmt.{decimal};
 ghost use Rattle.mos_fields.specs.Values.{air_text, clock_text, day_text, level_text, millis_text, obj_type_text, operation_text, time_text, zone_text};
 ghost use Rattle.mos_values.specs.Views.{ack_status_text, answer_text, device_type_text};
@@ -22,42 +22,59 @@ pub fn push_decimal(out: &mut Vec<u8>, n: u32) -> Result<(), NoMemory>
     Ok(())
 }
 
-fn push_day(out: &mut Vec<u8>, y: u16, m: u8, d: u8) -> Result<(), NoMemory>
-    ensures { OnOk result (out.new.items ≡ out.old.items ++ in_bytes (day_text y m d)) }
+/// Appends date and time of day.
+fn push_day_and_time(
+    out: &mut Vec<u8>,
+    y: u16,
+    m: u8,
+    d: u8,
+    h: u8,
+    min: u8,
+    s: u8,
+) -> Result<(), NoMemory>
+    ensures { OnOk result (out.new.items ≡ out.old.items ++ in_bytes (day_text y m d ++ 84 ∷ clock_text h min s)) }
 {
-    push_ascii(
-        out,
-        &[
-            48 + (y / 1000 % 10) as u8,
-            48 + (y / 100 % 10) as u8,
-            48 + (y / 10 % 10) as u8,
-            48 + (y % 10) as u8,
-            45,
-            48 + m / 10 % 10,
-            48 + m % 10,
-            45,
-            48 + d / 10 % 10,
-            48 + d % 10,
-        ],
-    )
-}
-
-fn push_clock(out: &mut Vec<u8>, h: u8, m: u8, s: u8) -> Result<(), NoMemory>
-    ensures { OnOk result (out.new.items ≡ out.old.items ++ in_bytes (clock_text h m s)) }
-{
-    push_ascii(
-        out,
-        &[
-            48 + h / 10 % 10,
-            48 + h % 10,
-            58,
-            48 + m / 10 % 10,
-            48 + m % 10,
-            58,
-            48 + s / 10 % 10,
-            48 + s % 10,
-        ],
-    )
+    out.extend_from_slice(&[
+        0,
+        48 + (y / 1000 % 10) as u8,
+        0,
+        48 + (y / 100 % 10) as u8,
+        0,
+        48 + (y / 10 % 10) as u8,
+        0,
+        48 + (y % 10) as u8,
+        0,
+        45,
+        0,
+        48 + m / 10 % 10,
+        0,
+        48 + m % 10,
+        0,
+        45,
+        0,
+        48 + d / 10 % 10,
+        0,
+        48 + d % 10,
+        0,
+        84,
+        0,
+        48 + h / 10 % 10,
+        0,
+        48 + h % 10,
+        0,
+        58,
+        0,
+        48 + min / 10 % 10,
+        0,
+        48 + min % 10,
+        0,
+        58,
+        0,
+        48 + s / 10 % 10,
+        0,
+        48 + s % 10,
+    ])?;
+    Ok(())
 }
 
 #[tactic(auto, using(crate::proofs::EncodedLemmas::append_none))]
@@ -114,9 +131,15 @@ fn push_zone(out: &mut Vec<u8>, zone: Zone) -> Result<(), NoMemory>
 pub fn push_time(out: &mut Vec<u8>, time: &MosTime) -> Result<(), NoMemory>
     ensures { OnOk result (out.new.items ≡ out.old.items ++ in_bytes (time_text time.now)) }
 {
-    push_day(out, time.year, time.month, time.day)?;
-    push_ascii(out, b"T")?;
-    push_clock(out, time.hour, time.minute, time.second)?;
+    push_day_and_time(
+        out,
+        time.year,
+        time.month,
+        time.day,
+        time.hour,
+        time.minute,
+        time.second,
+    )?;
     push_millis(out, time.millis)?;
     push_zone(out, time.zone)?;
     Ok(())

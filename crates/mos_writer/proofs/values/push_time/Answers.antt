@@ -1,10 +1,9 @@
-use Rattle.std.proofs.Common.{ℕ, List, ◌++◌, []}
 use Rattle.mos_fields.specs.Values.{day_text, clock_text, millis_text, zone_text}
-use Rattle.mos_writer.proofs.EncodedLemmas.{five_parts}
+use Rattle.mos_writer.proofs.EncodedLemmas.{time_parts}
 use Rattle.mos_writer.proofs.values.push_time.Goals as goal
 
 pub returns : goal.returns
 returns c =
     let t = c.args.time.now in
-    five_parts _ _ _ _ _ _ (day_text t.year t.month t.day) _ (clock_text t.hour t.minute t.second) (millis_text t.millis) (zone_text t.zone)
-    c.in_ok-push_day.ensures c.in_ok-push_ascii.ensures c.in_ok-push_clock.ensures c.in_ok-push_millis.ensures c.in_ok-push_zone.ensures
+    time_parts _ _ _ _ (day_text t.year t.month t.day) (clock_text t.hour t.minute t.second) (millis_text t.millis) (zone_text t.zone)
+    c.in_ok-push_day_and_time.ensures c.in_ok-push_millis.ensures c.in_ok-push_zone.ensures
