@@ -1,7 +1,7 @@
 -- The bytes of code units, part by part.
 use Rattle.std.proofs.Common.{Ok, Err, Bool, true, false, ◌≡◌, ℕ, ◌+◌, ◌*◌, ◌/◌, ◌%◌, ◌^◌, ◌<◌, ◌≤◌, List, [], ◌∷◌, ◌++◌, ◌-◌, length, map, take, drop, get_or, refl, sym, ap, subst, ◌∙◌, append_assoc, arith}
 use Rattle.std.specs.List.{flat_map}
-use Rattle.std.proofs.lemmas.List.{append-nil, take_more, take_rest}
+use Rattle.std.proofs.lemmas.List.{append-nil, take_more, take_rest, drop_more}
 use Rattle.std.proofs.lemmas.List.Concat.{flat_map-append, flat_map-cons}
 use Rattle.std.specs.Prelude.{Result, OnOk}
 use Rattle.std.specs.Fmt.{decimal}
@@ -125,6 +125,35 @@ pub escaped_step : (us : List ℕ) (i : ℕ) (a l w : List ℕ) → i < length u
 escaped_step us i a l w lt before after =
     after ∙ ap (λ (ys : List ℕ). ys ++ in_bytes (escaped_char (get_or us i 0))) before ∙ append_assoc a (in_bytes (escaped (take i us))) (in_bytes (escaped_char (get_or us i 0)))
     ∙ ap (λ (ys : List ℕ). a ++ ys) (sym (ap in_bytes (step_at escaped_char us i 0 lt) ∙ in_bytes-append (escaped (take i us)) (escaped_char (get_or us i 0))))
+
+-- four of a text, and what stands behind them
+one_off : (us : List ℕ) (i j : ℕ) → j ≡ i + 1 → i < length us → drop i us ≡ get_or us i 0 ∷ drop j us
+one_off us i j is lt = drop_more us i 0 lt ∙ ap (λ k. get_or us i 0 ∷ drop k us) (sym is)
+
+four_off : (us : List ℕ) (i : ℕ) → i + 4 ≤ length us → drop i us ≡ get_or us i 0 ∷ get_or us (i + 1) 0 ∷ get_or us (i + 2) 0 ∷ get_or us (i + 3) 0 ∷ drop (i + 4) us
+four_off us i le =
+    one_off us i (i + 1) refl (omega (arith, le))
+    ∙ ap (λ ys. get_or us i 0 ∷ ys) (one_off us (i + 1) (i + 2) (omega (arith)) (omega (arith, le)))
+    ∙ ap (λ ys. get_or us i 0 ∷ get_or us (i + 1) 0 ∷ ys) (one_off us (i + 2) (i + 3) (omega (arith)) (omega (arith, le)))
+    ∙ ap (λ ys. get_or us i 0 ∷ get_or us (i + 1) 0 ∷ get_or us (i + 2) 0 ∷ ys) (one_off us (i + 3) (i + 4) (omega (arith)) (omega (arith, le)))
+
+escaped-append : (xs ys : List ℕ) → in_bytes (escaped (xs ++ ys)) ≡ in_bytes (escaped xs) ++ in_bytes (escaped ys)
+escaped-append xs ys = ap in_bytes (flat_map-append escaped_char xs ys) ∙ in_bytes-append (escaped xs) (escaped ys)
+
+pub four_escaped : (us : List ℕ) (i : ℕ) (l w t : List ℕ) → i + 4 ≤ length us → l ++ in_bytes (escaped (drop i us)) ≡ t
+    → w ≡ l ++ in_bytes (escaped (get_or us i 0 ∷ get_or us (i + 1) 0 ∷ get_or us (i + 2) 0 ∷ get_or us (i + 3) 0 ∷ []))
+    → w ++ in_bytes (escaped (drop (i + 4) us)) ≡ t
+four_escaped us i l w t le before after =
+    let four : List ℕ = get_or us i 0 ∷ get_or us (i + 1) 0 ∷ get_or us (i + 2) 0 ∷ get_or us (i + 3) 0 ∷ [] in
+    ap (λ ys. ys ++ in_bytes (escaped (drop (i + 4) us))) after
+    ∙ append_assoc l (in_bytes (escaped four)) (in_bytes (escaped (drop (i + 4) us)))
+    ∙ ap (λ ys. l ++ ys) (sym (ap (λ ys. in_bytes (escaped ys)) (four_off us i le) ∙ escaped-append four (drop (i + 4) us)))
+    ∙ before
+
+pub four_as_they_are : (r : Result (Unit {0}) AllocError) (l w : List ℕ) (a b c d : ℕ) → escaped (a ∷ b ∷ c ∷ d ∷ []) ≡ a ∷ b ∷ c ∷ d ∷ []
+    → OnOk r (w ≡ l ++ (unit_bytes a ++ (unit_bytes b ++ (unit_bytes c ++ unit_bytes d)))) → OnOk r (w ≡ l ++ in_bytes (escaped (a ∷ b ∷ c ∷ d ∷ [])))
+unfolding in_bytes
+four_as_they_are r l w a b c d e h = on_ok_to r (λ p. p ∙ ap (λ ys. l ++ in_bytes ys) (sym e)) h
 
 -- nothing is appended
 pub append_none : (a : List ℕ) → a ≡ a ++ in_bytes []

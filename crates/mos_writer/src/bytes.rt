@@ -1,5 +1,5 @@
 //! Code units as bytes, the high one first.
-ghost use Rattle.std.specs.Prelude.{◌≡◌, ◌++◌, OnOk};
+ghost use Rattle.std.specs.Prelude.{◌≡◌, ◌≤◌, [], ◌∷◌, ◌++◌, OnOk, IsTrue, drop, length};
 ghost use Rattle.mos_fields.specs.Characters.{unit_bytes};
 ghost use Rattle.mos_fields.specs.Escapes.{escaped, escaped_char};
 ghost use Rattle.mos_writer.specs.Encoded.{in_bytes};
@@ -99,12 +99,61 @@ fn push_escape(out: &mut Vec<u8>, unit: u16) -> Result<(), NoMemory>
     }
 }
 
-/// Appends the code units of a text, the five characters `<` `>` `&` `"` `'` as their named references.
-pub fn push_escaped(out: &mut Vec<u8>, units: &[u16]) -> Result<(), NoMemory>
+/// Whether a code unit is written as itself.
+fn is_plain(unit: u16) -> bool
+    ensures { IsTrue result → escaped_char unit ≡ unit ∷ [] }
+{
+    if unit > 62 {
+        true
+    } else {
+        match unit {
+            34 | 38 | 39 | 60 | 62 => false,
+            _ => true,
+        }
+    }
+}
+
+fn are_plain(a: u16, b: u16, c: u16, d: u16) -> bool
+    ensures { IsTrue result → escaped (a ∷ b ∷ c ∷ d ∷ []) ≡ a ∷ b ∷ c ∷ d ∷ [] }
+{
+    is_plain(a) && is_plain(b) && is_plain(c) && is_plain(d)
+}
+
+fn push_each_escaped(out: &mut Vec<u8>, units: &[u16]) -> Result<(), NoMemory>
     ensures { OnOk result (out.new.items ≡ out.old.items ++ in_bytes (escaped units.now)) }
 {
     for unit in units {
         push_escape(out, *unit)?;
     }
     Ok(())
+}
+
+/// Appends four code units of a text at once where each is written as itself.
+fn push_four_escaped(out: &mut Vec<u8>, a: u16, b: u16, c: u16, d: u16) -> Result<(), NoMemory>
+    ensures { OnOk result (out.new.items ≡ out.old.items ++ in_bytes (escaped (a ∷ b ∷ c ∷ d ∷ []))) }
+{
+    if are_plain(a, b, c, d) {
+        push_four(out, a, b, c, d)
+    } else {
+        push_each_escaped(out, &[a, b, c, d])
+    }
+}
+
+fn behind(units: &[u16], at: usize) -> &[u16]
+    requires { at ≤ length units.now }
+    ensures { result.now ≡ drop at units.now }
+{
+    &units[at..]
+}
+
+/// Appends the code units of a text, the five characters `<` `>` `&` `"` `'` as their named references.
+pub fn push_escaped(out: &mut Vec<u8>, units: &[u16]) -> Result<(), NoMemory>
+    ensures { OnOk result (out.new.items ≡ out.old.items ++ in_bytes (escaped units.now)) }
+{
+    let mut at = 0;
+    'four: while units.len() - at >= 4 {
+        push_four_escaped(out, units[at], units[at + 1], units[at + 2], units[at + 3])?;
+        at += 4;
+    }
+    push_each_escaped(out, behind(units, at))
 }
