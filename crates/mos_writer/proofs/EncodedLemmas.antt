@@ -1,8 +1,8 @@
 -- The bytes of code units, part by part.
-use Rattle.std.proofs.Common.{Ok, Err, Bool, true, false, ◌≡◌, ℕ, ◌+◌, ◌*◌, ◌/◌, ◌%◌, ◌^◌, ◌<◌, ◌≤◌, List, [], ◌∷◌, ◌++◌, ◌-◌, length, map, take, drop, get_or, refl, sym, ap, subst, ◌∙◌, append_assoc, arith}
+use Rattle.std.proofs.Common.{Ok, Err, Bool, true, false, ◌≡◌, ℕ, ◌+◌, ◌/◌, ◌%◌, ◌^◌, ◌<◌, ◌≤◌, List, [], ◌∷◌, ◌++◌, ◌-◌, length, take, drop, get_or, refl, sym, ap, ◌∙◌, append_assoc, arith}
 use Rattle.std.specs.List.{flat_map}
 use Rattle.std.proofs.lemmas.List.{append-nil, take_more, take_rest, drop_more}
-use Rattle.std.proofs.lemmas.List.Concat.{flat_map-append, flat_map-cons}
+use Rattle.std.proofs.lemmas.List.Concat.{flat_map-append}
 use Rattle.std.specs.Prelude.{Result, OnOk}
 use Rattle.std.specs.Fmt.{decimal}
 use Rattle.std.proofs.lemmas.List.{map-append}
@@ -10,8 +10,7 @@ use Rattle.std.specs.declared.alloc.AllocError.{AllocError}
 use Rattle.mos_values.specs.declared.piece.Piece.{Piece}
 use Rattle.mos_values.specs.Pieces.{piece_events, pieces_events}
 use Rattle.std.proofs.lemmas.Fmt.{decimal_digit, decimal_step}
-use Rattle.mos_fields.specs.Values.{level_text, operation_text, day_text, clock_text, millis_text, zone_text, time_text}
-use Rattle.mos_fields.specs.declared.time.MosTime.{MosTime}
+use Rattle.mos_fields.specs.Values.{level_text, operation_text}
 use Rattle.mos_fields.specs.declared.level.Level.{Level}
 use Rattle.mos_fields.specs.declared.level.Level.TheVariants as levels
 use Rattle.mos_fields.specs.declared.operation.Operation.{Operation}

@@ -18,6 +18,3 @@ returns-in-len7 c = ended_with 7 c.push_end_of_seven.result c.push_end_of_seven.
 
 pub returns-in-len8 : goal.returns-in-len8
 returns-in-len8 c = ended_with 8 c.push_end_of_eight.result c.push_end_of_eight.new.out.items c.args.out.now.items c.args.name.now c.in-len8.len_at_least c.in-len8.len_below c.push_end_of_eight.ensures
-
-pub returns-in-len9 : goal.returns-in-len9
-returns-in-len9 c = ended_with 9 c.push_end_of_nine.result c.push_end_of_nine.new.out.items c.args.out.now.items c.args.name.now c.in-len9.len_at_least c.in-len9.len_below c.push_end_of_nine.ensures

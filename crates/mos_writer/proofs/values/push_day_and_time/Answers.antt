@@ -1,4 +1,4 @@
-use Rattle.std.proofs.Common.{ℕ, ◌+◌, ◌/◌, ◌%◌, ◌^◌, ◌<◌, ◌∷◌, ◌++◌, arith}
+use Rattle.std.proofs.Common.{◌/◌, ◌^◌, ◌<◌, ◌∷◌, ◌++◌, arith}
 use Rattle.mos_fields.specs.Values.{day_text, clock_text}
 use Rattle.mos_writer.proofs.TagLemmas.{written_wide, digit_small}
 use Rattle.mos_writer.proofs.values.push_day_and_time.Goals as goal
