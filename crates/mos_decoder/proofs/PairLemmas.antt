@@ -6,7 +6,7 @@ use Rattle.std.proofs.lemmas.List.{take_rest, get_or-set_same, get_or-set_other}
 use Rattle.std.proofs.lemmas.Bool.{cases_eq}
 use Rattle.mos_fields.specs.Characters.{units_in}
 use Rattle.mos_decoder.specs.Inputs.{is_odd}
-use Rattle.mos_decoder.specs.Bytes.{behind_odd, odd_in}
+use Rattle.mos_decoder.specs.Bytes.{AreTurned, behind_odd, odd_in, turned_round}
 
 -- the code units of bytes behind others
 pub units_behind : (before more : List ℕ) → units_in (before ++ more) ≡ units_in before ++ units_in (behind_odd (odd_in before) more)
@@ -122,6 +122,24 @@ units_more bytes us at k v w e f j l = elim (cases_eq j k) [
   | inl i ↦ ap (λ (z : ℕ). get_or (set us k v) z 0) i ∙ (get_or-set_same us k v 0 w ∙ (e ∙ ap (λ (z : ℕ). slice_index bytes (at + 2 * z) * 256 + slice_index bytes (at + 2 * z + 1)) (sym i)))
   | inr i ↦ get_or-set_other us k j v 0 i ∙ f j (omega (arith, l, i))
 ]
+
+-- turned round they are as many
+abbrev pub WereTurned : List ℕ → ℕ → List ℕ → ℕ → Type 0
+WereTurned bytes at us n = (j : ℕ) → j < n → turned_round (get_or us j 0) ≡ slice_index bytes (at + 2 * j) * 256 + slice_index bytes (at + 2 * j + 1)
+
+-- one more is written that has to be turned round
+pub turned_more : (bytes us : List ℕ) (at k v : ℕ) → k < length us → turned_round v ≡ slice_index bytes (at + 2 * k) * 256 + slice_index bytes (at + 2 * k + 1) → WereTurned bytes at us k → WereTurned bytes at (set us k v) (k + 1)
+turned_more bytes us at k v w e f j l = elim (cases_eq j k) [
+  | inl i ↦ ap (λ (z : ℕ). turned_round (get_or (set us k v) z 0)) i ∙ (ap turned_round (get_or-set_same us k v 0 w) ∙ (e ∙ ap (λ (z : ℕ). slice_index bytes (at + 2 * z) * 256 + slice_index bytes (at + 2 * z + 1)) (sym i)))
+  | inr i ↦ ap turned_round (get_or-set_other us k j v 0 i) ∙ f j (omega (arith, l, i))
+]
+
+pub all_turned : (bytes us : List ℕ) (at n : ℕ) → 32 ≤ n → WereTurned bytes at us n → AreTurned bytes at us 0
+all_turned bytes us at n h f j l m = f j (omega (arith, h, m))
+
+-- those behind one that is turned round are as they were
+pub turned_behind : (bytes us : List ℕ) (at k v : ℕ) → AreTurned bytes at us k → AreTurned bytes at (set us k v) (k + 1)
+turned_behind bytes us at k v f j l m = ap turned_round (get_or-set_other us k j v 0 (λ e. omega (arith, e, l))) ∙ f j (omega (arith, l)) m
 
 -- a block of 32 units
 pub block_is : (bytes us : List ℕ) (at : ℕ) → length us ≡ 32 → at + 64 ≤ length bytes → AreUnits bytes at us 32 → us ++ units_in (drop (at + 64) bytes) ≡ units_in (drop at bytes)

@@ -1,5 +1,5 @@
 -- What a decoder of bytes answers.
-use Rattle.std.specs.Prelude.{◌≡◌, ℕ, Bool, true, false, cond, List, [], ◌∷◌, ◌++◌, ◌+◌, length, Option, Some, None, Result, Ok, Err, ⊤}
+use Rattle.std.specs.Prelude.{◌≡◌, ℕ, Bool, true, false, cond, List, [], ◌∷◌, ◌++◌, ◌+◌, ◌*◌, ◌%◌, ◌/◌, ◌<◌, ◌≤◌, length, slice_index, Option, Some, None, Result, Ok, Err, ⊤}
 use Rattle.mos_fields.specs.Characters.{units_in}
 use Rattle.mos_tables.specs.Events.{Event}
 use Rattle.mos_lexer.specs.declared.kind.Kind.TheVariants as kinds
@@ -31,6 +31,14 @@ unfoldable pub odd_in : List ℕ → Option ℕ
 odd_in [] = None
 odd_in (a ∷ []) = Some a
 odd_in (a ∷ b ∷ bs) = odd_in bs
+
+-- a code unit whose bytes are turned round
+abbrev pub turned_round : ℕ → ℕ
+turned_round n = n % 256 * 256 + n / 256
+
+-- from the place k on, up to 32, these turned round are the code units of the bytes from the place `at` on
+abbrev pub AreTurned : List ℕ → ℕ → List ℕ → ℕ → Type 0
+AreTurned bytes at us k = (j : ℕ) → k ≤ j → j < 32 → turned_round (slice_index us j) ≡ slice_index bytes (at + 2 * j) * 256 + slice_index bytes (at + 2 * j + 1)
 
 -- bytes that are fed stand behind those that were fed before
 abbrev pub fed_bytes : ByteStream → List ℕ → ByteStream

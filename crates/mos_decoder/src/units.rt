@@ -1,7 +1,7 @@
 //! Bytes to code units.
-ghost use Rattle.std.specs.Prelude.{◌≡◌, ◌≤◌, ◌+◌, ◌*◌, ◌++◌, [], ◌∷◌, OnOk, IfOk, drop, length};
+ghost use Rattle.std.specs.Prelude.{◌≡◌, ◌≤◌, ◌+◌, ◌*◌, ◌++◌, [], ◌∷◌, OnOk, IfOk, drop, length, slice_index};
 ghost use Rattle.mos_fields.specs.Characters.{units_in};
-ghost use Rattle.mos_decoder.specs.Bytes.{behind_odd, odd_in};
+ghost use Rattle.mos_decoder.specs.Bytes.{AreTurned, behind_odd, odd_in, turned_round};
 
 use mos_fields::NoMemory;
 use std::alloc::Global;
@@ -14,14 +14,50 @@ fn push_unit(high: u8, low: u8, units: &mut Vec<u16>) -> Result<(), NoMemory>
     Ok(())
 }
 
-/// The code units of 64 bytes, in a loop with no branch, of which LLVM makes vectors.
+/// A code unit whose bytes have to be turned round, of the high byte and the low one of that which then comes of it.
+fn turned(high: u8, low: u8) -> u16
+    ensures { turned_round result ≡ high * 256 + low }
+{
+    u16::from(low) * 256 + u16::from(high)
+}
+
+/// The same of two bytes. They are cut out first, so that LLVM reads them at once.
+fn turned_pair(bytes: &[u8], at: usize) -> u16
+    requires { at + 2 ≤ length bytes.now }
+    ensures { turned_round result ≡ slice_index bytes.now at * 256 + slice_index bytes.now (at + 1) }
+{
+    let pair = &bytes[at..at + 2];
+    turned(pair[0], pair[1])
+}
+
+/// 64 bytes as code units whose bytes have to be turned round.
+fn turned_block(bytes: &[u8], at: usize) -> [u16; 32]
+    requires { at + 64 ≤ length bytes.now }
+    ensures length { length result ≡ 32 }
+    ensures turned { AreTurned bytes.now at result 0 }
+{
+    let mut units = [0u16; 32];
+    for k in 0..32usize {
+        units[k] = turned_pair(bytes, at + 2 * k);
+    }
+    units
+}
+
+/// Turns the bytes of a code unit round.
+fn turn(unit: u16) -> u16
+    ensures { result ≡ turned_round unit }
+{
+    unit % 256 * 256 + unit / 256
+}
+
+/// The code units of 64 bytes, in loops with no branch, of which LLVM makes vectors.
 fn block_units(bytes: &[u8], at: usize) -> [u16; 32]
     requires { at + 64 ≤ length bytes.now }
     ensures { result ++ units_in (drop (at + 64) bytes.now) ≡ units_in (drop at bytes.now) }
 {
-    let mut units = [0u16; 32];
+    let mut units = turned_block(bytes, at);
     for k in 0..32usize {
-        units[k] = u16::from(bytes[at + 2 * k]) * 256 + u16::from(bytes[at + 2 * k + 1]);
+        units[k] = turn(units[k]);
     }
     units
 }
