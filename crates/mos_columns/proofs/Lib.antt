@@ -1,3 +1,4 @@
 pub mod CountLaws
 pub mod MessageLaws
 pub mod Lengths
+pub mod PlaceLaws

@@ -1,5 +1,5 @@
 -- How often the fields of columns were seen, and what that shows.
-use Rattle.std.specs.Prelude.{ℕ, Bool, true, false, cond, List, [], ◌∷◌, Option, Some, None, map, drop, nat_lt, ◌&&◌, not, ◌+◌}
+use Rattle.std.specs.Prelude.{ℕ, Bool, true, false, cond, List, [], ◌∷◌, Option, Some, None, map, drop, length, nat_lt, ◌&&◌, not, ◌+◌}
 use Rattle.mos_fields.specs.Characters.{Text}
 use Rattle.mos_fields.specs.Fields.{same_field}
 use Rattle.mos_fields.specs.declared.field.Field.{Field}
@@ -41,6 +41,31 @@ before_by (c ∷ cs) (k ∷ ks) n = cond (is_named c n) None (cond (nat_lt k (le
 -- what a tag shows
 abbrev pub tag_fault_by : List Column → List ℕ → Text → Option Fault
 tag_fault_by cs ks n = or_else (repeated_by cs ks n) (before_by cs ks n)
+
+-- where the column of this name stands, behind all where there is none
+abbrev pub place_of : List Column → Text → ℕ
+place_of [] n = 0
+place_of (c ∷ cs) n = cond (is_named c n) 0 (1 + place_of cs n)
+
+-- where the first required field that was not seen stands, behind all where there is none
+abbrev pub lack_place : List Column → List ℕ → ℕ
+lack_place [] ks = 0
+lack_place (c ∷ cs) [] = length (c ∷ cs)
+lack_place (c ∷ cs) (k ∷ ks) = cond (nat_lt k (least_count c.often)) 0 (1 + lack_place cs ks)
+
+-- the first of these columns: itself, its lack, and what its field shows that is seen again or too late
+abbrev pub head_of : List Column → Option Column
+head_of [] = None
+head_of (c ∷ cs) = Some c
+
+abbrev pub head_lack : List Column → Option Fault
+head_lack [] = None
+head_lack (c ∷ cs) = Some (lack_of c.field)
+
+abbrev pub head_repeated : List Column → List ℕ → Option Fault
+head_repeated [] ks = None
+head_repeated (c ∷ cs) [] = None
+head_repeated (c ∷ cs) (k ∷ ks) = cond (is_single c.often && nat_lt 0 k) (Some (twice c.field)) (cond (any_counted ks) (Some (out_of_order c.field)) None)
 
 -- what a record's end tag shows: of roAck the fields of a group are wanted where one of them was there
 abbrev pub end_fault_by : Table → List ℕ → Option Fault

@@ -1,11 +1,10 @@
 //! What a tag shows by the fields that were seen.
-ghost use Rattle.std.specs.Prelude.{◌≡◌, ◌&&◌, List, cond, drop, nat_lt, MatchOption, Option, Some, None};
+ghost use Rattle.std.specs.Prelude.{◌≡◌, ◌≤◌, ◌&&◌, List, cond, drop, length, nat_lt, take, MatchOption, Some, None};
 ghost use Rattle.mos_fields.specs.declared.field.Field.{Field as FieldOf};
 ghost use Rattle.mos_tables.specs.Tables.{columns as columns_of, ack_columns as ack_columns_of};
 ghost use Rattle.mos_grammar.specs.Records.{column_of, is_named as is_named_of, field_fault, wanted, lacking as lacking_of, lack_of, least_count as least_count_of, is_single as is_single_of, or_else};
-ghost use Rattle.mos_grammar.specs.declared.fault.Fault.{Fault as FaultOf};
 ghost use Rattle.mos_grammar.specs.declared.fault.Fault.TheVariants.{Twice as twice, Order as out_of_order};
-ghost use Rattle.mos_columns.specs.Counts.{counts_of, any_counted as any_counted_of, lacking_by, repeated_by, before_by, end_fault_by};
+ghost use Rattle.mos_columns.specs.Counts.{counts_of, any_counted as any_counted_of, head_lack as head_lack_of, head_of, head_repeated, lack_place, lacking_by, place_of, tag_fault_by, end_fault_by};
 
 use crate::names::is_name;
 use mos_fields::{Field, Form};
@@ -21,33 +20,20 @@ fn is_named(column: &Column, name: &[u16]) -> bool
     }
 }
 
-/// The column of an element with this name, if the table has one.
-fn find_column(columns: &[Column], name: &[u16]) -> Option<Column>
-    ensures { result ≡ column_of columns.now name.now }
+/// Where the column of an element with this name stands; behind all columns where the table has none.
+fn find_place(columns: &[Column], name: &[u16]) -> usize
+    ensures within { result ≤ length columns.now }
+    ensures place { result ≡ place_of columns.now name.now }
 {
     match columns {
-        [] => None,
+        [] => 0,
         [c, cs @ ..] => {
             if is_named(c, name) {
-                Some(*c)
+                0
             } else {
-                find_column(cs, name)
+                1 + find_place(cs, name)
             }
         }
-    }
-}
-
-/// The same, where no field of these columns was counted: what lacked before is all that a tag shows.
-fn find_uncounted(
-    columns: &[Column],
-    name: &[u16],
-    lacked: Option<Fault>,
-) -> Option<(Column, Option<Fault>)>
-    ensures { MatchOption result (column_of columns.now name.now ≡ None) (λ r. (column_of columns.now name.now ≡ Some r.0) × (r.1 ≡ lacked)) }
-{
-    match find_column(columns, name) {
-        None => None,
-        Some(column) => Some((column, lacked)),
     }
 }
 
@@ -79,22 +65,50 @@ fn lacks(column: &Column, count: usize) -> bool
     }
 }
 
-fn lacking(columns: &[Column], counts: &[usize]) -> Option<Fault>
-    ensures { result ≡ lacking_by columns.now counts.now }
+/// Where the first required field that lacks stands; behind all columns where none lacks.
+fn find_lack(columns: &[Column], counts: &[usize]) -> usize
+    ensures within { result ≤ length columns.now }
+    ensures place { result ≡ lack_place columns.now counts.now }
 {
     match columns {
-        [] => None,
+        [] => 0,
         [c, cs @ ..] => match counts {
-            [] => None,
+            [] => columns.len(),
             [k, ks @ ..] => {
                 if lacks(c, *k) {
-                    Some(lack(c.field))
+                    0
                 } else {
-                    lacking(cs, ks)
+                    1 + find_lack(cs, ks)
                 }
             }
         },
     }
+}
+
+/// What stands behind so many columns.
+fn columns_behind(columns: &[Column], at: usize) -> &[Column]
+    requires { at ≤ length columns.now }
+    ensures { result.now ≡ drop at columns.now }
+{
+    &columns[at..]
+}
+
+/// The lack of the first of these columns, if there is one.
+fn head_lack(columns: &[Column]) -> Option<Fault>
+    ensures { result ≡ head_lack_of columns.now }
+{
+    match columns {
+        [] => None,
+        [c, ..] => Some(lack(c.field)),
+    }
+}
+
+/// The first required field that lacks.
+#[tactic(auto, using(crate::proofs::PlaceLaws::lack_is))]
+fn lacking(columns: &[Column], counts: &[usize]) -> Option<Fault>
+    ensures { result ≡ lacking_by columns.now counts.now }
+{
+    head_lack(columns_behind(columns, find_lack(columns, counts)))
 }
 
 fn is_single(often: Often) -> bool
@@ -106,64 +120,88 @@ fn is_single(often: Often) -> bool
     }
 }
 
-/// The first required field that lacks, where one may have lacked before this column.
-fn first_lack(lacked: Option<Fault>, column: &Column, count: usize) -> Option<Fault>
-    ensures { (rest : Option FaultOf) → or_else result rest ≡ or_else lacked (cond (nat_lt count (least_count_of (column.now).often)) (Some (lack_of (column.now).field)) rest) }
-{
-    match lacked {
-        Some(fault) => Some(fault),
-        None => {
-            if lacks(column, count) {
-                Some(lack(column.field))
-            } else {
-                None
-            }
-        }
-    }
-}
-
-/// What a field of this column shows that is seen again or too late; else what lacked before it.
-fn fault_here(
-    column: &Column,
-    count: usize,
-    later: &[usize],
-    lacked: Option<Fault>,
-) -> Option<Fault>
-    ensures { result ≡ or_else (cond (is_single_of (column.now).often && nat_lt 0 count) (Some (twice (column.now).field)) (cond (any_counted_of later.now) (Some (out_of_order (column.now).field)) None)) lacked }
+/// What a field of this column shows that is seen again or too late.
+fn repeated_here(column: &Column, count: usize, later: &[usize]) -> Option<Fault>
+    ensures { result ≡ cond (is_single_of (column.now).often && nat_lt 0 count) (Some (twice (column.now).field)) (cond (any_counted_of later.now) (Some (out_of_order (column.now).field)) None) }
 {
     if is_single(column.often) && count > 0 {
         Some(Fault::Twice(column.field))
     } else if any_counted(later) {
         Some(Fault::Order(column.field))
     } else {
-        lacked
+        None
     }
 }
 
-/// The column of an element with this name, if the table has one, and what its tag shows, where a required field may have
-/// lacked before these columns.
-#[tactic(auto, using(crate::proofs::CountLaws::or_none))]
-fn find_from(
-    columns: &[Column],
-    counts: &[usize],
-    name: &[u16],
-    lacked: Option<Fault>,
-) -> Option<(Column, Option<Fault>)>
-    ensures { MatchOption result (column_of columns.now name.now ≡ None) (λ r. (column_of columns.now name.now ≡ Some r.0) × (r.1 ≡ or_else (repeated_by columns.now counts.now name.now) (or_else lacked (before_by columns.now counts.now name.now)))) }
+/// What a field of the first of these columns shows that is seen again or too late.
+fn repeated(columns: &[Column], counts: &[usize]) -> Option<Fault>
+    ensures { result ≡ head_repeated columns.now counts.now }
 {
     match columns {
         [] => None,
-        [c, cs @ ..] => match counts {
-            [] => find_uncounted(columns, name, lacked),
-            [k, ks @ ..] => {
-                if is_named(c, name) {
-                    Some((*c, fault_here(c, *k, ks, lacked)))
-                } else {
-                    find_from(cs, ks, name, first_lack(lacked, c, *k))
-                }
-            }
+        [c, ..] => match counts {
+            [] => None,
+            [k, ks @ ..] => repeated_here(c, *k, ks),
         },
     }
+}
+
+/// What stands behind so many counts, nothing where there are fewer.
+#[tactic(auto, using(crate::proofs::PlaceLaws::nothing_behind))]
+fn counts_behind(counts: &[usize], at: usize) -> &[usize]
+    ensures { result.now ≡ drop at counts.now }
+{
+    if at <= counts.len() {
+        &counts[at..]
+    } else {
+        &counts[counts.len()..]
+    }
+}
+
+/// The columns in front of a place.
+fn columns_before(columns: &[Column], at: usize) -> &[Column]
+    requires { at ≤ length columns.now }
+    ensures { result.now ≡ take at columns.now }
+{
+    &columns[..at]
+}
+
+/// What a field of the column at a place shows: that it is seen again or too late, or what lacks before it.
+fn fault_at(columns: &[Column], counts: &[usize], at: usize) -> Option<Fault>
+    requires { at ≤ length columns.now }
+    ensures { result ≡ or_else (head_repeated (drop at columns.now) (drop at counts.now)) (lacking_by (take at columns.now) counts.now) }
+{
+    match repeated(columns_behind(columns, at), counts_behind(counts, at)) {
+        Some(fault) => Some(fault),
+        None => lacking(columns_before(columns, at), counts),
+    }
+}
+
+fn head(columns: &[Column]) -> Option<Column>
+    ensures { result ≡ head_of columns.now }
+{
+    match columns {
+        [] => None,
+        [c, ..] => Some(*c),
+    }
+}
+
+/// The column at a place, if one stands there, and what its tag shows.
+fn shown_at(columns: &[Column], counts: &[usize], at: usize) -> Option<(Column, Option<Fault>)>
+    requires { at ≤ length columns.now }
+    ensures { MatchOption result (head_of (drop at columns.now) ≡ None) (λ r. (head_of (drop at columns.now) ≡ Some r.0) × (r.1 ≡ or_else (head_repeated (drop at columns.now) (drop at counts.now)) (lacking_by (take at columns.now) counts.now))) }
+{
+    match head(columns_behind(columns, at)) {
+        None => None,
+        Some(column) => Some((column, fault_at(columns, counts, at))),
+    }
+}
+
+/// The column of an element with this name, if the table has one, and what its tag shows.
+fn find_shown(columns: &[Column], counts: &[usize], name: &[u16]) -> Option<(Column, Option<Fault>)>
+    ensures { MatchOption result (column_of columns.now name.now ≡ None) (λ r. (column_of columns.now name.now ≡ Some r.0) × (r.1 ≡ tag_fault_by columns.now counts.now name.now)) }
+{
+    shown_at(columns, counts, find_place(columns, name))
 }
 
 /// The column of an element with this name, if the table has one, and what its tag shows behind the fields seen, which the
@@ -175,7 +213,7 @@ pub fn find_tag(
 ) -> Option<(Column, Option<Fault>)>
     ensures { (seen : List FieldOf) → counts.now ≡ counts_of columns.now seen → MatchOption result (column_of columns.now name.now ≡ None) (λ r. (column_of columns.now name.now ≡ Some r.0) × (r.1 ≡ field_fault columns.now seen name.now)) }
 {
-    find_from(columns, counts, name, None)
+    find_shown(columns, counts, name)
 }
 
 fn has_group(counts: &[usize]) -> bool

@@ -8,4 +8,4 @@ pub returns : goal.returns
 returns c seen e =
     let cs = c.args.columns.now in
     let n = c.args.name.now in
-    subst (λ k. MatchOption c.find_from.result (column_of cs n ≡ None) (λ r. (column_of cs n ≡ Some r.0) × (r.1 ≡ k))) (tag_fault_is cs c.args.counts.now n seen e) c.find_from.ensures
+    subst (λ k. MatchOption c.find_shown.result (column_of cs n ≡ None) (λ r. (column_of cs n ≡ Some r.0) × (r.1 ≡ k))) (tag_fault_is cs c.args.counts.now n seen e) c.find_shown.ensures

@@ -1,5 +1,0 @@
-use Rattle.std.proofs.Common.{length}
-use Rattle.mos_columns.proofs.counts.+find_column.Given as goal
-
-abbrev pub decreases-find_column : goal.decreases-find_column
-decreases-find_column l = length l.columns.now
