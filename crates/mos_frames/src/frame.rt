@@ -83,7 +83,7 @@ impl Frame {
             place,
             attribute,
             counts: start_counts(alloc, table.columns())?,
-            before: Vec::new(alloc),
+            before: Vec::with_capacity(alloc, table.columns().len())?,
             key_set: KeySet::new(alloc),
         })
     }

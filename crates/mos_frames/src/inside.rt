@@ -91,12 +91,23 @@ impl Inside {
         })
     }
 
+    /// Between the elements of the innermost record, where it mostly is already, since a whole child was taken out of the
+    /// mode.
+    fn stand_between(&mut self)
+        ensures { state_of self.new ≡ state_with between_of self.old }
+    {
+        match self.mode {
+            Mode::Between => {}
+            _ => self.mode = Mode::Between,
+        }
+    }
+
     /// A child of the innermost record is whole.
     fn add_child(&mut self, alloc: Global, field: Field, part: Part) -> Result<Progress, FrameFault>
         ensures { Stepped result (state_of self.new) (Ok (with_child (frame_in self.old.inner (reverse self.old.outer.items)) (frames_in (reverse self.old.outer.items)) (field, part_events part))) }
     {
         self.inner.add(field, part)?;
-        self.mode = Mode::Between;
+        self.stand_between();
         Ok(Progress::More)
     }
 
@@ -114,7 +125,7 @@ impl Inside {
         let inner = Frame::open(alloc, table, name, field, attribute)?;
         let around = replace(&mut self.inner, inner);
         self.outer.push(around)?;
-        self.mode = Mode::Between;
+        self.stand_between();
         Ok(Progress::More)
     }
 
@@ -242,7 +253,7 @@ impl Inside {
     {
         let _ = resolved;
         if is_white(raw) {
-            self.mode = Mode::Between;
+            self.stand_between();
             Ok(Progress::More)
         } else {
             misplaced()
