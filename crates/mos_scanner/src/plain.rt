@@ -22,39 +22,47 @@ pub fn is_plain(u: u16, p: u16, q: u16) -> bool
     !is_special(u, p, q, q)
 }
 
-/// None of the 16 units from `from` on is special: a sum with no branch, of which LLVM makes vectors.
+/// None of the 8 units from `from` on is special: a test with no branch, of which LLVM makes vectors.
 #[inline(always)]
 fn is_plain_block(s: &[u16], from: usize, p: u16, q: u16, r: u16) -> bool
-    requires { from + 16 ≤ length s.now }
-    ensures { result ≡ true → (k : ℕ) → from ≤ k → k < from + 16 → is_plain_but p q r (slice_index s.now k) ≡ true }
+    requires { from + 8 ≤ length s.now }
+    ensures { result ≡ true → (k : ℕ) → from ≤ k → k < from + 8 → is_plain_but p q r (slice_index s.now k) ≡ true }
 {
-    let mut hits = 0u16;
-    for k in from..from + 16 {
-        hits += u16::from(is_special(s[k], p, q, r));
+    let mut hit = false;
+    for k in from..from + 8 {
+        hit |= is_special(s[k], p, q, r);
     }
-    hits == 0
+    !hit
 }
 
-/// The end of a run of units from `from` on none of which is special. Short runs are most of them, and end before a block
-/// is looked at.
-pub fn plain_end(s: &[u16], from: usize, p: u16, q: u16, r: u16) -> usize
+/// Where so many units from `from` on end, or what is held.
+#[inline(always)]
+fn end_within(s: &[u16], from: usize, most: usize) -> usize
+    requires { from ≤ length s.now }
+    ensures within { result ≤ length s.now }
+    ensures onward { from ≤ result }
+    ensures few { result ≤ from + most }
+{
+    if s.len() - from <= most {
+        s.len()
+    } else {
+        from + most
+    }
+}
+
+/// The end of a run of units from `from` on none of which is special, looked at in blocks.
+fn long_end(s: &[u16], from: usize, p: u16, q: u16, r: u16) -> usize
     requires { from ≤ length s.now }
     ensures within { result ≤ length s.now }
     ensures onward { from ≤ result }
     ensures plain { (k : ℕ) → from ≤ k → k < result → is_plain_but p q r (slice_index s.now k) ≡ true }
 {
     let mut n = from;
-    while n < s.len() && n - from < SHORT_RUN {
-        if is_special(s[n], p, q, r) {
-            return n;
-        }
-        n += 1;
-    }
-    while s.len() - n >= 16 {
+    while s.len() - n >= 8 {
         if !is_plain_block(s, n, p, q, r) {
             break;
         }
-        n += 16;
+        n += 8;
     }
     while n < s.len() {
         if is_special(s[n], p, q, r) {
@@ -65,7 +73,46 @@ pub fn plain_end(s: &[u16], from: usize, p: u16, q: u16, r: u16) -> usize
     n
 }
 
-/// The end of a run of units from `from` on that names go on with, at most so many.
+/// The end of a run of units from `from` on none of which is special. Short runs are most of them, and end before a block
+/// is looked at.
+#[inline(always)]
+pub fn plain_end(s: &[u16], from: usize, p: u16, q: u16, r: u16) -> usize
+    requires { from ≤ length s.now }
+    ensures within { result ≤ length s.now }
+    ensures onward { from ≤ result }
+    ensures plain { (k : ℕ) → from ≤ k → k < result → is_plain_but p q r (slice_index s.now k) ≡ true }
+{
+    let end = end_within(s, from, SHORT_RUN);
+    let mut n = from;
+    while n < end {
+        if is_special(s[n], p, q, r) {
+            return n;
+        }
+        n += 1;
+    }
+    long_end(s, n, p, q, r)
+}
+
+/// The end of a run of letters from `from` on, before `end`.
+#[inline(always)]
+fn letters_end(s: &[u16], from: usize, end: usize) -> usize
+    requires within { end ≤ length s.now }
+    requires onward { from ≤ end }
+    ensures within { result ≤ end }
+    ensures onward { from ≤ result }
+    ensures named { (k : ℕ) → from ≤ k → k < result → is_further_of (slice_index s.now k) ≡ true }
+{
+    let mut n = from;
+    while n < end {
+        if !is_letter(s[n]) {
+            break;
+        }
+        n += 1;
+    }
+    n
+}
+
+/// The end of a run of units from `from` on that names go on with, at most so many. Letters are most of them.
 pub fn name_end(s: &[u16], from: usize, most: usize) -> usize
     requires { from ≤ length s.now }
     ensures within { result ≤ length s.now }
@@ -73,14 +120,23 @@ pub fn name_end(s: &[u16], from: usize, most: usize) -> usize
     ensures few { result ≤ from + most }
     ensures named { (k : ℕ) → from ≤ k → k < result → is_further_of (slice_index s.now k) ≡ true }
 {
-    let mut n = from;
-    while n < s.len() {
-        if n - from == most || !is_further_unit(s[n]) {
+    let end = end_within(s, from, most);
+    let mut n = letters_end(s, from, end);
+    while n < end {
+        if !is_further_unit(s[n]) {
             break;
         }
-        n += 1;
+        n = letters_end(s, n + 1, end);
     }
     n
+}
+
+/// A letter of ASCII.
+#[inline(always)]
+fn is_letter(u: u16) -> bool
+    ensures { result ≡ true → is_further_of u ≡ true }
+{
+    u >= 97 && u <= 122 || u >= 65 && u <= 90
 }
 
 /// What a name goes on with.
