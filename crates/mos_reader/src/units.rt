@@ -43,8 +43,9 @@ fn cap(outcome: Outcome) -> Outcome
 }
 
 impl Reading {
-    /// Reads a character that ends within the limit.
-    fn read_within(
+    /// Reads a character that ends within the limit, or of which the last unit is one too many: any other fault that such
+    /// a one shows comes first.
+    fn read_capped(
         &mut self,
         alloc: Global,
         held: &[u16],
@@ -53,30 +54,16 @@ impl Reading {
     ) -> Result<Outcome, NoMemory>
         requires read { HasRead self.old held.now }
         requires character { IsCharacter held.now (self.old).here next c }
-        requires short { next ≤ message_limit }
+        requires close { next ≤ message_limit + 1 }
         ensures came { IfOk result (λ o. Came o self.new held.now) }
         ensures onward { IfOk result (λ o. IsOnward o self.old self.new) }
     {
         let outcome = self.take_character(alloc, held, next, c)?;
-        Ok(outcome)
-    }
-
-    /// Reads a character of which the last unit is one too many: any other fault that it shows comes first.
-    fn read_over(
-        &mut self,
-        alloc: Global,
-        held: &[u16],
-        next: usize,
-        c: char,
-    ) -> Result<Outcome, NoMemory>
-        requires read { HasRead self.old held.now }
-        requires character { IsCharacter held.now (self.old).here next c }
-        requires over { next ≡ message_limit + 1 }
-        ensures came { IfOk result (λ o. Came o self.new held.now) }
-        ensures onward { IfOk result (λ o. IsOnward o self.old self.new) }
-    {
-        let outcome = self.take_character(alloc, held, next, c)?;
-        Ok(cap(outcome))
+        if next <= MESSAGE_LIMIT {
+            Ok(outcome)
+        } else {
+            Ok(cap(outcome))
+        }
     }
 
     /// Reads the character `c`, whose units are held from where reading is up to `next`.
@@ -92,10 +79,8 @@ impl Reading {
         ensures came { IfOk result (λ o. Came o self.new held.now) }
         ensures onward { IfOk result (λ o. IsOnward o self.old self.new) }
     {
-        if next <= MESSAGE_LIMIT {
-            self.read_within(alloc, held, next, c)
-        } else if next == MESSAGE_LIMIT + 1 {
-            self.read_over(alloc, held, next, c)
+        if next <= MESSAGE_LIMIT + 1 {
+            self.read_capped(alloc, held, next, c)
         } else {
             Ok(too_long())
         }

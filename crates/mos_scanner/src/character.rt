@@ -1,5 +1,5 @@
 //! Which character stands at a place.
-ghost use Rattle.std.specs.Prelude.{◌≡◌, ◌<◌, ◌+◌, length, slice_index, true};
+ghost use Rattle.std.specs.Prelude.{◌≡◌, ◌<◌, ◌+◌, length, slice_index, false, true};
 ghost use Rattle.mos_fields.specs.Characters.{is_high as is_high_of, is_low as is_low_of};
 ghost use Rattle.mos_scanner.specs.Character.{IsAtPlace};
 
@@ -34,8 +34,49 @@ fn is_low(unit: u16) -> bool
     unit >= 0xDC00 && unit <= 0xDFFF
 }
 
+/// A unit that is an allowed character by itself: U+0020 to U+D7FF. Most are.
+#[inline(always)]
+fn is_lone(unit: u16) -> bool
+    ensures { result ≡ true → (is_high_of unit ≡ false) × (is_low_of unit ≡ false) }
+{
+    unit >= 0x20 && unit <= 0xD7FF
+}
+
 /// What stands at a place.
+#[inline(always)]
 pub fn character_at(held: &[u16], here: usize) -> Character
+    requires { here < length held.now }
+    ensures { IsAtPlace result held.now here }
+{
+    if is_lone(held[here]) {
+        single_at(held, here)
+    } else {
+        other_at(held, here)
+    }
+}
+
+/// What a unit is that is no unit of a pair.
+#[inline(always)]
+fn single_at(held: &[u16], here: usize) -> Character
+    requires within { here < length held.now }
+    requires not_high { is_high_of (slice_index held.now here) ≡ false }
+    requires not_low { is_low_of (slice_index held.now here) ≡ false }
+    ensures { IsAtPlace result held.now here }
+{
+    match char::from_u32(u32::from(held[here])) {
+        None => Character::Forbidden,
+        Some(c) => {
+            if is_allowed(c) {
+                Character::Whole(c, here + 1)
+            } else {
+                Character::Forbidden
+            }
+        }
+    }
+}
+
+/// What stands at a place, whatever its unit is.
+fn other_at(held: &[u16], here: usize) -> Character
     requires { here < length held.now }
     ensures { IsAtPlace result held.now here }
 {
@@ -49,16 +90,7 @@ pub fn character_at(held: &[u16], here: usize) -> Character
             pair_at(held, here)
         }
     } else {
-        match char::from_u32(u32::from(unit)) {
-            None => Character::Forbidden,
-            Some(c) => {
-                if is_allowed(c) {
-                    Character::Whole(c, here + 1)
-                } else {
-                    Character::Forbidden
-                }
-            }
-        }
+        single_at(held, here)
     }
 }
 

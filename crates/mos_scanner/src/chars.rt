@@ -38,13 +38,15 @@ pub fn is_further(c: char) -> bool
     is_start(c) || c >= '0' && c <= ':' || c == '-' || c == '.'
 }
 
-/// A name of so many characters, all of them ASCII, may go on with this character.
+/// A name of so many characters, all of them ASCII, may go on with this character. `>` ends most of them.
 #[inline(always)]
 #[tactic(auto, unfolding(mos_fields::specs::Names::may_grow))]
 pub fn may_grow(length_so_far: usize, c: char) -> bool
     ensures { (n : List ℕ) → length n ≡ length_so_far → result ≡ may_grow_of n c }
 {
-    if length_so_far == 0 {
+    if c == '>' {
+        false
+    } else if length_so_far == 0 {
         is_start(c)
     } else {
         is_further(c) && length_so_far < 128
