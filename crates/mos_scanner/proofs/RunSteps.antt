@@ -103,13 +103,13 @@ name_part_run held a here next n on w e l = let h = n.onward in
 short : (held : List ℕ) (a here next n : ℕ) → here ≤ length held → next ≤ length held → n ≡ here - a → next ≤ here + (128 - n) → length (part held here next) ≤ 128 - length (part held a here)
 short held a here next n v w e f = let x = length-part held here next w in let y = length-part held a here v in omega (arith, x, y, e, f)
 
-pub start_skips : (s : Scanner) (held : List ℕ) (here next room : ℕ) → s.mode ≡ StartName → IsSoundAt s.mode s held here → here ≤ next → next ≤ length held
-    → room ≡ 128 - (here - s.start - 1) → next ≤ here + room → ((k : ℕ) → here ≤ k → k < next → is_further (get_or held k 0) ≡ true) → IsRun s s held here next
-start_skips s held here next room is sound on w r f p =
+pub start_skips : (s : Scanner) (held : List ℕ) (here next last : ℕ) → s.mode ≡ StartName → IsSoundAt s.mode s held here → here ≤ next → next ≤ length held
+    → last ≡ s.start + 1 + 128 → next ≤ here + (last - here) → ((k : ℕ) → here ≤ k → k < next → is_further (get_or held k 0) ≡ true) → IsRun s s held here next
+start_skips s held here next last is sound on w r f p =
     let d : IsSoundAt StartName s held here = subst (λ m. IsSoundAt m s held here) is sound in
     let a = all_part is_further held here next on w p in
     let l = names_lone (part held here next) a in
-    let few = short held (s.start + 1) here next (here - s.start - 1) d.name.within w (omega arith) (omega (arith, r, f)) in
+    let few = short held (s.start + 1) here next (here - s.start - 1) d.name.within w (omega arith) (let o = d.name.onward in omega (arith, r, f, o)) in
     let more = name_part_run held (s.start + 1) here next d.name on w a few in
     let grown = part_split held (s.start + 1) here next d.name.onward on in
     run_by StartName s s held here next is is on w l
@@ -121,13 +121,13 @@ start_skips s held here next room is sound on w r f p =
       none = d.none;
     })
 
-pub end_skips : (s : Scanner) (held : List ℕ) (here next room : ℕ) → s.mode ≡ EndName → IsSoundAt s.mode s held here → here ≤ next → next ≤ length held → 2 < here - s.start
-    → room ≡ 128 - (here - s.start - 2) → next ≤ here + room → ((k : ℕ) → here ≤ k → k < next → is_further (get_or held k 0) ≡ true) → IsRun s s held here next
-end_skips s held here next room is sound on w some r f p =
+pub end_skips : (s : Scanner) (held : List ℕ) (here next last : ℕ) → s.mode ≡ EndName → IsSoundAt s.mode s held here → here ≤ next → next ≤ length held → 2 < here - s.start
+    → last ≡ s.start + 2 + 128 → next ≤ here + (last - here) → ((k : ℕ) → here ≤ k → k < next → is_further (get_or held k 0) ≡ true) → IsRun s s held here next
+end_skips s held here next last is sound on w some r f p =
     let d : IsSoundAt EndName s held here = subst (λ m. IsSoundAt m s held here) is sound in
     let a = all_part is_further held here next on w p in
     let l = names_lone (part held here next) a in
-    let few = short held (s.start + 2) here next (here - s.start - 2) d.within w (omega arith) (omega (arith, r, f)) in
+    let few = short held (s.start + 2) here next (here - s.start - 2) d.within w (omega arith) (let o = d.onward in omega (arith, r, f, o)) in
     let name : IsNameIn held (s.start + 2) here = record { name = d.name (omega (arith, some)); onward = d.onward; within = d.within } in
     let more = name_part_run held (s.start + 2) here next name on w a few in
     let grown = part_split held (s.start + 2) here next d.onward on in

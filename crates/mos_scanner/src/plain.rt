@@ -1,5 +1,5 @@
 //! Runs of code units that stand for themselves.
-ghost use Rattle.std.specs.Prelude.{◌≡◌, ◌≤◌, ◌<◌, ◌+◌, ◌&&◌, not, ℕ, length, slice_index, true};
+ghost use Rattle.std.specs.Prelude.{◌≡◌, ◌≤◌, ◌<◌, ◌+◌, ◌-◌, ◌&&◌, not, ℕ, length, slice_index, true};
 ghost use Rattle.mos_fields.specs.Names.{is_further as is_further_of};
 ghost use Rattle.mos_scanner.specs.Runs.{is_plain_but};
 
@@ -50,13 +50,16 @@ fn end_within(s: &[u16], from: usize, most: usize) -> usize
     }
 }
 
-/// The end of a run of units from `from` on none of which is special, looked at in blocks.
-fn long_end(s: &[u16], from: usize, p: u16, q: u16, r: u16) -> usize
+/// The end of a run of units from `from` on none of which is special, looked at in blocks where the first unit is none.
+pub fn long_end(s: &[u16], from: usize, p: u16, q: u16, r: u16) -> usize
     requires { from ≤ length s.now }
     ensures within { result ≤ length s.now }
     ensures onward { from ≤ result }
     ensures plain { (k : ℕ) → from ≤ k → k < result → is_plain_but p q r (slice_index s.now k) ≡ true }
 {
+    if from < s.len() && is_special(s[from], p, q, r) {
+        return from;
+    }
     let mut n = from;
     while s.len() - n >= 8 {
         if !is_plain_block(s, n, p, q, r) {
@@ -93,13 +96,23 @@ pub fn plain_end(s: &[u16], from: usize, p: u16, q: u16, r: u16) -> usize
     long_end(s, n, p, q, r)
 }
 
+/// That place, or the end of the units.
+#[inline(always)]
+fn place_within(s: &[u16], place: usize) -> usize
+    ensures within { result ≤ length s.now }
+    ensures before { result ≤ place }
+{
+    if s.len() <= place { s.len() } else { place }
+}
+
 /// The end of a run of letters from `from` on, before `end`.
 #[inline(always)]
 fn letters_end(s: &[u16], from: usize, end: usize) -> usize
-    requires within { end ≤ length s.now }
-    requires onward { from ≤ end }
-    ensures within { result ≤ end }
+    requires from { from ≤ length s.now }
+    requires end { end ≤ length s.now }
+    ensures within { result ≤ length s.now }
     ensures onward { from ≤ result }
+    ensures before { result ≤ from + (end - from) }
     ensures named { (k : ℕ) → from ≤ k → k < result → is_further_of (slice_index s.now k) ≡ true }
 {
     let mut n = from;
@@ -112,15 +125,15 @@ fn letters_end(s: &[u16], from: usize, end: usize) -> usize
     n
 }
 
-/// The end of a run of units from `from` on that names go on with, at most so many. Letters are most of them.
-pub fn name_end(s: &[u16], from: usize, most: usize) -> usize
+/// The end of a run of units from `from` on that names go on with, before `last`. Letters are most of them.
+pub fn name_end(s: &[u16], from: usize, last: usize) -> usize
     requires { from ≤ length s.now }
     ensures within { result ≤ length s.now }
     ensures onward { from ≤ result }
-    ensures few { result ≤ from + most }
+    ensures before { result ≤ from + (last - from) }
     ensures named { (k : ℕ) → from ≤ k → k < result → is_further_of (slice_index s.now k) ≡ true }
 {
-    let end = end_within(s, from, most);
+    let end = place_within(s, last);
     let mut n = letters_end(s, from, end);
     while n < end {
         if !is_further_unit(s[n]) {

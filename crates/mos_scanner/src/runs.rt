@@ -1,11 +1,11 @@
 //! Reading runs of characters at once.
-ghost use Rattle.std.specs.Prelude.{◌≡◌, ◌≤◌, ◌-◌, length, IfOk, true};
+ghost use Rattle.std.specs.Prelude.{◌≡◌, ◌≤◌, ◌+◌, length, IfOk, true};
 ghost use Rattle.mos_fields.specs.Raw.{is_quote as is_quote_of};
 ghost use Rattle.mos_scanner.specs.Runs.{IsRun};
 ghost use Rattle.mos_scanner.specs.ScannerView.{IsSound, IsSoundAt};
 
 use crate::mode::Mode;
-use crate::plain::{name_end, plain_end};
+use crate::plain::{long_end, name_end, plain_end};
 use crate::scanner::Scanner;
 use mos_fields::NoMemory;
 
@@ -34,16 +34,16 @@ impl Scanner {
                 self.grow_resolved(held, here, next)?;
                 Ok(next)
             }
-            Mode::InTail => Ok(plain_end(held, here, 62, 62, 62)),
+            Mode::InTail => Ok(long_end(held, here, 62, 62, 62)),
             Mode::InValue => {
                 let next = plain_end(held, here, quote_unit(self.quote), 38, 60);
                 self.grow_resolved(held, here, next)?;
                 Ok(next)
             }
-            Mode::StartName => Ok(name_end(held, here, name_room(here - self.start - 1))),
+            Mode::StartName => Ok(name_end(held, here, name_limit(held, self.start + 1))),
             Mode::EndName => {
                 if here - self.start > 2 {
-                    Ok(name_end(held, here, name_room(here - self.start - 2)))
+                    Ok(name_end(held, here, name_limit(held, self.start + 2)))
                 } else {
                     Ok(here)
                 }
@@ -67,10 +67,11 @@ impl Scanner {
     }
 }
 
-/// How many characters may follow so many of a name.
+/// Where a name ends at the latest that begins at this place.
 #[inline(always)]
-fn name_room(length_so_far: usize) -> usize
-    ensures { result ≡ 128 - length_so_far }
+fn name_limit(held: &[u16], begin: usize) -> usize
+    requires { begin ≤ length held.now }
+    ensures { result ≡ begin + 128 }
 {
-    NAME_LIMIT.saturating_sub(length_so_far)
+    begin + NAME_LIMIT
 }

@@ -7,7 +7,7 @@ returns-in_ok-grow_resolved-in-InText c =
     c.in_ok-grow_resolved-in-InText.ensures.same c.in_ok-grow_resolved-in-InText.ensures.grown
 
 pub returns-in-InTail : goal.returns-in-InTail
-returns-in-InTail c = tail_skips c.args.self.now c.args.held.now c.args.here c.plain_end.result c.in-InTail.is c.requires.sound c.plain_end.ensures.onward c.plain_end.ensures.within c.plain_end.ensures.plain
+returns-in-InTail c = tail_skips c.args.self.now c.args.held.now c.args.here c.long_end.result c.in-InTail.is c.requires.sound c.long_end.ensures.onward c.long_end.ensures.within c.long_end.ensures.plain
 
 pub returns-in_ok-grow_resolved-in-InValue : goal.returns-in_ok-grow_resolved-in-InValue
 returns-in_ok-grow_resolved-in-InValue c =
@@ -16,9 +16,9 @@ returns-in_ok-grow_resolved-in-InValue c =
     c.in_ok-grow_resolved-in-InValue.ensures.same c.in_ok-grow_resolved-in-InValue.ensures.grown
 
 pub returns-in-StartName : goal.returns-in-StartName
-returns-in-StartName c = start_skips c.args.self.now c.args.held.now c.args.here c.name_end.result c.name_room.result c.in-StartName.is c.requires.sound c.name_end.ensures.onward c.name_end.ensures.within c.name_room.ensures c.name_end.ensures.few c.name_end.ensures.named
+returns-in-StartName c = start_skips c.args.self.now c.args.held.now c.args.here c.name_end.result c.name_limit.result c.in-StartName.is c.requires.sound c.name_end.ensures.onward c.name_end.ensures.within c.name_limit.ensures c.name_end.ensures.before c.name_end.ensures.named
 
 pub returns-then-here-self-gt2 : goal.returns-then-here-self-gt2
 returns-then-here-self-gt2 c =
-    end_skips c.args.self.now c.args.held.now c.args.here c.name_end-then-here-self-gt2.result c.name_room-then-here-self-gt2.result c.in-EndName.is c.requires.sound c.name_end-then-here-self-gt2.ensures.onward c.name_end-then-here-self-gt2.ensures.within
-    c.if-here-self-gt2.true c.name_room-then-here-self-gt2.ensures c.name_end-then-here-self-gt2.ensures.few c.name_end-then-here-self-gt2.ensures.named
+    end_skips c.args.self.now c.args.held.now c.args.here c.name_end-then-here-self-gt2.result c.name_limit-then-here-self-gt2.result c.in-EndName.is c.requires.sound c.name_end-then-here-self-gt2.ensures.onward c.name_end-then-here-self-gt2.ensures.within
+    c.if-here-self-gt2.true c.name_limit-then-here-self-gt2.ensures c.name_end-then-here-self-gt2.ensures.before c.name_end-then-here-self-gt2.ensures.named
