@@ -1,11 +1,10 @@
 -- The first characters of a token, read at once.
 use Rattle.std.proofs.Common.{◌≡◌, ℕ, ◌+◌, ◌-◌, ◌<◌, ◌≤◌, Bool, true, false, List, [], ◌∷◌, ◌++◌, length, take, drop, get_or, refl, sym, ap, ◌∙◌, subst, arith, add-one, drop-cons, eq-eqb, ne_eqb}
-use Rattle.std.specs.Prelude.{Option, Some, None, Result, Ok, Err, IfOk, ◌==◌, ◌&&◌}
+use Rattle.std.specs.Prelude.{Option, Some, None, Result, Ok, Err, IfOk, ◌==◌}
 use Rattle.std.specs.List.{list_all}
 use Rattle.std.proofs.lemmas.Bool.{and_from, and_right}
 use Rattle.std.proofs.lemmas.Bool.Decides.{nat_tests}
 use Rattle.std.proofs.lemmas.List.Folds.{list_all-append}
-use Rattle.mos_fields.specs.Characters.{chars_of}
 use Rattle.mos_fields.specs.Names.{is_start, may_grow}
 use Rattle.mos_lexer.specs.Lexing.{byte_order_mark}
 use Rattle.mos_lexer.specs.LexMachine.{LexState, LexStep, start_name, continues, whole_token, text_before, text_before_mark, no_token, no_reference, lex_step}

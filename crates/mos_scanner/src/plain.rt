@@ -152,10 +152,14 @@ fn is_letter(u: u16) -> bool
     u >= 97 && u <= 122 || u >= 65 && u <= 90
 }
 
-/// What a name goes on with.
+/// What a name goes on with. `>` ends most names.
 #[inline(always)]
 fn is_further_unit(u: u16) -> bool
     ensures { result ≡ is_further_of u }
 {
-    u >= 97 && u <= 122 || u >= 65 && u <= 90 || u == 95 || u >= 48 && u <= 58 || u == 45 || u == 46
+    if u == 62 {
+        false
+    } else {
+        u >= 97 && u <= 122 || u >= 65 && u <= 90 || u == 95 || u >= 48 && u <= 58 || u == 45 || u == 46
+    }
 }

@@ -1,4 +1,4 @@
-use Rattle.std.proofs.Common.{◌≡◌, ℕ, ◌<◌, ◌≤◌, ◌-◌, true, length, get_or}
+use Rattle.std.proofs.Common.{◌≡◌, ℕ, ◌<◌, ◌≤◌, ◌-◌, true, get_or}
 use Rattle.mos_scanner.specs.Runs.{is_plain_but}
 use Rattle.mos_scanner.proofs.plain.plain_end.Given as goal
 

@@ -1,4 +1,4 @@
-use Rattle.std.proofs.Common.{sym, ◌∙◌, arith, eq-eqb}
+use Rattle.std.proofs.Common.{sym, ◌∙◌, arith}
 use Rattle.mos_scanner.proofs.StartRuns.{end_name_begins}
 use Rattle.mos_scanner.proofs.scanner.Scanner.skip_end_start.Goals as goal
 
