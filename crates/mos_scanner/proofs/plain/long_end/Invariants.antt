@@ -13,4 +13,3 @@ invariant-loop-n-2 l = (l.n ≤ length l.s) × (l.from ≤ l.n) × ((k : ℕ) �
 
 abbrev pub decreases-loop-n-2 : goal.decreases-loop-n-2
 decreases-loop-n-2 l = length l.s - l.n
-

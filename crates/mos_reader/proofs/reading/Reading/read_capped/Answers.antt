@@ -1,5 +1,4 @@
-use Rattle.std.proofs.Common.{◌≡◌, ◌+◌, subst, sym, arith}
-use Rattle.mos_lexer.specs.Units.{message_limit}
+use Rattle.std.proofs.Common.{subst, sym, arith}
 use Rattle.mos_reader.specs.Places.{Came}
 use Rattle.mos_reader.proofs.HeldRuns.{came_within, came_over}
 use Rattle.mos_reader.proofs.reading.Reading.read_capped.Goals as goal
