@@ -7,6 +7,7 @@ ghost use Rattle.mos_forms.specs.Canonical.{is_id as is_id_of, is_kept, reads_be
 use crate::chars::{is_word, shortest_digits, trimmed};
 use crate::numbers::{is_rev, is_samples, is_time};
 use mos_fields::{FieldFault, Form, NoMemory, Text};
+use mos_times::plain_time;
 use std::alloc::{AllocError, Global};
 
 fn only_if(holds: bool, text: Text) -> Option<Text>
@@ -193,6 +194,18 @@ fn read_trimmed(alloc: Global, form: Form, text: Text) -> Result<Option<Text>, N
     text_of_option(alloc, canonical(form, &chars), text, &chars)
 }
 
+/// What a time is written as. A plain one, which is what most systems send, is kept as it is and needs no memory.
+#[tactic(auto, using(mos_times::proofs::TextLemmas::plain_kept))]
+fn read_time(alloc: Global, text: Text) -> Result<Option<Text>, NoMemory>
+    ensures { IfOk result (λ o. o ≡ reads Form.Time [] text) }
+{
+    if plain_time(&text).is_some() {
+        Ok(Some(text))
+    } else {
+        read_trimmed(alloc, Form::Time, text)
+    }
+}
+
 /// What a text of this form is written as, where it is known whether a record beside this one has it as its key, which
 /// matters to keys alone: nothing where the text isn't of the form. White space round numbers, times and words and
 /// leading zeros of numbers are dropped; every other text is kept as it is. The only error is that memory runs out.
@@ -213,7 +226,7 @@ pub fn read_form(
         Form::Text => Ok(Some(text)),
         Form::Samples => read_trimmed(alloc, Form::Samples, text),
         Form::Rev => read_trimmed(alloc, Form::Rev, text),
-        Form::Time => read_trimmed(alloc, Form::Time, text),
+        Form::Time => read_time(alloc, text),
         Form::Air => read_trimmed(alloc, Form::Air, text),
         Form::ObjType => read_trimmed(alloc, Form::ObjType, text),
         Form::AckWord => read_trimmed(alloc, Form::AckWord, text),

@@ -1,0 +1,5 @@
+use Rattle.mos_times.proofs.PatternLemmas.{clock_pattern}
+use Rattle.mos_times.proofs.form.has_clock.Goals as goal
+
+pub returns : goal.returns
+returns c = rw (c.are_two.ensures, c.are_two-2.ensures, c.are_two-3.ensures) (clock_pattern c.args.units.now c.requires)
