@@ -14,6 +14,7 @@ ghost use Rattle.mos_cursor.specs.Slots.{part_of};
 
 use crate::slot::Slot;
 use mos_fields::{Air, MosTime, NoMemory, ObjType, Rev, Samples, Text, Unread};
+use mos_times::plain_time;
 use mos_values::{Sequence, Unreads};
 use std::alloc::Global;
 
@@ -53,16 +54,27 @@ fn rev_of(alloc: Global, text: Text) -> Result<Rev, NoMemory>
     }
 }
 
-/// The time of a canonical text.
+/// The time of a canonical text, in any of the forms of times.
 #[tactic(auto, using(crate::proofs::Typed::time_fine, crate::proofs::Typed::time_trimmed))]
+fn time_of_any_form(alloc: Global, text: &Text) -> Result<MosTime, NoMemory>
+    requires { reads forms.Time [] text.now ≡ Some text.now }
+    ensures { IfOk result (λ t. time_text t ≡ text.now) }
+{
+    let chars = chars_of(alloc, text)?;
+    match MosTime::try_new(&chars) {
+        Ok(time) => Ok(time),
+        Err(_) => unreachable!(),
+    }
+}
+
+/// The time of a canonical text. A plain one, which is what most systems send, needs no memory.
 fn time_of(alloc: Global, text: Text) -> Result<MosTime, NoMemory>
     requires { reads forms.Time [] text ≡ Some text }
     ensures { IfOk result (λ t. time_text t ≡ text) }
 {
-    let chars = chars_of(alloc, &text)?;
-    match MosTime::try_new(&chars) {
-        Ok(time) => Ok(time),
-        Err(_) => unreachable!(),
+    match plain_time(&text) {
+        Some(time) => Ok(time),
+        None => time_of_any_form(alloc, &text),
     }
 }
 
