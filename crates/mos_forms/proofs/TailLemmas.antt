@@ -1,5 +1,5 @@
 -- Where the rest of a raw element ends, in characters and in code units.
-use Rattle.std.proofs.Common.{◌≡◌, ℕ, ◌+◌, ◌<◌, Bool, true, false, cond, ◌&&◌, eqb, length, get_or, take, drop, List, [], ◌∷◌, ◌++◌, refl, sym, ap, ◌∙◌, subst, arith, append_assoc, eq-eqb, ne_eqb, length-drop}
+use Rattle.std.proofs.Common.{◌≡◌, ℕ, ◌+◌, ◌-◌, ◌<◌, ◌≤◌, zero, suc, Bool, true, false, cond, ◌&&◌, eqb, length, get_or, take, drop, List, [], ◌∷◌, ◌++◌, refl, sym, ap, ◌∙◌, subst, arith, append_assoc, eq-eqb, ne_eqb, length-drop}
 use Rattle.std.specs.Prelude.{◌==◌}
 use Rattle.std.specs.List.{list_all}
 use Rattle.std.proofs.lemmas.Bool.{and_parts, and_from, lt-ltb}
@@ -193,3 +193,17 @@ goes_on n us i h e = rest_at n us i h ∙ ap (λ b. cond b (is_empty (drop (i + 
 
 pub no_mark_at : (n us : Text) (i : ℕ) → i < length us → (get_or us i 0 ≡ 62 → ⊥) → ends_with (end_text n) (take (i + 1) us) ≡ false
 no_mark_at n us i h d = end_without_mark n (take (i + 1) us) (λ a e. d (last_is (take i us) a (get_or us i 0) 62 (sym (take_more us i 0 h) ∙ e)))
+
+-- ---- units none of which is `>`
+
+skipped : (n us : Text) (i m : ℕ) → i + m ≤ length us → ((k : ℕ) → i ≤ k → k < i + m → get_or us k 0 ≡ 62 → ⊥) → tail_units n (take i us) (drop i us) ≡ tail_units n (take (i + m) us) (drop (i + m) us)
+skipped n us i zero h d = ap (λ j. tail_units n (take j us) (drop j us)) (omega arith)
+skipped n us i (suc m) h d =
+    goes_on n us i (omega (arith, h)) (no_mark_at n us i (omega (arith, h)) (d i (omega arith) (omega arith)))
+    ∙ (skipped n us (i + 1) m (omega (arith, h)) (λ k a b. d k (omega (arith, a)) (omega (arith, b)))
+    ∙ ap (λ j. tail_units n (take j us) (drop j us)) (omega arith))
+
+pub marks_skipped : (n us : Text) (i j : ℕ) → i ≤ j → j ≤ length us → ((k : ℕ) → i ≤ k → k < j → get_or us k 0 ≡ 62 → ⊥) → tail_units n (take i us) (drop i us) ≡ tail_units n (take j us) (drop j us)
+marks_skipped n us i j a b d =
+    skipped n us i (j - i) (omega (arith, a, b)) (λ k c e. d k c (omega (arith, a, e)))
+    ∙ ap (λ m. tail_units n (take m us) (drop m us)) (omega (arith, a))

@@ -1,5 +1,5 @@
 //! The rest of a raw element behind its start tag.
-ghost use Rattle.std.specs.Prelude.{◌≡◌, ◌≢◌, ◌++◌, ◌+◌, ◌<◌, ◌≤◌, ℕ, List, IfOk, true, MatchOption, take, length, []};
+ghost use Rattle.std.specs.Prelude.{◌≡◌, ◌≢◌, ◌++◌, ◌+◌, ◌<◌, ◌≤◌, ℕ, List, IfOk, true, MatchOption, take, drop, slice_index, length, []};
 ghost use Rattle.mos_fields.specs.Characters.{IsUtf16, chars_of};
 ghost use Rattle.mos_fields.specs.Names.{is_name};
 ghost use Rattle.mos_fields.specs.Raw.{end_text, ends_with, is_tail as is_tail_of};
@@ -38,25 +38,69 @@ fn front(text: &[u16], end: usize) -> &[u16]
     &text[..end]
 }
 
-/// Whether the end tag of this name ends with the unit at this place. Few units are a `>`, so that is looked at first.
+/// None of the 8 units from `from` on is a `>`: a test with no branch, of which LLVM makes vectors.
+fn has_no_mark(text: &[u16], from: usize) -> bool
+    requires { from + 8 ≤ length text.now }
+    ensures { result ≡ true → (k : ℕ) → from ≤ k → k < from + 8 → slice_index text.now k ≢ 62 }
+{
+    let mut found = false;
+    for k in from..from + 8 {
+        found |= text[k] == 62;
+    }
+    !found
+}
+
+/// Where the first `>` from `from` on stands, or the end of the text. An end tag ends with one, and few units are.
+fn next_mark(text: &[u16], from: usize) -> usize
+    requires { from ≤ length text.now }
+    ensures within { result ≤ length text.now }
+    ensures onward { from ≤ result }
+    ensures none { (k : ℕ) → from ≤ k → k < result → slice_index text.now k ≢ 62 }
+{
+    let mut n = from;
+    while text.len() - n >= 8 {
+        if !has_no_mark(text, n) {
+            break;
+        }
+        n += 8;
+    }
+    while n < text.len() {
+        if text[n] == 62 {
+            break;
+        }
+        n += 1;
+    }
+    n
+}
+
+/// Whether the end tag of this name ends with the unit at this place.
 fn ends_at(name: &[u16], text: &[u16], place: usize) -> bool
     requires { place < length text.now }
     ensures { result ≡ ends_with (end_text name.now) (take (place + 1) text.now) }
 {
-    if text[place] == 62 {
-        ends_with_end_tag(name, front(text, place + 1))
-    } else {
-        false
-    }
+    ends_with_end_tag(name, front(text, place + 1))
+}
+
+/// Reads on to the next `>`, and no end tag ends before it.
+#[tactic(auto, using(crate::proofs::TailLemmas::marks_skipped))]
+fn skip_to_mark(name: &[u16], text: &[u16], from: usize) -> usize
+    requires { from ≤ length text.now }
+    ensures within { result ≤ length text.now }
+    ensures onward { from ≤ result }
+    ensures same { tail_units name.now (take from text.now) (drop from text.now) ≡ tail_units name.now (take result text.now) (drop result text.now) }
+{
+    next_mark(text, from)
 }
 
 fn is_tail_by_units(name: &[u16], text: &[u16]) -> bool
     ensures { result ≡ tail_units name.now [] text.now }
 {
-    for end in 0..text.len() {
+    let mut end = skip_to_mark(name, text, 0);
+    while end < text.len() {
         if ends_at(name, text, end) {
             return end + 1 == text.len();
         }
+        end = skip_to_mark(name, text, end + 1);
     }
     false
 }
