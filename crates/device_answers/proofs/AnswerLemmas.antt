@@ -1,5 +1,5 @@
 -- The answers to messages, one more.
-use Rattle.std.proofs.Common.{◌≡◌, ℕ, List, [], ◌∷◌, ◌++◌, Option, Some, Result, Ok, Err, IfOk, refl, sym, ap, ◌∙◌, subst}
+use Rattle.std.proofs.Common.{◌≡◌, ℕ, List, [], ◌∷◌, ◌++◌, Result, Ok, Err, IfOk, refl, sym, ap, ◌∙◌}
 use Rattle.std.specs.List.{flat_map}
 use Rattle.std.proofs.lemmas.Grind.{flat_map-append}
 use Rattle.std.proofs.lemmas.List.{append-nil}
@@ -10,7 +10,7 @@ use Rattle.mos_machines.specs.Device.{GateState, Decks, gate_read}
 use Rattle.mos_machines.specs.Messages.{Message}
 use Rattle.mos_machines.specs.Messages.Message.{Heartbeat, RoEdit, RoAck, RoReq, RoReqAll, RoList, RoListAll, RoElementStat, OtherMessage}
 use Rattle.mos_message_reading.specs.Values.{IsNamed}
-use Rattle.device_answers.specs.Taking.{no_decks, opening, device_after, answer_to, device_behind, answers, encoding, take_output, AreMessages, IsAnswered}
+use Rattle.device_answers.specs.Taking.{opening, device_after, answer_to, device_behind, answers, encoding, take_output, AreMessages, IsAnswered}
 
 answers_more : (g : GateState) (es : List Envelope) (e : Envelope) → answers g (es ++ e ∷ []) ≡ answers g es ++ answer_to (device_behind g es) e ∷ []
 answers_more g [] e = refl

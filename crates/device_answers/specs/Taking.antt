@@ -1,5 +1,5 @@
 -- What a device answers to the messages of a stream.
-use Rattle.std.specs.Prelude.{◌≡◌, ℕ, false, List, [], ◌∷◌, ◌++◌}
+use Rattle.std.specs.Prelude.{◌≡◌, ℕ, false, List, [], ◌∷◌}
 use Rattle.std.specs.List.{flat_map}
 use Rattle.mos_fields.specs.Characters.{bytes_of, units_of}
 use Rattle.mos_tables.specs.Canonical.{canonical}

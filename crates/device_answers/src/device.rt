@@ -1,11 +1,11 @@
 //! A device that answers.
-ghost use Rattle.std.specs.Prelude.{◌≡◌, [], IfOk, OnOk};
+ghost use Rattle.std.specs.Prelude.{◌≡◌, ◌≢◌, [], IfOk};
+ghost use Rattle.machine_answers.specs.declared.answers.Heard.TheVariants as Answer;
 ghost use Rattle.mos_machines.specs.Device.{gate_read};
 ghost use Rattle.mos_machines.specs.Tables.{gate_of};
 ghost use Rattle.mos_machines.specs.Values.{seen, message_of};
-ghost use Rattle.mos_values.specs.declared.message.Envelope.{Envelope as Enveloped};
 ghost use Rattle.mos_values.specs.declared.message.Message.{Message as Carried};
-ghost use Rattle.device_answers.specs.Taking.{IsAnswered, answer_to, device_after, encoding, no_decks};
+ghost use Rattle.device_answers.specs.Taking.{IsAnswered, answer_to, device_after, encoding, no_decks, with_message};
 
 use crate::wide::wide;
 use gateway_core::{DeckState, Gate};
@@ -13,12 +13,11 @@ use machine_answers::Heard;
 use mos_fields::NoMemory;
 use mos_lexer::Kind;
 use mos_message_reading::{envelope_of, read_message};
-use mos_messages::encode;
+use mos_messages::encode_with;
 use mos_reader::Found;
 use mos_values::{Envelope, Message};
 use std::alloc::Global;
 use std::marker::Model;
-use std::mem::replace;
 use stream_commands::{Teller, refused_line};
 
 /// The connection that the device accepted.
@@ -51,6 +50,17 @@ impl Model for Device {
 // Lets a value go. What is let go here is dropped by a function of its type, and not variant by variant on each path.
 fn let_go<T: Drop>(_value: T) {}
 
+/// The encoding of an answer, with the names and the messageID of the message's envelope.
+fn encode_heard(alloc: Global, envelope: &Envelope, heard: &Heard) -> Result<Vec<u8>, NoMemory>
+    requires { heard.now ≢ Answer.Stale }
+    ensures { (m : Carried) → heard.now ≡ Answer.Say m → IfOk result (λ bytes. bytes.items ≡ encoding (with_message envelope.now m)) }
+{
+    match heard {
+        Heard::Say(answer) => encode_with(alloc, envelope, answer),
+        Heard::Stale => unreachable!(),
+    }
+}
+
 impl Device {
     /// A device to which nothing was sent yet. It takes no memory; what it keeps grows in this allocator.
     pub fn new(alloc: Global) -> Self
@@ -62,36 +72,23 @@ impl Device {
     }
 
     /// Reads a message, and says what answers it.
-    fn read(&mut self, message: &Message) -> Result<Message, NoMemory>
-        ensures { IfOk result (λ a. (a ≡ message_of (gate_read (gate_of self.old) no_decks (seen message.now)).1) × (gate_of self.new ≡ (gate_read (gate_of self.old) no_decks (seen message.now)).0)) }
+    fn hear(&mut self, message: &Message) -> Result<Heard, NoMemory>
+        ensures { IfOk result (λ h. (h ≡ Answer.Say (message_of (gate_read (gate_of self.old) no_decks (seen message.now)).1)) × (gate_of self.new ≡ (gate_read (gate_of self.old) no_decks (seen message.now)).0)) }
     {
         match self.gate.read_upper(LINK, message, NO_DECKS) {
-            Ok(Heard::Say(answer)) => Ok(answer),
-            Ok(Heard::Stale) => unreachable!(),
+            Ok(heard) => Ok(heard),
             Err(_) => Err(NoMemory),
         }
     }
 
-    /// Puts the answer in the place of a message: the names and the messageID stay.
-    fn answer(&mut self, envelope: &mut Envelope) -> Result<(), NoMemory>
-        ensures answered { OnOk result (envelope.new ≡ answer_to (gate_of self.old) envelope.old) }
-        ensures device { OnOk result (gate_of self.new ≡ device_after (gate_of self.old) envelope.old) }
+    /// The encoding of the answer to a message, with the names and the messageID of its envelope.
+    fn answer_encoded(&mut self, alloc: Global, envelope: &Envelope) -> Result<Vec<u8>, NoMemory>
+        ensures { IfOk result (λ bytes. (bytes.items ≡ encoding (answer_to (gate_of self.old) envelope.now)) × (gate_of self.new ≡ device_after (gate_of self.old) envelope.now)) }
     {
-        let answer = self.read(&envelope.message)?;
-        let_go(replace(&mut envelope.message, answer));
-        Ok(())
-    }
-
-    /// The encoding of the answer to a message, which it takes the place of.
-    fn answer_encoded(
-        &mut self,
-        alloc: Global,
-        envelope: &mut Envelope,
-    ) -> Result<Vec<u8>, NoMemory>
-        ensures { IfOk result (λ bytes. (bytes.items ≡ encoding (answer_to (gate_of self.old) envelope.old)) × (gate_of self.new ≡ device_after (gate_of self.old) envelope.old)) }
-    {
-        self.answer(envelope)?;
-        encode(alloc, envelope)
+        let heard = self.hear(&envelope.message)?;
+        let text = encode_heard(alloc, envelope, &heard);
+        let_go(heard);
+        text
     }
 }
 
@@ -108,8 +105,8 @@ impl Teller for Device {
 
     fn tell(&mut self, alloc: Global, found: Found) -> Result<Vec<u8>, NoMemory> {
         read_message();
-        let mut envelope = envelope_of(alloc, found.value)?;
-        let text = self.answer_encoded(alloc, &mut envelope);
+        let envelope = envelope_of(alloc, found.value)?;
+        let text = self.answer_encoded(alloc, &envelope);
         let_go(envelope);
         text
     }
