@@ -2,7 +2,7 @@
 
 use crate::letters::{body, header, id, items, opt_id, opt_ids, stories};
 use mos_fields::{Air, Id};
-use mos_values::{Action, Edit};
+use mos_values::{Action, Boxed, Edit};
 use running_order::Order;
 use std::alloc::Global;
 use std::test::Fail;
@@ -145,11 +145,11 @@ pub fn order_of(alloc: Global, letters: &str) -> Result<Option<Order>, Fail> {
 }
 
 fn create(alloc: Global, letters: &str) -> Result<Edit, Fail> {
-    Ok(Edit::Create(body(alloc, letters)?))
+    Ok(Edit::Create(Boxed::new(alloc, body(alloc, letters)?)?))
 }
 
 fn replace(alloc: Global, letters: &str) -> Result<Edit, Fail> {
-    Ok(Edit::Replace(body(alloc, letters)?))
+    Ok(Edit::Replace(Boxed::new(alloc, body(alloc, letters)?)?))
 }
 
 fn delete(alloc: Global) -> Result<Edit, Fail> {
@@ -157,7 +157,7 @@ fn delete(alloc: Global) -> Result<Edit, Fail> {
 }
 
 fn metadata(alloc: Global) -> Result<Edit, Fail> {
-    Ok(Edit::Metadata(header(alloc)?.into_patch()))
+    Ok(Edit::Metadata(Boxed::new(alloc, header(alloc)?.into_patch())?))
 }
 
 fn air(alloc: Global) -> Result<Edit, Fail> {

@@ -94,10 +94,10 @@ fn apply_by_kind(alloc: Global, order: &mut Option<Order>, edit: &Edit) -> Resul
     ensures { IsApplied (edit_takes_memory edit.now) (apply_of (edit_ro edit.now) order.old edit.now) order.old order.new result }
 {
     match edit {
-        Edit::Create(body) => create(alloc, order, body),
-        Edit::Replace(body) => replace(alloc, order, body),
+        Edit::Create(body) => create(alloc, order, body.as_ref()),
+        Edit::Replace(body) => replace(alloc, order, body.as_ref()),
         Edit::Delete(ro) => delete(order, ro),
-        Edit::Metadata(patch) => patch_header(order, patch),
+        Edit::Metadata(patch) => patch_header(order, patch.as_ref()),
         Edit::Act { ro, action } => act_on(alloc, order, ro, action),
         Edit::Air { ro, air } => release(order, ro, *air),
     }

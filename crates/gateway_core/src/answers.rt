@@ -160,7 +160,7 @@ impl Gate {
         ensures err { OnErr result (self.new ≡ self.old) }
     {
         match m {
-            Message::RoList(body) => self.take_list(body),
+            Message::RoList(body) => self.take_list(body.as_ref()),
             Message::RoAck(answer) => Ok(self.take_ack(answer)),
             _ => Ok(self.unasked()),
         }

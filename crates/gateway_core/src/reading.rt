@@ -247,14 +247,24 @@ pub fn read_message(
     ensures err { OnErr result (orders.new ≡ orders.old) }
 {
     match m {
-        Message::RoCreate(body) => read_whole(alloc, orders, &body.header.ro, Some(body)),
-        Message::RoReplace(body) => read_whole(alloc, orders, &body.header.ro, Some(body)),
+        Message::RoCreate(body) => read_whole(
+            alloc,
+            orders,
+            &body.as_ref().header.ro,
+            Some(body.as_ref()),
+        ),
+        Message::RoReplace(body) => read_whole(
+            alloc,
+            orders,
+            &body.as_ref().header.ro,
+            Some(body.as_ref()),
+        ),
         Message::RoDelete(ro) => read_whole(alloc, orders, ro, None),
         Message::RoMetadataReplace(patch) => read_change(
             alloc,
             orders,
-            &patch.ro,
-            Change::Header(patch),
+            &patch.as_ref().ro,
+            Change::Header(patch.as_ref()),
             decks,
         ),
         Message::RoElementAction { ro, action } => read_change(
@@ -267,9 +277,9 @@ pub fn read_message(
         Message::RoReadyToAir { ro, air } => read_air(alloc, orders, ro, *air, decks),
         Message::RoAck(ack) => unasked(alloc, &ack.ro),
         Message::RoReq(ro) => unsupported(alloc, ro),
-        Message::RoList(body) => unsupported(alloc, &body.header.ro),
-        Message::RoElementStat(status) => unsupported(alloc, &status.ro),
-        Message::RoStorySend(story) => unsupported(alloc, &story.ro),
+        Message::RoList(body) => unsupported(alloc, &body.as_ref().header.ro),
+        Message::RoElementStat(status) => unsupported(alloc, &status.as_ref().ro),
+        Message::RoStorySend(story) => unsupported(alloc, &story.as_ref().ro),
         _ => unknown(alloc),
     }
 }

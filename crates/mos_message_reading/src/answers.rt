@@ -14,7 +14,7 @@ use mos_answer_reading::stat_of;
 use mos_cursor::Cursor;
 use mos_fields::{Level, NoMemory, Operation};
 use mos_order_reading::{release_of, send_of};
-use mos_values::Message;
+use mos_values::{Boxed, Message};
 use std::alloc::Global;
 
 /// The roElementStat of this level and of these events. The only error is that memory runs out.
@@ -24,7 +24,7 @@ pub(crate) fn status_of(alloc: Global, level: Level, inner: Cursor) -> Result<Me
     ensures { IfOk result (λ m. message_events m ≡ element_with (codes "roElementStat") (attribute fields.ElementKind (level_text level) ∷ []) inner) }
 {
     let stat = stat_of(alloc, level, inner)?;
-    Ok(Message::RoElementStat(stat))
+    Ok(Message::RoElementStat(Boxed::new(alloc, stat)?))
 }
 
 /// The roElementAction of this operation and of these events. The only error is that memory runs out.
@@ -68,5 +68,5 @@ pub(crate) fn story_sent_of(alloc: Global, inner: Cursor) -> Result<Message, NoM
     ensures { IfOk result (λ m. message_events m ≡ element (codes "roStorySend") inner) }
 {
     let story = send_of(alloc, inner)?;
-    Ok(Message::RoStorySend(story))
+    Ok(Message::RoStorySend(Boxed::new(alloc, story)?))
 }

@@ -11,7 +11,7 @@ use mos_fields::NoMemory;
 use mos_object_reading::{
     mach_info_of, mos_ack_of, object_id_of, object_of, objects_of, pause_of, time_of,
 };
-use mos_values::Message;
+use mos_values::{Boxed, Message};
 use std::alloc::Global;
 
 /// The heartbeat of these events. The only error is that memory runs out.
@@ -31,7 +31,7 @@ pub(crate) fn machine_of(alloc: Global, inner: Cursor) -> Result<Message, NoMemo
     ensures { IfOk result (λ m. message_events m ≡ element (codes "listMachInfo") inner) }
 {
     let info = mach_info_of(alloc, inner)?;
-    Ok(Message::ListMachInfo(info))
+    Ok(Message::ListMachInfo(Boxed::new(alloc, info)?))
 }
 
 /// The mosAck of these events. The only error is that memory runs out.
@@ -51,7 +51,7 @@ pub(crate) fn one_object_of(alloc: Global, inner: Cursor) -> Result<Message, NoM
     ensures { IfOk result (λ m. message_events m ≡ element (codes "mosObj") inner) }
 {
     let obj = object_of(alloc, inner)?;
-    Ok(Message::MosObj(obj))
+    Ok(Message::MosObj(Boxed::new(alloc, obj)?))
 }
 
 /// The mosReqObj of these events. The only error is that memory runs out.

@@ -10,7 +10,7 @@ use mos_cursor::Cursor;
 use mos_fields::NoMemory;
 use mos_order_reading::{order_of, patch_of};
 use mos_story_reading::{body_of, headers_of};
-use mos_values::Message;
+use mos_values::{Boxed, Message};
 use std::alloc::Global;
 
 /// The roCreate of these events. The only error is that memory runs out.
@@ -20,7 +20,7 @@ pub(crate) fn creation_of(alloc: Global, inner: Cursor) -> Result<Message, NoMem
     ensures { IfOk result (λ m. message_events m ≡ element (codes "roCreate") inner) }
 {
     let body = body_of(alloc, inner)?;
-    Ok(Message::RoCreate(body))
+    Ok(Message::RoCreate(Boxed::new(alloc, body)?))
 }
 
 /// The roReplace of these events. The only error is that memory runs out.
@@ -30,7 +30,7 @@ pub(crate) fn replacement_of(alloc: Global, inner: Cursor) -> Result<Message, No
     ensures { IfOk result (λ m. message_events m ≡ element (codes "roReplace") inner) }
 {
     let body = body_of(alloc, inner)?;
-    Ok(Message::RoReplace(body))
+    Ok(Message::RoReplace(Boxed::new(alloc, body)?))
 }
 
 /// The roList of these events. The only error is that memory runs out.
@@ -40,7 +40,7 @@ pub(crate) fn listing_of(alloc: Global, inner: Cursor) -> Result<Message, NoMemo
     ensures { IfOk result (λ m. message_events m ≡ element (codes "roList") inner) }
 {
     let body = body_of(alloc, inner)?;
-    Ok(Message::RoList(body))
+    Ok(Message::RoList(Boxed::new(alloc, body)?))
 }
 
 /// The roMetadataReplace of these events. The only error is that memory runs out.
@@ -50,7 +50,7 @@ pub(crate) fn new_header_of(alloc: Global, inner: Cursor) -> Result<Message, NoM
     ensures { IfOk result (λ m. message_events m ≡ element (codes "roMetadataReplace") inner) }
 {
     let patch = patch_of(alloc, inner)?;
-    Ok(Message::RoMetadataReplace(patch))
+    Ok(Message::RoMetadataReplace(Boxed::new(alloc, patch)?))
 }
 
 /// The roDelete of these events. The only error is that memory runs out.

@@ -107,9 +107,9 @@ pub fn write_object(m: &Message, out: &mut Vec<u8>) -> Result<bool, NoMemory>
     match m {
         Message::Heartbeat(time) => write_heartbeat(out, time)?,
         Message::ReqMachInfo => write_request(out)?,
-        Message::ListMachInfo(info) => write_info(out, info)?,
+        Message::ListMachInfo(info) => write_info(out, info.as_ref())?,
         Message::MosAck(ack) => write_mos_ack(out, ack)?,
-        Message::MosObj(object) => write_mos_obj(out, object)?,
+        Message::MosObj(object) => write_mos_obj(out, object.as_ref())?,
         Message::MosReqObj(id) => write_request_object(out, id)?,
         Message::MosReqAll(pause) => write_request_all(out, *pause)?,
         Message::MosListAll(objects) => write_list_all(out, objects)?,

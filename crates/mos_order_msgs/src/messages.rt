@@ -147,19 +147,19 @@ pub fn write_order(m: &Message, out: &mut Vec<u8>) -> Result<bool, NoMemory>
     ensures written { OnOk result (out.new.items ≡ out.old.items ++ encoded (order_events m.now)) }
 {
     match m {
-        Message::RoCreate(b) => write_order_body(out, "roCreate", b)?,
-        Message::RoReplace(b) => write_order_body(out, "roReplace", b)?,
-        Message::RoList(b) => write_order_body(out, "roList", b)?,
-        Message::RoMetadataReplace(patch) => write_metadata(out, patch)?,
+        Message::RoCreate(b) => write_order_body(out, "roCreate", b.as_ref())?,
+        Message::RoReplace(b) => write_order_body(out, "roReplace", b.as_ref())?,
+        Message::RoList(b) => write_order_body(out, "roList", b.as_ref())?,
+        Message::RoMetadataReplace(patch) => write_metadata(out, patch.as_ref())?,
         Message::RoDelete(ro) => write_order_id(out, "roDelete", ro)?,
         Message::RoReq(ro) => write_order_id(out, "roReq", ro)?,
         Message::RoReqAll => write_request_all(out)?,
         Message::RoListAll(headers) => write_list_all(out, headers)?,
-        Message::RoElementStat(stat) => write_stat(out, stat)?,
+        Message::RoElementStat(stat) => write_stat(out, stat.as_ref())?,
         Message::RoElementAction { ro, action } => write_element_action(out, ro, action)?,
         Message::RoReadyToAir { ro, air } => write_ready(out, ro, *air)?,
         Message::RoAck(ack) => write_ro_ack(out, ack)?,
-        Message::RoStorySend(story) => write_story_send(out, story)?,
+        Message::RoStorySend(story) => write_story_send(out, story.as_ref())?,
         _ => return Ok(false),
     }
     Ok(true)

@@ -14,9 +14,9 @@ pub fn is_sound_edit(edit: &Edit) -> bool
     ensures unsound { result ≡ false → IsSound (edit_message edit.now) → ⊥ }
 {
     match edit {
-        Edit::Create(body) => is_sound_body(body),
-        Edit::Replace(body) => is_sound_body(body),
-        Edit::Metadata(patch) => is_sound_patch(patch),
+        Edit::Create(body) => is_sound_body(body.as_ref()),
+        Edit::Replace(body) => is_sound_body(body.as_ref()),
+        Edit::Metadata(patch) => is_sound_patch(patch.as_ref()),
         Edit::Act { ro: _, action } => is_sound_action(action),
         Edit::Delete(_) => true,
         Edit::Air { ro: _, air: _ } => true,

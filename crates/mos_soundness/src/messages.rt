@@ -46,16 +46,16 @@ pub fn is_sound(message: &Message) -> bool
     ensures unsound { result ≡ false → IsSound message.now → ⊥ }
 {
     match message {
-        Message::ListMachInfo(info) => is_sound_machine(info),
-        Message::MosObj(object) => is_sound_object(object),
+        Message::ListMachInfo(info) => is_sound_machine(info.as_ref()),
+        Message::MosObj(object) => is_sound_object(object.as_ref()),
         Message::MosListAll(objects) => are_sound_objects(objects.as_slice()),
-        Message::RoCreate(body) => is_sound_body(body),
-        Message::RoReplace(body) => is_sound_body(body),
-        Message::RoList(body) => is_sound_body(body),
-        Message::RoMetadataReplace(patch) => is_sound_patch(patch),
+        Message::RoCreate(body) => is_sound_body(body.as_ref()),
+        Message::RoReplace(body) => is_sound_body(body.as_ref()),
+        Message::RoList(body) => is_sound_body(body.as_ref()),
+        Message::RoMetadataReplace(patch) => is_sound_patch(patch.as_ref()),
         Message::RoListAll(patches) => are_sound_patches(patches.as_slice()),
         Message::RoElementAction { ro: _, action } => is_sound_action(action),
-        Message::RoStorySend(story) => is_sound_send(story),
+        Message::RoStorySend(story) => is_sound_send(story.as_ref()),
         Message::Other { name, raw } => is_sound_other(name, raw),
         _ => true,
     }

@@ -2,7 +2,7 @@
 use crate::{is_sound, is_sound_edit};
 use mos_fields::{FieldFault, Id, Name, OptId, OptIds, Slug, Unread};
 use mos_values::{
-    Action, Edit, Header, HeaderPatch, Item, Message, OrderBody, PushFault, Story, Unreads,
+    Action, Boxed, Edit, Header, HeaderPatch, Item, Message, OrderBody, PushFault, Story, Unreads,
 };
 use std::alloc::Global;
 use std::test::Fail;
@@ -44,7 +44,7 @@ fn patch(alloc: Global, metadata: &str, others: &str) -> Result<HeaderPatch, Fai
 }
 
 fn is_sound_patch(alloc: Global, metadata: &str, others: &str) -> Result<bool, Fail> {
-    let edit = Edit::Metadata(patch(alloc, metadata, others)?);
+    let edit = Edit::Metadata(Boxed::new(alloc, patch(alloc, metadata, others)?)?);
     let answer = is_sound_edit(&edit);
     let_go(edit);
     Ok(answer)
@@ -166,7 +166,7 @@ fn is_sound_order(alloc: Global, of_header: &str, of_item: &str) -> Result<bool,
     story.push_item(item(alloc, of_item)?)?;
     let mut body = OrderBody::new(alloc, header);
     body.push_story(story)?;
-    let edit = Edit::Create(body);
+    let edit = Edit::Create(Boxed::new(alloc, body)?);
     let answer = is_sound_edit(&edit);
     let_go(edit);
     Ok(answer)

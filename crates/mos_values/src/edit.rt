@@ -2,6 +2,7 @@
 ghost use Rattle.std.specs.Prelude.{◌≡◌, IfOk};
 
 use crate::action::Action;
+use crate::boxed::Boxed;
 use crate::header::HeaderPatch;
 use crate::order_body::OrderBody;
 use mos_fields::{Air, Id, NoMemory};
@@ -10,13 +11,13 @@ use mos_fields::{Air, Id, NoMemory};
 #[derive(Drop)]
 pub enum Edit {
     /// roCreate: the order comes to be.
-    Create(OrderBody),
+    Create(Boxed<OrderBody>),
     /// roReplace: the order is this one from now on.
-    Replace(OrderBody),
+    Replace(Boxed<OrderBody>),
     /// roDelete: the order is removed.
     Delete(Id),
     /// roMetadataReplace: the fields given replace those of the header.
-    Metadata(HeaderPatch),
+    Metadata(Boxed<HeaderPatch>),
     /// roElementAction: stories or items are put in, replaced, moved, removed or exchanged.
     Act { ro: Id, action: Action },
     /// roReadyToAir: the order is released, or no longer.

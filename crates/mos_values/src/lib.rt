@@ -7,6 +7,7 @@
 
 mod ack_group;
 mod action;
+mod boxed;
 mod edit;
 mod element_stat;
 mod header;
@@ -32,6 +33,7 @@ mod units;
 
 pub use ack_group::AckGroup;
 pub use action::Action;
+pub use boxed::Boxed;
 pub use edit::Edit;
 pub use element_stat::ElementStat;
 pub use header::{Header, HeaderPatch};

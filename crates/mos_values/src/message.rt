@@ -2,6 +2,7 @@
 ghost use Rattle.std.specs.Prelude.{◌≡◌, IfOk};
 
 use crate::action::Action;
+use crate::boxed::Boxed;
 use crate::element_stat::ElementStat;
 use crate::header::HeaderPatch;
 use crate::mach_info::MachInfo;
@@ -22,11 +23,11 @@ pub enum Message {
     /// reqMachInfo
     ReqMachInfo,
     /// listMachInfo
-    ListMachInfo(MachInfo),
+    ListMachInfo(Boxed<MachInfo>),
     /// mosAck
     MosAck(MosAck),
     /// mosObj
-    MosObj(MosObj),
+    MosObj(Boxed<MosObj>),
     /// mosReqObj, with an objID
     MosReqObj(Id),
     /// mosReqAll, with the pause between two objects
@@ -34,13 +35,13 @@ pub enum Message {
     /// mosListAll
     MosListAll(MosObjs),
     /// roCreate
-    RoCreate(OrderBody),
+    RoCreate(Boxed<OrderBody>),
     /// roReplace
-    RoReplace(OrderBody),
+    RoReplace(Boxed<OrderBody>),
     /// roList
-    RoList(OrderBody),
+    RoList(Boxed<OrderBody>),
     /// roMetadataReplace
-    RoMetadataReplace(HeaderPatch),
+    RoMetadataReplace(Boxed<HeaderPatch>),
     /// roDelete, with a roID
     RoDelete(Id),
     /// roReq, with a roID
@@ -50,7 +51,7 @@ pub enum Message {
     /// roListAll
     RoListAll(Headers),
     /// roElementStat
-    RoElementStat(ElementStat),
+    RoElementStat(Boxed<ElementStat>),
     /// roElementAction
     RoElementAction { ro: Id, action: Action },
     /// roReadyToAir
@@ -58,7 +59,7 @@ pub enum Message {
     /// roAck
     RoAck(RoAck),
     /// roStorySend
-    RoStorySend(StorySend),
+    RoStorySend(Boxed<StorySend>),
     /// a message of another name, kept as it was written
     Other { name: Name, raw: Unread },
 }

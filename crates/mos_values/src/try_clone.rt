@@ -2,11 +2,15 @@
 ghost use Rattle.std.specs.Prelude.{◌≡◌, IfOk};
 
 use crate::ack_group::AckGroup;
+use crate::element_stat::ElementStat;
 use crate::header::HeaderPatch;
 use crate::item::Item;
+use crate::mach_info::MachInfo;
 use crate::mos_obj::MosObj;
+use crate::order_body::OrderBody;
 use crate::profile::{Profile, SupportedProfiles};
 use crate::story::Story;
+use crate::story_send::StorySend;
 use mos_fields::{NoMemory, OptId, Slug, Text, Unread};
 
 /// A value that stands in lists and in optional fields, and that can be copied where there is memory for it.
@@ -87,6 +91,30 @@ impl TryClone for Profile {
 }
 
 impl TryClone for SupportedProfiles {
+    fn try_clone(&self) -> Result<Self, NoMemory> {
+        self.try_clone()
+    }
+}
+
+impl TryClone for MachInfo {
+    fn try_clone(&self) -> Result<Self, NoMemory> {
+        self.try_clone()
+    }
+}
+
+impl TryClone for OrderBody {
+    fn try_clone(&self) -> Result<Self, NoMemory> {
+        self.try_clone()
+    }
+}
+
+impl TryClone for ElementStat {
+    fn try_clone(&self) -> Result<Self, NoMemory> {
+        self.try_clone()
+    }
+}
+
+impl TryClone for StorySend {
     fn try_clone(&self) -> Result<Self, NoMemory> {
         self.try_clone()
     }

@@ -20,7 +20,7 @@ use crate::orders::headers_in;
 use crate::reading::{ack, other_ack};
 use machine_answers::{Heard, Status};
 use mos_fields::{Id, NoMemory};
-use mos_values::Message;
+use mos_values::{Boxed, Message};
 use rundown_log::Keeper;
 use running_order::Order;
 use std::alloc::Global;
@@ -30,7 +30,7 @@ fn said_list(alloc: Global, order: Option<&Order>, ro: &Id) -> Result<Heard, NoM
     ensures { IfOk result (λ h. h ≡ heard.Say (list_said ro.now (option_copied order.entry))) }
 {
     match order {
-        Some(order) => Ok(Heard::Say(Message::RoList(order.to_body()?))),
+        Some(order) => Ok(Heard::Say(Message::RoList(Boxed::new(alloc, order.to_body()?)?))),
         None => Ok(Heard::Say(Message::RoAck(ack(alloc, ro, &Status::NoRunningOrder)?))),
     }
 }

@@ -46,17 +46,17 @@ pub fn other_ack(alloc: Global, m: &Message) -> Result<RoAck, NoMemory>
     ensures { IfOk result (λ a. a ≡ acked (message_ro (seen m.now)) (other_status (seen m.now))) }
 {
     match m {
-        Message::RoElementStat(status) => ack(alloc, &status.ro, &Status::Okay),
-        Message::RoCreate(body) => unsupported(alloc, &body.header.ro),
-        Message::RoReplace(body) => unsupported(alloc, &body.header.ro),
+        Message::RoElementStat(status) => ack(alloc, &status.as_ref().ro, &Status::Okay),
+        Message::RoCreate(body) => unsupported(alloc, &body.as_ref().header.ro),
+        Message::RoReplace(body) => unsupported(alloc, &body.as_ref().header.ro),
         Message::RoDelete(ro) => unsupported(alloc, ro),
-        Message::RoMetadataReplace(patch) => unsupported(alloc, &patch.ro),
+        Message::RoMetadataReplace(patch) => unsupported(alloc, &patch.as_ref().ro),
         Message::RoElementAction { ro, action: _ } => unsupported(alloc, ro),
         Message::RoReadyToAir { ro, air: _ } => unsupported(alloc, ro),
         Message::RoAck(ack) => unasked(alloc, &ack.ro),
         Message::RoReq(ro) => unsupported(alloc, ro),
-        Message::RoList(body) => unsupported(alloc, &body.header.ro),
-        Message::RoStorySend(story) => unsupported(alloc, &story.ro),
+        Message::RoList(body) => unsupported(alloc, &body.as_ref().header.ro),
+        Message::RoStorySend(story) => unsupported(alloc, &story.as_ref().ro),
         _ => unknown(alloc),
     }
 }

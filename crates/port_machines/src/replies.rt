@@ -11,7 +11,7 @@ ghost use Rattle.port_machines.specs.Saying.{acked};
 
 use machine_answers::{Status, acknowledgement};
 use mos_fields::{Id, NoMemory, OptId};
-use mos_values::Message;
+use mos_values::{Boxed, Message};
 use port_events::PortAnswer;
 use running_order::Order;
 use std::alloc::Global;
@@ -52,17 +52,17 @@ fn message_ro(alloc: Global, message: &Message) -> Result<OptId, NoMemory>
     ensures { IfOk result (λ id. id ≡ message_ro_of (seen message.now)) }
 {
     match message {
-        Message::RoElementStat(status) => named(&status.ro),
-        Message::RoCreate(body) => named(&body.header.ro),
-        Message::RoReplace(body) => named(&body.header.ro),
+        Message::RoElementStat(status) => named(&status.as_ref().ro),
+        Message::RoCreate(body) => named(&body.as_ref().header.ro),
+        Message::RoReplace(body) => named(&body.as_ref().header.ro),
         Message::RoDelete(ro) => named(ro),
-        Message::RoMetadataReplace(patch) => named(&patch.ro),
+        Message::RoMetadataReplace(patch) => named(&patch.as_ref().ro),
         Message::RoElementAction { ro, action: _ } => named(ro),
         Message::RoReadyToAir { ro, air: _ } => named(ro),
         Message::RoAck(ack) => ack.ro.try_clone(),
         Message::RoReq(ro) => named(ro),
-        Message::RoList(body) => named(&body.header.ro),
-        Message::RoStorySend(story) => named(&story.ro),
+        Message::RoList(body) => named(&body.as_ref().header.ro),
+        Message::RoStorySend(story) => named(&story.as_ref().ro),
         _ => nameless(alloc),
     }
 }
@@ -79,7 +79,7 @@ pub fn list(alloc: Global, order: Option<&Order>, ro: &Id) -> Result<PortAnswer,
     ensures { IfOk result (λ a. a ≡ answers.Say (order_said ro.now (option_copied order.entry))) }
 {
     match order {
-        Some(order) => Ok(PortAnswer::Say(Message::RoList(order.to_body()?))),
+        Some(order) => Ok(PortAnswer::Say(Message::RoList(Boxed::new(alloc, order.to_body()?)?))),
         None => answer_for(alloc, ro, &Status::NoRunningOrder),
     }
 }

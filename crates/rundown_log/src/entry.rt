@@ -26,10 +26,10 @@ pub fn edit_ro(edit: &Edit) -> &Id
     ensures { result.now ≡ edit_ro_of edit.now }
 {
     match edit {
-        Edit::Create(body) => &body.header.ro,
-        Edit::Replace(body) => &body.header.ro,
+        Edit::Create(body) => &body.as_ref().header.ro,
+        Edit::Replace(body) => &body.as_ref().header.ro,
         Edit::Delete(ro) => ro,
-        Edit::Metadata(patch) => &patch.ro,
+        Edit::Metadata(patch) => &patch.as_ref().ro,
         Edit::Act { ro, action: _ } => ro,
         Edit::Air { ro, air: _ } => ro,
     }

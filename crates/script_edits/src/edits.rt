@@ -15,7 +15,7 @@ use crate::story_actions::{
     delete_stories, insert_stories, move_stories, replace_story, swap_stories,
 };
 use mos_fields::{Air, Id, NoMemory, Slug};
-use mos_values::{Action, Edit, Header, HeaderPatch, OrderBody, Stories, Unreads};
+use mos_values::{Action, Boxed, Edit, Header, HeaderPatch, OrderBody, Stories, Unreads};
 use std::alloc::Global;
 
 /// The header of these alone.
@@ -72,7 +72,7 @@ fn create(alloc: Global, ro: Id, words: &[&[u8]]) -> Result<Option<Edit>, NoMemo
 {
     match order(alloc, ro, words)? {
         None => Ok(None),
-        Some(body) => Ok(Some(Edit::Create(body))),
+        Some(body) => Ok(Some(Edit::Create(Boxed::new(alloc, body)?))),
     }
 }
 
@@ -82,7 +82,7 @@ fn replace(alloc: Global, ro: Id, words: &[&[u8]]) -> Result<Option<Edit>, NoMem
 {
     match order(alloc, ro, words)? {
         None => Ok(None),
-        Some(body) => Ok(Some(Edit::Replace(body))),
+        Some(body) => Ok(Some(Edit::Replace(Boxed::new(alloc, body)?))),
     }
 }
 
@@ -147,7 +147,10 @@ fn meta(alloc: Global, ro: Id, words: &[&[u8]]) -> Result<Option<Edit>, NoMemory
     match words {
         [s] => match slug_name(alloc, s)? {
             None => Ok(None),
-            Some(slug) => Ok(Some(Edit::Metadata(slug_patch(alloc, ro, slug)))),
+            Some(slug) => {
+                let patch = slug_patch(alloc, ro, slug);
+                Ok(Some(Edit::Metadata(Boxed::new(alloc, patch)?)))
+            }
         },
         _ => Ok(None),
     }

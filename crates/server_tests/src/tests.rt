@@ -6,7 +6,7 @@ ghost use Rattle.mos_values.specs.Sound.{AllFit, IsSound};
 ghost use Rattle.mos_values.specs.Views.{header_events};
 
 use mos_fields::{Id, Slug, Text};
-use mos_values::{Edit, Header, OrderBody, Unreads};
+use mos_values::{Boxed, Edit, Header, OrderBody, Unreads};
 use ncs_core::{CommandFault, Ncs};
 use rundown_log::MemKeeper;
 use std::alloc::Global;
@@ -50,7 +50,8 @@ fn create(alloc: Global, count: usize) -> Result<Edit, Fail>
     ensures { IfOk result (λ e. IsSound (edit_message e)) }
 {
     let header = header(alloc, count)?;
-    Ok(Edit::Create(OrderBody::new(alloc, header)))
+    let body = OrderBody::new(alloc, header);
+    Ok(Edit::Create(Boxed::new(alloc, body)?))
 }
 
 /// What a command was answered.

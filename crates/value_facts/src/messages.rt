@@ -78,24 +78,24 @@ pub fn message_fits(message: &Message)
     ensures { IsFitMessage message.now }
 {
     match message {
-        Message::ListMachInfo(info) => machine_fits(info),
+        Message::ListMachInfo(info) => machine_fits(info.as_ref()),
         Message::MosAck(ack) => mos_ack_fits(ack),
-        Message::MosObj(object) => object_fits(object),
+        Message::MosObj(object) => object_fits(object.as_ref()),
         Message::MosReqObj(id) => id_fits(id),
         Message::MosReqAll(pause) => samples_fit(*pause),
         Message::MosListAll(objects) => objects_fit(objects.as_slice()),
-        Message::RoCreate(body) => body_fits(body),
-        Message::RoReplace(body) => body_fits(body),
-        Message::RoList(body) => body_fits(body),
-        Message::RoMetadataReplace(patch) => patch_fits(patch),
+        Message::RoCreate(body) => body_fits(body.as_ref()),
+        Message::RoReplace(body) => body_fits(body.as_ref()),
+        Message::RoList(body) => body_fits(body.as_ref()),
+        Message::RoMetadataReplace(patch) => patch_fits(patch.as_ref()),
         Message::RoDelete(ro) => id_fits(ro),
         Message::RoReq(ro) => id_fits(ro),
         Message::RoListAll(headers) => patches_fit(headers.as_slice()),
-        Message::RoElementStat(stat) => stat_fits(stat),
+        Message::RoElementStat(stat) => stat_fits(stat.as_ref()),
         Message::RoElementAction { ro, action } => order_and_action_fit(ro, action),
         Message::RoReadyToAir { ro, .. } => id_fits(ro),
         Message::RoAck(ack) => ro_ack_fits(ack),
-        Message::RoStorySend(send) => send_fits(send),
+        Message::RoStorySend(send) => send_fits(send.as_ref()),
         Message::Other { raw, .. } => unread_fits(raw),
         _ => {}
     }

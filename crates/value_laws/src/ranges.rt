@@ -85,14 +85,14 @@ pub fn message_is_in_range(message: &Message)
 {
     match message {
         Message::MosAck(ack) => revision_is_small(&ack.rev),
-        Message::MosObj(object) => object_is_in_range(object),
+        Message::MosObj(object) => object_is_in_range(object.as_ref()),
         Message::MosReqAll(pause) => {
             let _count = pause.count();
         }
         Message::MosListAll(objects) => objects_are_in_range(objects.as_slice()),
-        Message::RoCreate(body) => stories_are_in_range(body.stories.as_slice()),
-        Message::RoReplace(body) => stories_are_in_range(body.stories.as_slice()),
-        Message::RoList(body) => stories_are_in_range(body.stories.as_slice()),
+        Message::RoCreate(body) => stories_are_in_range(body.as_ref().stories.as_slice()),
+        Message::RoReplace(body) => stories_are_in_range(body.as_ref().stories.as_slice()),
+        Message::RoList(body) => stories_are_in_range(body.as_ref().stories.as_slice()),
         Message::RoElementAction { action, .. } => action_is_in_range(action),
         _ => {}
     }

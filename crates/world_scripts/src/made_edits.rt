@@ -7,7 +7,7 @@ ghost use Rattle.script_edits.specs.Stories.{order_named};
 ghost use Rattle.world_scripts.specs.Made.{made_id, made_order, made_story};
 
 use mos_fields::{Air, Id, NoMemory, OptId, OptIds};
-use mos_values::{Action, Edit, Stories, Story};
+use mos_values::{Action, Boxed, Edit, Stories, Story};
 use script_edits::{id_named, opt_id_named, order_with, story_named};
 use std::alloc::Global;
 
@@ -68,7 +68,7 @@ pub fn create(alloc: Global, s: u64) -> Result<Edit, NoMemory>
     let ro = order(alloc)?;
     let stories = one_story(alloc, s)?;
     let body = order_with(alloc, ro, stories)?;
-    Ok(Edit::Create(body))
+    Ok(Edit::Create(Boxed::new(alloc, body)?))
 }
 
 /// A story is put at the end.

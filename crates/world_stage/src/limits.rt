@@ -73,8 +73,8 @@ fn edit_is_small(edit: &Edit)
     ensures { IsSmallEdit edit.now }
 {
     match edit {
-        Edit::Create(body) => order_is_small(body),
-        Edit::Replace(body) => order_is_small(body),
+        Edit::Create(body) => order_is_small(body.as_ref()),
+        Edit::Replace(body) => order_is_small(body.as_ref()),
         Edit::Act { ro: _, action } => action_is_small(action),
         _ => {}
     }
@@ -153,10 +153,10 @@ fn ids_are_short(edit: &Edit)
     ensures ro { IsShort (edit_ro edit.now) }
 {
     match edit {
-        Edit::Create(body) => order_is_short(body),
-        Edit::Replace(body) => order_is_short(body),
+        Edit::Create(body) => order_is_short(body.as_ref()),
+        Edit::Replace(body) => order_is_short(body.as_ref()),
         Edit::Delete(ro) => id_is_short(ro),
-        Edit::Metadata(patch) => patch_is_short(patch),
+        Edit::Metadata(patch) => patch_is_short(patch.as_ref()),
         Edit::Act { ro, action } => {
             id_is_short(ro);
             target_is_short(action);

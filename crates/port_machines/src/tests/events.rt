@@ -5,7 +5,7 @@ ghost use Rattle.mos_values.specs.Sound.{AllFit, AreSoundStories, IsSound};
 ghost use Rattle.mos_values.specs.Views.{header_events};
 
 use mos_fields::{Id, MosTime, OptId, Slug, Zone};
-use mos_values::{Action, Header, Message, OrderBody, Stories, Story, Unreads};
+use mos_values::{Action, Boxed, Header, Message, OrderBody, Stories, Story, Unreads};
 use port_events::{PortEvent, Side, SoundMessage, What};
 use std::alloc::Global;
 use std::test::Fail;
@@ -39,7 +39,7 @@ fn header(alloc: Global) -> Result<Header, Fail>
 pub fn create(alloc: Global) -> Result<SoundMessage, Fail> {
     let header = header(alloc)?;
     let body = OrderBody::new(alloc, header);
-    Ok(SoundMessage::new(Message::RoCreate(body)))
+    Ok(SoundMessage::new(Message::RoCreate(Boxed::new(alloc, body)?)))
 }
 
 /// The story D alone.

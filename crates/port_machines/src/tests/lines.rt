@@ -55,8 +55,8 @@ fn push_list(
 fn push_message(alloc: Global, out: &mut String, message: &Message) -> Result<(), NoMemory> {
     match message {
         Message::RoAck(ack) => push_ack(alloc, out, ack),
-        Message::RoCreate(body) => push_list(alloc, out, "roCreate", body),
-        Message::RoList(body) => push_list(alloc, out, "roList", body),
+        Message::RoCreate(body) => push_list(alloc, out, "roCreate", body.as_ref()),
+        Message::RoList(body) => push_list(alloc, out, "roList", body.as_ref()),
         Message::RoListAll(headers) => push_word(out, list_word(headers.len())),
         Message::RoReqAll => push_word(out, "roReqAll"),
         Message::Heartbeat(_) => push_word(out, "heartbeat"),
