@@ -13,8 +13,9 @@ use crate::aiming::aim_of;
 use crate::arranging::arrange;
 use crate::child::{Child, Part};
 use crate::key_set::KeySet;
+use crate::spare::{Spare, keep, take_spare};
 use crate::times::times;
-use mos_columns::{find_end_fault, find_tag, is_name, may_grow, note, start_counts};
+use mos_columns::{find_end_fault, find_tag, is_name, may_grow, note};
 use mos_events::{ElementName, Event, KnownAttribute};
 use mos_fields::{Field, NoMemory, Text};
 use mos_grammar::Fault;
@@ -66,10 +67,11 @@ impl Model for Frame {
 }
 
 impl Frame {
-    /// A record of the table with no child. The only error is that memory runs out.
+    /// A record of the table with no child, in memory that was kept. The only error is that memory runs out.
     #[tactic(auto, using(crate::proofs::FrameLemmas::none_seen, crate::proofs::KeyLemmas::holds_start))]
     pub fn open(
         alloc: Global,
+        spares: &mut Vec<Spare>,
         table: Table,
         name: ElementName,
         place: Field,
@@ -77,13 +79,14 @@ impl Frame {
     ) -> Result<Self, NoMemory>
         ensures { IfOk result (λ f. f ≡ record { table = table; name = element_text name; place = place; given = attributes_of attribute; before = [] }) }
     {
+        let (counts, before) = take_spare(alloc, spares).start(table.columns())?;
         Ok(Frame {
             table,
             name,
             place,
             attribute,
-            counts: start_counts(alloc, table.columns())?,
-            before: Vec::with_capacity(alloc, table.columns().len())?,
+            counts,
+            before,
             key_set: KeySet::new(alloc),
         })
     }
@@ -175,9 +178,9 @@ impl Frame {
         Ok(())
     }
 
-    /// Its value.
+    /// Its value. Its memory is kept.
     #[tactic(auto, unfolding(mos_grammar::specs::Records::nested), using(crate::proofs::PartLemmas::one_more))]
-    pub fn close(self, alloc: Global) -> Result<Vec<Event>, NoMemory>
+    pub fn close(self, alloc: Global, spares: &mut Vec<Spare>) -> Result<Vec<Event>, NoMemory>
         ensures { IfOk result (λ v. events_of v.items ≡ closed self) }
     {
         let mut before = self.before;
@@ -188,6 +191,7 @@ impl Frame {
         })?;
         arrange(self.table, &mut before, &mut events)?;
         events.push(Event::Closes { name: self.name })?;
+        keep(spares, self.counts, before);
         Ok(events)
     }
 }

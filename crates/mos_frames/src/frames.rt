@@ -57,10 +57,9 @@ fn take_before(
             *place = Place::Before(stage);
             Ok(Progress::More)
         }
-        Ok(None) => match Inside::open(alloc) {
+        Ok(None) => match inside.begin(alloc) {
             Err(_) => fail(place, FrameFault::NoMemory),
-            Ok(opened) => {
-                *inside = opened;
+            Ok(()) => {
                 *place = Place::InMessage;
                 Ok(Progress::More)
             }

@@ -1,5 +1,5 @@
 //! Reading inside a message.
-ghost use Rattle.std.specs.Prelude.{◌≡◌, ◌∷◌, [], true, None, Ok, Err, IfOk, reverse};
+ghost use Rattle.std.specs.Prelude.{◌≡◌, ◌∷◌, [], true, None, Ok, Err, IfOk, OnOk, reverse};
 ghost use Rattle.mos_fields.specs.Characters.{IsUtf16, chars_of};
 ghost use Rattle.mos_fields.specs.Fields.{name_of, same};
 ghost use Rattle.mos_fields.specs.Names.{is_name as is_name_of};
@@ -24,6 +24,7 @@ use crate::frame::Frame;
 use crate::mode::{Mode, RawStart};
 use crate::open_field::OpenField;
 use crate::progress::Progress;
+use crate::spare::Spare;
 use crate::texts::{empty_text_fault, raw_part, read_empty, read_text};
 use mos_columns::is_name;
 use mos_events::{ElementName, Events, KnownAttribute};
@@ -36,12 +37,13 @@ use std::alloc::Global;
 use std::mem::replace;
 
 /// Reading inside a message: what the innermost record is in, that record, and the records that it stands in, the
-/// innermost last.
+/// innermost last; and the memory of records that have ended.
 #[derive(Drop)]
 pub struct Inside {
     pub mode: Mode,
     pub inner: Frame,
     pub outer: Vec<Frame>,
+    pub spares: Vec<Spare>,
 }
 
 fn misplaced() -> Result<Progress, FrameFault>
@@ -71,24 +73,25 @@ impl Inside {
             mode: Mode::Between,
             inner: Frame::blank(alloc),
             outer: Vec::new(alloc),
+            spares: Vec::new(alloc),
         }
     }
 
-    /// Behind the start tag of a message. The only error is that memory runs out.
-    pub fn open(alloc: Global) -> Result<Self, NoMemory>
-        ensures { IfOk result (λ s. state_of s ≡ opening Table.Envelope mos_name) }
+    /// The start tag of a message came, wherever reading was. The only error is that memory runs out.
+    pub fn begin(&mut self, alloc: Global) -> Result<(), NoMemory>
+        ensures { OnOk result (state_of self.new ≡ opening Table.Envelope mos_name) }
     {
-        Ok(Inside {
-            mode: Mode::Between,
-            inner: Frame::open(
-                alloc,
-                Table::Envelope,
-                ElementName::Mos,
-                Field::Message,
-                None,
-            )?,
-            outer: Vec::new(alloc),
-        })
+        self.inner = Frame::open(
+            alloc,
+            &mut self.spares,
+            Table::Envelope,
+            ElementName::Mos,
+            Field::Message,
+            None,
+        )?;
+        self.outer.clear();
+        self.mode = Mode::Between;
+        Ok(())
     }
 
     /// Between the elements of the innermost record, where it mostly is already, since a whole child was taken out of the
@@ -122,7 +125,7 @@ impl Inside {
     ) -> Result<Progress, FrameFault>
         ensures { Stepped result (state_of self.new) (Ok (at between_of (record { table = table; name = element_text name; place = field; given = attributes_of attribute; taken = keys self.old.inner.table self.old.inner.before; before = [] }) (frame_in self.old.inner (reverse self.old.outer.items) ∷ frames_in (reverse self.old.outer.items)))) }
     {
-        let inner = Frame::open(alloc, table, name, field, attribute)?;
+        let inner = Frame::open(alloc, &mut self.spares, table, name, field, attribute)?;
         let around = replace(&mut self.inner, inner);
         self.outer.push(around)?;
         self.stand_between();
@@ -136,13 +139,13 @@ impl Inside {
         match self.outer.pop() {
             None => {
                 let frame = replace(&mut self.inner, Frame::blank(alloc));
-                self.mode = Mode::Ended(Events::from_vec(frame.close(alloc)?));
+                self.mode = Mode::Ended(Events::from_vec(frame.close(alloc, &mut self.spares)?));
                 Ok(Progress::Whole)
             }
             Some(around) => {
                 let frame = replace(&mut self.inner, around);
                 let place = frame.place();
-                let events = frame.close(alloc)?;
+                let events = frame.close(alloc, &mut self.spares)?;
                 self.add_child(alloc, place, Part::Several(events))
             }
         }
@@ -190,8 +193,9 @@ impl Inside {
         match table_end_fault(alloc, table)? {
             Some(fault) => Err(FrameFault::Rejected(fault)),
             None => {
-                let record = Frame::open(alloc, table, name, field, attribute)?;
-                let events = record.close(alloc)?;
+                let spares = &mut self.spares;
+                let record = Frame::open(alloc, spares, table, name, field, attribute)?;
+                let events = record.close(alloc, spares)?;
                 self.add_child(alloc, field, Part::Several(events))
             }
         }

@@ -23,6 +23,7 @@ mod place;
 mod progress;
 mod prolog;
 mod role;
+mod spare;
 mod texts;
 mod times;
 
