@@ -17,7 +17,7 @@ use Rattle.mos_tables.specs.declared.table.Table.{Table}
 use Rattle.mos_tables.specs.declared.table.Table.TheVariants.{Envelope, Body, HeaderPatch, Story, Item, MosObj, Heartbeat, NoFields, ListMachInfo, SupportedProfiles, MosAck, MosReqObj, MosReqAll, MosListAll, OneOrder, RoListAll, ElementStat, Action, Target, Source, ReadyToAir, RoAck, StorySend}
 use Rattle.mos_grammar.specs.declared.fault.Fault.{Fault}
 use Rattle.mos_grammar.specs.declared.fault.Fault.TheVariants.{Value as wrong_value}
-use Rattle.mos_grammar.specs.Records.{Child, column_of, is_named, is_full, is_optional, times, seen_of, given_of, operation_in, values_of, message_of, message_role, role, role_at, role_by, other_role, with_aim, Role, out_of_place, leaf_role, raw_role, record_role, role_fault, attribute_fault, inside_fault, field_events, text_fault, leaf_event, OpenField, earlier, admitted, admission, empty_admission, outside_fault}
+use Rattle.mos_grammar.specs.Records.{Child, column_of, is_named, is_full, is_optional, times, seen_of, given_of, operation_in, values_of, message_of, message_role, role, role_at, role_by, other_role, with_aim, Role, out_of_place, leaf_role, raw_role, record_role, admitted_leaf, role_fault, attribute_fault, inside_fault, field_events, text_fault, leaf_event, OpenField, earlier, admitted, admission, empty_admission, outside_fault}
 use Rattle.mos_columns.specs.Counts.{counts_of}
 use Rattle.mos_columns.specs.Messages.{all_messages, named_in, record_if, record_of}
 use Rattle.mos_columns.proofs.MessageLaws.{message_is}
@@ -28,10 +28,12 @@ use Rattle.mos_events.specs.declared.known_attribute.KnownAttribute.{KnownAttrib
 use Rattle.mos_forms.specs.Known.{IsGivenAs}
 use Rattle.mos_frames.proofs.TextLemmas.{events_empty}
 use Rattle.mos_frames.specs.Opened.{times_by}
-use Rattle.mos_frames.specs.Roles.{IsRole, IsAdmission, role_of, wanted_of}
+use Rattle.mos_frames.specs.Roles.{IsRole, IsAdmission, BeginsAs, role_of, wanted_of}
+use Rattle.mos_frames.specs.declared.open_field.OpenField.{OpenField as OpenFieldCode}
 use Rattle.mos_frames.specs.declared.role.Role.{Role as RoleCode}
 use Rattle.mos_frames.specs.declared.role.Role.TheVariants as roles
 use Rattle.mos_frames.specs.declared.admission.Admission.{Admission as AdmissionCode}
+use Rattle.mos_frames.specs.declared.admission.Admission.TheVariants as admissions
 
 -- ---- columns by name
 
@@ -201,3 +203,18 @@ inside_beside n (record_role f u g) taken = refl
 pub admission_beside : (t : Table) (taken : List Text) (before : List Child) (n : Text) (g : List Attribute) → empty_admission t taken before n g ≡ empty_admission t [] before n g
 unfolding empty_admission
 admission_beside t taken before n g = ap (λ k. admitted (role t before n g) (earlier (outside_fault t before n) (earlier (role_fault (role t before n g) g) k))) (inside_beside n (role t before n g) taken)
+
+-- ---- plain fields
+
+pub plain_is : (o : OpenFieldCode) (c : Column) → BeginsAs o c → (t : Table) (before : List Child) (n : Text) (g : List Attribute) → column_of (columns t) n ≡ Some c → outside_fault t before n ≡ None
+    → IsAdmission (admissions.AsLeaf o) n (admission t before n g)
+unfolding admission
+plain_is o c b t before n g e k =
+    let w : Role = leaf_role (record { field = c.field; form = b.form; may_lack = is_optional c.often && is_trimmed b.form; given = [] }) in
+    let r : role t before n g ≡ w = sym (role_room t before n g c (times_by (columns t) (counts_of (columns t) (seen_of t before)) n) (is_full c.often (times_by (columns t) (counts_of (columns t) (seen_of t before)) n)) e refl refl (b.plain.room (times_by (columns t) (counts_of (columns t) (seen_of t before)) n)))
+          ∙ (ap (role_at before n g c) b.shape ∙ ap (λ x. leaf_role (record { field = c.field; form = b.form; may_lack = is_optional c.often && is_trimmed b.form; given = given_of x g })) b.plain.wants) in
+    record {
+      is = ap admitted_leaf b.plain.is ∙ sym (ap (λ z. admitted z (earlier (outside_fault t before n) (role_fault z g))) r
+          ∙ (ap (λ z. admitted w (earlier z (role_fault w g))) k ∙ ap (λ x. admitted w (attribute_fault x g)) b.plain.wants));
+      name = ap (λ (z : OpenField). name_of z.field) b.plain.is ∙ leaf_named c b.form n b.shape (column_named (columns t) n c e);
+    }

@@ -1,12 +1,17 @@
 -- How an element is read and how it begins, in memory, as the grammar's.
-use Rattle.std.specs.Prelude.{◌≡◌, List, Option, None, ⊤}
+use Rattle.std.specs.Prelude.{◌≡◌, ◌&&◌, ℕ, false, List, [], Option, None, ⊤}
 use Rattle.mos_fields.specs.Characters.{Text}
 use Rattle.mos_fields.specs.Fields.{name_of}
+use Rattle.mos_fields.specs.Forms.{is_trimmed}
+use Rattle.mos_fields.specs.declared.form.Form.{Form}
 use Rattle.mos_fields.specs.declared.field.Field.{Field}
 use Rattle.mos_tables.specs.Events.{Attribute}
+use Rattle.mos_tables.specs.declared.column.Column.{Column}
+use Rattle.mos_tables.specs.declared.column.Often.{Often}
+use Rattle.mos_tables.specs.declared.column.Shape.TheVariants as shapes
 use Rattle.mos_tables.specs.Tables.{attribute_of_table, attribute_of_form}
 use Rattle.mos_events.specs.EventView.{element_text, attributes_of}
-use Rattle.mos_grammar.specs.Records.{given_of, out_of_place, leaf_role, raw_role, record_role, not_admitted, admitted_leaf, admitted_raw, admitted_record}
+use Rattle.mos_grammar.specs.Records.{given_of, is_full, is_optional, out_of_place, leaf_role, raw_role, record_role, not_admitted, admitted_leaf, admitted_raw, admitted_record}
 use Rattle.mos_grammar.specs.Records.{OpenField as OpenFieldOf, Role as RoleOf, Admission as AdmissionOf}
 use Rattle.mos_frames.specs.declared.open_field.OpenField.{OpenField}
 use Rattle.mos_frames.specs.declared.role.Role.{Role}
@@ -59,3 +64,15 @@ HasAdmittedName (AsRecord f t e a) n = element_text e ≡ n
 pub record IsAdmission (a : Admission) (n : Text) (w : AdmissionOf) : Type 0 where
   pub is : admission_of a ≡ w
   pub name : HasAdmittedName a n
+
+-- a field of this form begins so, whatever its attributes are, and however often it was seen
+pub record IsPlain (o : OpenField) (f : Field) (often : Often) (form : Form) : Type 0 where
+  pub is : open_field_of o ≡ record { field = f; form = form; may_lack = is_optional often && is_trimmed form; given = [] }
+  pub wants : attribute_of_form form ≡ None
+  pub room : (k : ℕ) → is_full often k ≡ false
+
+-- an element of this column begins as this field where its tag shows no fault
+pub record BeginsAs (o : OpenField) (c : Column) : Type 0 where
+  pub form : Form
+  pub shape : c.shape ≡ shapes.Leaf form
+  pub plain : IsPlain o c.field c.often form

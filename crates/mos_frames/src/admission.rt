@@ -1,21 +1,23 @@
 //! How elements begin.
-ghost use Rattle.std.specs.Prelude.{◌≡◌, [], IfOk, List, Some, None, ℕ};
+ghost use Rattle.std.specs.Prelude.{◌≡◌, [], false, IfOk, IfSome, List, Some, None, ℕ};
 ghost use Rattle.mos_tables.specs.Events.{Attribute as AttributeOf};
+ghost use Rattle.mos_tables.specs.declared.table.Table.{Table as TableOf};
 ghost use Rattle.mos_tables.specs.Tables.{attribute_of_form as attribute_of_form_lem, columns as columns_of};
-ghost use Rattle.mos_grammar.specs.Records.{admission, admitted as admitted_of, column_of, earlier as earlier_of, empty_admission, given_of, inside_fault as inside_fault_of, order_of as order_of_lem, outside_fault as outside_fault_of, role_fault};
+ghost use Rattle.mos_grammar.specs.Records.{admission, admitted as admitted_of, column_of, earlier as earlier_of, empty_admission, given_of, inside_fault as inside_fault_of, is_full as is_full_of, order_of as order_of_lem, outside_fault as outside_fault_of, role_fault};
+ghost use Rattle.mos_grammar.specs.Records.{Child as ChildOf};
 ghost use Rattle.mos_events.specs.EventView.{attributes_of};
 ghost use Rattle.mos_forms.specs.Known.{IsGiven};
-ghost use Rattle.mos_frames.specs.Roles.{HasName, IsAdmission, role_of, wanted_of};
+ghost use Rattle.mos_frames.specs.Roles.{BeginsAs, HasName, IsAdmission, IsPlain, role_of, wanted_of};
 
 use crate::empty::{leaf_fault, table_end_fault};
 use crate::frame::Frame;
 use crate::open_field::OpenField;
-use crate::role::{Role, find_role};
+use crate::role::{Role, find_role, may_lack};
 use mos_events::{ElementName, KnownAttribute};
 use mos_fields::{Field, Form, NoMemory};
 use mos_forms::{Given, read_attribute};
 use mos_grammar::Fault;
-use mos_tables::{Column, Table};
+use mos_tables::{Column, Often, Shape, Table};
 use mos_tokens::Attribute;
 use std::alloc::Global;
 
@@ -155,6 +157,79 @@ fn inside_fault(alloc: Global, role: Role) -> Result<Option<Fault>, NoMemory>
     }
 }
 
+/// Whether a column asks for a number of elements.
+fn is_counted(often: Often) -> bool
+    ensures { result ≡ false → (k : ℕ) → is_full_of often k ≡ false }
+{
+    matches!(often, Often::Count(_))
+}
+
+/// Whether a field of this form may have an attribute.
+fn has_attribute(form: Form) -> bool
+    ensures { result ≡ false → attribute_of_form_lem form ≡ None }
+{
+    matches!(form, Form::Profile)
+}
+
+/// How a field of a column begins where its tag shows no fault, if that needs no look at the record or the attributes.
+fn plain_field(field: Field, often: Often, form: Form) -> Option<OpenField>
+    ensures { IfSome result (λ o. IsPlain o field often form) }
+{
+    if is_counted(often) || has_attribute(form) {
+        None
+    } else {
+        Some(OpenField {
+            field,
+            form,
+            may_lack: may_lack(often, form),
+            attribute: None,
+        })
+    }
+}
+
+/// How an element of a column begins where its tag shows no fault, if it is a field and that needs no look at the record or
+/// the attributes.
+fn plain_leaf(column: Column) -> Option<OpenField>
+    ensures { IfSome result (λ o. BeginsAs o column) }
+{
+    match column.shape {
+        Shape::Leaf(form) => plain_field(column.field, column.often, form),
+        _ => None,
+    }
+}
+
+/// How an element begins, if it is plain: then it is a field, and neither the record nor the attributes matter.
+fn plain(column: Option<Column>, outside: Option<Fault>) -> Option<OpenField>
+    ensures { IfSome result (λ o. (t : TableOf) → (before : List ChildOf) → (n : List ℕ) → (g : List AttributeOf) → column ≡ column_of (columns_of t) n → outside ≡ outside_fault_of t before n → IsAdmission (Admission.AsLeaf o) n (admission t before n g)) }
+{
+    match outside {
+        Some(_) => None,
+        None => match column {
+            None => None,
+            Some(column) => plain_leaf(column),
+        },
+    }
+}
+
+/// How the element of a start tag begins that has this column, and whose tag shows this. The only error is that memory runs
+/// out.
+fn admit_as(
+    alloc: Global,
+    frame: &Frame,
+    column: Option<Column>,
+    outside: Option<Fault>,
+    name: &[u16],
+    attributes: &[Attribute],
+) -> Result<Admission, NoMemory>
+    requires column { column ≡ column_of (columns_of (frame.now).table) name.now }
+    requires fault { outside ≡ outside_fault_of (frame.now).table (frame.now).before name.now }
+    ensures { IfOk result (λ a. IsAdmission a name.now (admission (frame.now).table (frame.now).before name.now attributes.now)) }
+{
+    let role = find_role(alloc, frame, column, name, attributes)?;
+    let given = read_attribute(alloc, wanted(role), attributes)?;
+    Ok(admitted(role, outside, given, None))
+}
+
 /// How the element of a start tag begins. The only error is that memory runs out.
 pub fn admit(
     alloc: Global,
@@ -165,9 +240,10 @@ pub fn admit(
     ensures { IfOk result (λ a. IsAdmission a name.now (admission (frame.now).table (frame.now).before name.now attributes.now)) }
 {
     let (column, outside) = find_outside(frame, name);
-    let role = find_role(alloc, frame, column, name, attributes)?;
-    let given = read_attribute(alloc, wanted(role), attributes)?;
-    Ok(admitted(role, outside, given, None))
+    match plain(column, outside) {
+        Some(leaf) => Ok(Admission::AsLeaf(leaf)),
+        None => admit_as(alloc, frame, column, outside, name, attributes),
+    }
 }
 
 /// How the element of an empty tag begins. The only error is that memory runs out.

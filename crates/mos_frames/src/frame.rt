@@ -15,7 +15,7 @@ use crate::child::{Child, Part};
 use crate::key_set::KeySet;
 use crate::spare::{Spare, keep, take_spare};
 use crate::times::times;
-use mos_columns::{find_end_fault, find_tag, is_name, may_grow, note};
+use mos_columns::{find_end_fault, find_tag, is_name, note};
 use mos_events::{ElementName, Event, KnownAttribute};
 use mos_fields::{Field, NoMemory, Text};
 use mos_grammar::Fault;
@@ -39,6 +39,9 @@ pub struct Frame {
     /// the keys of those, where they have to be apart
     key_set: KeySet,
 }
+
+/// How many children a record may have, so that each count may still grow.
+const MOST: usize = usize::MAX - 2;
 
 /// How much room the events of a record take: those of its children, and its own two. It only saves moving them again.
 fn room(children: &[Child]) -> usize {
@@ -168,7 +171,7 @@ impl Frame {
     pub fn add(&mut self, field: Field, part: Part) -> Result<(), NoMemory>
         ensures { OnOk result (self.new ≡ added self.old (field, part_events part)) }
     {
-        if !may_grow(&self.counts) {
+        if self.before.len() >= MOST {
             return Err(AllocError);
         }
         self.before.reserve(1)?;

@@ -47,7 +47,7 @@ fn is_trimmed(form: Form) -> bool
     )
 }
 
-fn may_lack(often: Often, form: Form) -> bool
+pub fn may_lack(often: Often, form: Form) -> bool
     ensures { result ≡ (is_optional_of often && is_trimmed_of form) }
 {
     is_optional(often) && is_trimmed(form)
