@@ -2,6 +2,7 @@
 use Rattle.std.proofs.Common.{◌≡◌, ℕ, suc, zero, ◌<◌, Bool, true, false, cond, not, ◌&&◌, ◌||◌, List, [], ◌∷◌, ◌++◌, length, get_or, set, refl, sym, ap, ◌∙◌, subst, arith}
 use Rattle.std.specs.Prelude.{◌==◌}
 use Rattle.std.proofs.lemmas.Bool.{and_parts, eqb-true}
+use Rattle.std.proofs.lemmas.List.{append-nil, append_assoc}
 use Rattle.mos_fields.specs.Fields.{same_field, number_of}
 use Rattle.mos_fields.specs.declared.field.Field.{Field}
 use Rattle.mos_fields.specs.declared.field.Field.TheVariants as fields
@@ -12,10 +13,10 @@ use Rattle.mos_tables.specs.declared.aim.Aim.TheVariants.{Nowhere, AtStory, AtIt
 use Rattle.mos_tables.specs.declared.column.Column.{Column}
 use Rattle.mos_tables.specs.declared.table.Table.{Table}
 use Rattle.mos_tables.specs.declared.table.Table.TheVariants.{Envelope, Body, HeaderPatch, Story, Item, MosObj, Heartbeat, NoFields, ListMachInfo, SupportedProfiles, MosAck, MosReqObj, MosReqAll, MosListAll, OneOrder, RoListAll, ElementStat, Action, Target, Source, ReadyToAir, RoAck, StorySend}
-use Rattle.mos_grammar.specs.Records.{found, column_events}
+use Rattle.mos_grammar.specs.Records.{found, flat, column_events}
 use Rattle.mos_grammar.specs.Records.{Child as ChildOf}
 use Rattle.mos_frames.specs.declared.child.Child.{Child}
-use Rattle.mos_frames.specs.Parts.{child_of, children_of, part_events, in_columns, has_field, are_apart}
+use Rattle.mos_frames.specs.Parts.{child_of, children_of, part_events, in_columns, has_field, are_apart, behind, in_order}
 
 pub tables_apart : (t : Table) → are_apart (columns t) ≡ true
 tables_apart Envelope = refl
@@ -138,3 +139,75 @@ first_apart c cs a =
     let q = and_parts (not (has_field cs c.field) && not (same_field c.field fields.Kept)) (are_apart cs) a in
     let r = and_parts (not (has_field cs c.field)) (not (same_field c.field fields.Kept)) q.0 in
     (not_true (has_field cs c.field) r.0, not_true (same_field c.field fields.Kept) r.1, q.1)
+
+-- ---- children in the order of the columns
+
+other_field : (f g h : Field) → same_field f h ≡ true → same_field f g ≡ false → same_field g h ≡ false
+other_field f g h s n = go (same_field g h) refl
+  where
+    go : (b : Bool) → same_field g h ≡ b → b ≡ false
+    go true t = absurd (let u : same_field f g ≡ true = by_field g h f (same_number g h t) ∙ s in cc)
+    go false t = refl
+
+-- what the children in front add that are of a field
+abbrev in_front : Field → List ChildOf → List Event
+in_front f [] = []
+in_front f (x ∷ xs) = cond (same_field f x.0) (x.1 ++ in_front f xs) []
+
+found_behind : (f : Field) (xs : List ChildOf) (g : Field) → same_field f g ≡ false → found g xs ≡ found g (behind f xs)
+found_behind f [] g n = refl
+found_behind f (x ∷ xs) g n = go (same_field f x.0) refl (found_behind f xs g n)
+  where
+    go : (b : Bool) → same_field f x.0 ≡ b → found g xs ≡ found g (behind f xs) → found g (x ∷ xs) ≡ found g (cond b (behind f xs) (x ∷ xs))
+    go true s r = ap (λ z. cond z x.1 [] ++ found g xs) (other_field f g x.0 s n) ∙ r
+    go false s r = refl
+
+found_split : (f : Field) (xs : List ChildOf) → found f xs ≡ in_front f xs ++ found f (behind f xs)
+found_split f [] = refl
+found_split f (x ∷ xs) = go (same_field f x.0) refl (found_split f xs)
+  where
+    go : (b : Bool) → same_field f x.0 ≡ b → found f xs ≡ in_front f xs ++ found f (behind f xs) → found f (x ∷ xs) ≡ cond b (x.1 ++ in_front f xs) [] ++ found f (cond b (behind f xs) (x ∷ xs))
+    go true s r = ap (λ z. cond z x.1 [] ++ found f xs) s ∙ (ap (λ z. x.1 ++ z) r ∙ sym (append_assoc x.1 (in_front f xs) (found f (behind f xs))))
+    go false s r = refl
+
+flat_split : (f : Field) (xs : List ChildOf) → flat xs ≡ in_front f xs ++ flat (behind f xs)
+flat_split f [] = refl
+flat_split f (x ∷ xs) = go (same_field f x.0) (flat_split f xs)
+  where
+    go : (b : Bool) → flat xs ≡ in_front f xs ++ flat (behind f xs) → flat (x ∷ xs) ≡ cond b (x.1 ++ in_front f xs) [] ++ flat (cond b (behind f xs) (x ∷ xs))
+    go true r = ap (λ z. x.1 ++ z) r ∙ sym (append_assoc x.1 (in_front f xs) (flat (behind f xs)))
+    go false r = refl
+
+none_found : (cs : List Column) (xs : List ChildOf) (f : Field) → in_order cs xs ≡ true → has_field cs f ≡ false → found f xs ≡ []
+none_found [] [] f o h = refl
+none_found [] (x ∷ xs) f o h = absurd (cc)
+none_found (c ∷ cs) xs f o h =
+    let p = or_false (same_field c.field f) (has_field cs f) h in
+    found_behind c.field xs f p.0 ∙ none_found cs (behind c.field xs) f o p.1
+
+kept_apart : (cs : List Column) → are_apart cs ≡ true → has_field cs fields.Kept ≡ false
+kept_apart [] a = refl
+kept_apart (c ∷ cs) a =
+    let q = and_parts (not (has_field cs c.field) && not (same_field c.field fields.Kept)) (are_apart cs) a in
+    let r = and_parts (not (has_field cs c.field)) (not (same_field c.field fields.Kept)) q.0 in
+    ap (λ z. z || has_field cs fields.Kept) (not_true (same_field c.field fields.Kept) r.1) ∙ kept_apart cs q.1
+
+nothing_either : (b : Bool) → ◌≡◌ {A = List Event} (cond b [] []) []
+nothing_either true = refl
+nothing_either false = refl
+
+pub in_order_flat : (cs : List Column) (xs : List ChildOf) → are_apart cs ≡ true → in_order cs xs ≡ true → in_columns cs xs ≡ flat xs
+in_order_flat [] [] a o = refl
+in_order_flat [] (x ∷ xs) a o = absurd (cc)
+in_order_flat (c ∷ cs) xs a o =
+    let q = and_parts (not (has_field cs c.field) && not (same_field c.field fields.Kept)) (are_apart cs) a in
+    let r = and_parts (not (has_field cs c.field)) (not (same_field c.field fields.Kept)) q.0 in
+    let n : has_field cs c.field ≡ false = not_true (has_field cs c.field) r.0 in
+    let k : same_field c.field fields.Kept ≡ false = not_true (same_field c.field fields.Kept) r.1 in
+    let own : found c.field xs ≡ in_front c.field xs = found_split c.field xs ∙ (ap (λ z. in_front c.field xs ++ z) (none_found cs (behind c.field xs) c.field o n) ∙ append-nil (in_front c.field xs)) in
+    let others : cond (same_field c.field fields.Metadata) (found fields.Kept xs) [] ≡ [] = ap (λ z. cond (same_field c.field fields.Metadata) z []) (none_found (c ∷ cs) xs fields.Kept o (kept_apart (c ∷ cs) a)) ∙ nothing_either (same_field c.field fields.Metadata) in
+    let rest : in_columns cs xs ≡ flat (behind c.field xs) = rest_same c.field (behind c.field xs) xs (λ g s t. found_behind c.field xs g s) (λ s. found_behind c.field xs fields.Kept k) cs n q.1 ∙ in_order_flat cs (behind c.field xs) q.1 o in
+    ap (λ z. (z ++ cond (same_field c.field fields.Metadata) (found fields.Kept xs) []) ++ in_columns cs xs) own
+    ∙ (ap (λ z. (in_front c.field xs ++ z) ++ in_columns cs xs) others
+    ∙ (ap (λ z. z ++ in_columns cs xs) (append-nil (in_front c.field xs))
+    ∙ (ap (λ z. in_front c.field xs ++ z) rest ∙ sym (flat_split c.field xs))))

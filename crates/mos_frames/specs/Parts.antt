@@ -1,5 +1,5 @@
 -- Children in memory, as the grammar's.
-use Rattle.std.specs.Prelude.{Bool, true, false, List, [], ◌∷◌, map, not, ◌&&◌, ◌||◌}
+use Rattle.std.specs.Prelude.{Bool, true, false, cond, List, [], ◌∷◌, map, not, ◌&&◌, ◌||◌}
 use Rattle.mos_tables.specs.Events.{Event}
 use Rattle.std.specs.List.{flat_map}
 use Rattle.mos_fields.specs.Characters.{Text}
@@ -41,3 +41,17 @@ has_field (c ∷ cs) f = same_field c.field f || has_field cs f
 abbrev pub are_apart : List Column → Bool
 are_apart [] = true
 are_apart (c ∷ cs) = not (has_field cs c.field) && not (same_field c.field fields.Kept) && are_apart cs
+
+-- what stands behind the children in front that are of a field
+abbrev pub behind : Field → List ChildOf → List ChildOf
+behind f [] = []
+behind f (c ∷ cs) = cond (same_field f c.0) (behind f cs) (c ∷ cs)
+
+abbrev pub are_none : List ChildOf → Bool
+are_none [] = true
+are_none (c ∷ cs) = false
+
+-- the children stand in the order of these columns, and each is of one of them
+abbrev pub in_order : List Column → List ChildOf → Bool
+in_order [] xs = are_none xs
+in_order (c ∷ cs) xs = in_order cs (behind c.field xs)

@@ -5,7 +5,8 @@ ghost use Rattle.mos_fields.specs.declared.field.Field.{Field as FieldOf};
 ghost use Rattle.mos_tables.specs.Tables.{columns as columns_of, is_ack};
 ghost use Rattle.mos_grammar.specs.Records.{arranged, column_events, found, flat};
 ghost use Rattle.mos_events.specs.EventView.{events_of};
-ghost use Rattle.mos_frames.specs.Parts.{part_events, child_of, children_of, in_columns, are_apart};
+ghost use Rattle.mos_frames.specs.Parts.{part_events, child_of, children_of, in_columns, in_order, are_apart};
+ghost use Rattle.mos_frames.specs.Parts.{are_none as are_none_of, behind as behind_of};
 
 use crate::child::{Child, Part};
 use crate::field_name::same_field;
@@ -159,6 +160,57 @@ fn take_all(children: &mut [Child], out: &mut Vec<Event>) -> Result<(), NoMemory
     Ok(())
 }
 
+/// What stands behind the children in front that are of this field.
+fn behind(field: Field, children: &[Child]) -> &[Child]
+    ensures { children_of result.now ≡ behind_of field (children_of children.now) }
+{
+    match children {
+        [] => children,
+        [child, more @ ..] => {
+            if same_field(field, child.field) {
+                behind(field, more)
+            } else {
+                children
+            }
+        }
+    }
+}
+
+fn are_none(children: &[Child]) -> bool
+    ensures { result ≡ are_none_of (children_of children.now) }
+{
+    match children {
+        [] => true,
+        [_, ..] => false,
+    }
+}
+
+/// Whether the children stand in the order of these columns, and each is of one of them.
+fn are_in_order(columns: &[Column], children: &[Child]) -> bool
+    ensures { result ≡ in_order columns.now (children_of children.now) }
+{
+    match columns {
+        [] => are_none(children),
+        [c, cs @ ..] => are_in_order(cs, behind(c.field, children)),
+    }
+}
+
+/// Moves what the children of columns add to the end of the events, by columns. Mostly they stand in that order.
+fn take_by_columns(
+    columns: &[Column],
+    children: &mut [Child],
+    out: &mut Vec<Event>,
+) -> Result<(), NoMemory>
+    requires { are_apart columns.now ≡ true }
+    ensures { OnOk result (events_of out.new.items ≡ events_of out.old.items ++ in_columns columns.now (children_of children.old)) }
+{
+    if are_in_order(columns, children) {
+        take_all(children, out)
+    } else {
+        take_columns(columns, children, out)
+    }
+}
+
 /// Moves what the children of a record add to the end of the events: by the table's columns, in roAck in order.
 #[tactic(auto, unfolding(mos_grammar::specs::Records::arranged), using(crate::proofs::ColumnLemmas::tables_apart))]
 pub fn arrange(table: Table, children: &mut [Child], out: &mut Vec<Event>) -> Result<(), NoMemory>
@@ -167,6 +219,6 @@ pub fn arrange(table: Table, children: &mut [Child], out: &mut Vec<Event>) -> Re
     if table.has_groups() {
         take_all(children, out)
     } else {
-        take_columns(table.columns(), children, out)
+        take_by_columns(table.columns(), children, out)
     }
 }
