@@ -4,7 +4,7 @@ ghost use Rattle.mos_fields.specs.Fields.{same_field as same_field_of};
 ghost use Rattle.mos_fields.specs.declared.field.Field.{Field as FieldOf};
 ghost use Rattle.mos_tables.specs.Tables.{columns as columns_of, is_ack};
 ghost use Rattle.mos_grammar.specs.Records.{arranged, column_events, found, flat};
-ghost use Rattle.mos_events.specs.EventView.{events_of};
+ghost use Rattle.mos_events.specs.EventView.{event_of, events_of};
 ghost use Rattle.mos_frames.specs.Parts.{part_events, child_of, children_of, in_columns, in_order, are_apart};
 ghost use Rattle.mos_frames.specs.Parts.{are_none as are_none_of, behind as behind_of};
 
@@ -15,14 +15,28 @@ use mos_fields::{Field, NoMemory};
 use mos_tables::{Column, Table};
 use std::mem::replace;
 
-#[tactic(auto, using(crate::proofs::PartLemmas::one_more, crate::proofs::PartLemmas::many_more, crate::proofs::PartLemmas::none_more))]
+/// Adds an event to the end, where mostly there is room for it.
+#[tactic(auto, using(crate::proofs::PartLemmas::one_more))]
+fn push_event(event: Event, out: &mut Vec<Event>) -> Result<(), NoMemory>
+    ensures { OnOk result (events_of out.new.items ≡ events_of out.old.items ++ event_of event ∷ []) }
+{
+    if out.len() < out.capacity() {
+        out.push_reserved(event);
+        Ok(())
+    } else {
+        out.push(event)?;
+        Ok(())
+    }
+}
+
+#[tactic(auto, using(crate::proofs::PartLemmas::many_more, crate::proofs::PartLemmas::none_more))]
 fn push_part(part: Part, out: &mut Vec<Event>) -> Result<(), NoMemory>
     ensures { OnOk result (events_of out.new.items ≡ events_of out.old.items ++ part_events part) }
 {
     match part {
         Part::Nothing => Ok(()),
         Part::Single(event) => {
-            out.push(event)?;
+            push_event(event, out)?;
             Ok(())
         }
         Part::Several(mut events) => {

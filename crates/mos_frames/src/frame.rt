@@ -176,7 +176,7 @@ impl Frame {
         }
         self.before.reserve(1)?;
         self.key_set.note(self.table, &part)?;
-        self.before.push(Child { field, part }).unwrap();
+        self.before.push_reserved(Child { field, part });
         note(self.table, &mut self.counts, field);
         Ok(())
     }
