@@ -212,7 +212,7 @@ unfolding admission
 plain_is o c b t before n g e k =
     let w : Role = leaf_role (record { field = c.field; form = b.form; may_lack = is_optional c.often && is_trimmed b.form; given = [] }) in
     let r : role t before n g ≡ w = sym (role_room t before n g c (times_by (columns t) (counts_of (columns t) (seen_of t before)) n) (is_full c.often (times_by (columns t) (counts_of (columns t) (seen_of t before)) n)) e refl refl (b.plain.room (times_by (columns t) (counts_of (columns t) (seen_of t before)) n)))
-          ∙ (ap (role_at before n g c) b.shape ∙ ap (λ x. leaf_role (record { field = c.field; form = b.form; may_lack = is_optional c.often && is_trimmed b.form; given = given_of x g })) b.plain.wants) in
+    ∙ (ap (role_at before n g c) b.shape ∙ ap (λ x. leaf_role (record { field = c.field; form = b.form; may_lack = is_optional c.often && is_trimmed b.form; given = given_of x g })) b.plain.wants) in
     record {
       is = ap admitted_leaf b.plain.is ∙ sym (ap (λ z. admitted z (earlier (outside_fault t before n) (role_fault z g))) r
           ∙ (ap (λ z. admitted w (earlier z (role_fault w g))) k ∙ ap (λ x. admitted w (attribute_fault x g)) b.plain.wants));

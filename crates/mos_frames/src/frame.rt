@@ -20,7 +20,7 @@ use mos_events::{ElementName, Event, KnownAttribute};
 use mos_fields::{Field, NoMemory, Text};
 use mos_grammar::Fault;
 use mos_tables::{Aim, Column, Table};
-use std::alloc::{AllocError, Global};
+use std::alloc::Global;
 use std::marker::Model;
 
 /// A record whose end tag is still to come.
@@ -39,9 +39,6 @@ pub struct Frame {
     /// the keys of those, where they have to be apart
     key_set: KeySet,
 }
-
-/// How many children a record may have, so that each count may still grow.
-const MOST: usize = usize::MAX - 2;
 
 /// How much room the events of a record take: those of its children, and its own two. It only saves moving them again.
 fn room(children: &[Child]) -> usize {
@@ -166,14 +163,12 @@ impl Frame {
         self.key_set.contains(key)
     }
 
-    /// Adds a child. Without memory for it the record stays as it was.
+    /// Adds a child. Without memory for it the record stays as it was. A list that has room for one more is too short for a
+    /// count to have no room.
     #[tactic(auto, using(crate::proofs::FrameLemmas::one_more_seen, crate::proofs::PartLemmas::children_more))]
     pub fn add(&mut self, field: Field, part: Part) -> Result<(), NoMemory>
         ensures { OnOk result (self.new ≡ added self.old (field, part_events part)) }
     {
-        if self.before.len() >= MOST {
-            return Err(AllocError);
-        }
         self.before.reserve(1)?;
         self.key_set.note(self.table, &part)?;
         self.before.push_reserved(Child { field, part });

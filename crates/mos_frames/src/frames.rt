@@ -74,19 +74,13 @@ fn take_inside(
     inside: &mut Inside,
     token: Token<'_>,
 ) -> Result<Progress, FrameFault>
-    requires { IsSound token }
+    requires place { place.old ≡ Place.InMessage }
+    requires sound { IsSound token }
     ensures { TakesStep (message_step (inside_position (state_of inside.old)) (token_of token.entry)) result (standing_in place.new inside.new) }
 {
     match inside.take(alloc, token) {
         Err(fault) => fail(place, fault),
-        Ok(Progress::More) => {
-            *place = Place::InMessage;
-            Ok(Progress::More)
-        }
-        Ok(Progress::Whole) => {
-            *place = Place::InMessage;
-            Ok(Progress::Whole)
-        }
+        Ok(progress) => Ok(progress),
     }
 }
 
