@@ -1,4 +1,5 @@
 pub mod CountLaws
 pub mod MessageLaws
 pub mod Lengths
+pub mod NamePlaces
 pub mod PlaceLaws

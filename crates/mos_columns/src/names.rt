@@ -1,15 +1,78 @@
 //! Names.
-ghost use Rattle.std.specs.Prelude.{◌≡◌};
+ghost use Rattle.std.specs.Prelude.{◌≡◌, ◌+◌, ◌<◌, ◌≤◌, ℕ, true, false, length, slice_index};
 ghost use Rattle.mos_fields.specs.Fields.{same};
 
-/// Whether code units are those of an ASCII name.
+/// Whether code units are those of an ASCII name. Most names that are compared have different lengths.
+#[inline(always)]
 pub fn is_name(name: &str, units: &[u16]) -> bool
     ensures { result ≡ same name.now units.now }
 {
     name.len() == units.len() && is_text(name.as_bytes(), units)
 }
 
+/// The 4 units from `from` on are those of the name: a test with no branch.
+fn are_four(name: &[u8], units: &[u16], from: usize) -> bool
+    requires in_name { from + 4 ≤ length name.now }
+    requires in_units { from + 4 ≤ length units.now }
+    ensures yes { result ≡ true → (k : ℕ) → from ≤ k → k < from + 4 → slice_index name.now k ≡ slice_index units.now k }
+    ensures no { result ≡ false → same name.now units.now ≡ false }
+{
+    let mut differ = false;
+    for k in from..from + 4 {
+        differ |= u16::from(name[k]) != units[k];
+    }
+    !differ
+}
+
+/// The 8 units from `from` on are those of the name: a test with no branch, of which LLVM makes vectors.
+fn are_eight(name: &[u8], units: &[u16], from: usize) -> bool
+    requires in_name { from + 8 ≤ length name.now }
+    requires in_units { from + 8 ≤ length units.now }
+    ensures yes { result ≡ true → (k : ℕ) → from ≤ k → k < from + 8 → slice_index name.now k ≡ slice_index units.now k }
+    ensures no { result ≡ false → same name.now units.now ≡ false }
+{
+    let mut differ = false;
+    for k in from..from + 8 {
+        differ |= u16::from(name[k]) != units[k];
+    }
+    !differ
+}
+
+/// A name of 8 units or more, by eights; the last ones may have been compared before.
+fn is_long_text(name: &[u8], units: &[u16]) -> bool
+    requires long { 8 ≤ length name.now }
+    requires same_length { length name.now ≡ length units.now }
+    ensures { result ≡ same name.now units.now }
+{
+    let last = name.len() - 8;
+    let mut n = 0;
+    while n < last {
+        if !are_eight(name, units, n) {
+            return false;
+        }
+        n += 8;
+    }
+    are_eight(name, units, last)
+}
+
+/// A name of the same length.
+#[inline(never)]
 fn is_text(name: &[u8], units: &[u16]) -> bool
+    requires { length name.now ≡ length units.now }
+    ensures { result ≡ same name.now units.now }
+{
+    let length = name.len();
+    if length >= 8 {
+        is_long_text(name, units)
+    } else if length >= 4 {
+        are_four(name, units, 0) && are_four(name, units, length - 4)
+    } else {
+        is_short_text(name, units)
+    }
+}
+
+/// A name unit by unit.
+fn is_short_text(name: &[u8], units: &[u16]) -> bool
     ensures { result ≡ same name.now units.now }
 {
     match name {
@@ -19,7 +82,7 @@ fn is_text(name: &[u8], units: &[u16]) -> bool
         },
         [c, cs @ ..] => match units {
             [] => false,
-            [u, us @ ..] => u16::from(*c) == *u && is_text(cs, us),
+            [u, us @ ..] => u16::from(*c) == *u && is_short_text(cs, us),
         },
     }
 }

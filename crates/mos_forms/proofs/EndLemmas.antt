@@ -1,8 +1,8 @@
 -- What a text ends with.
-use Rattle.std.proofs.Common.{◌≡◌, Bool, true, false, cond, [], ◌∷◌, ◌++◌, refl, sym, ap, ◌∙◌, append_assoc, eq-eqb}
+use Rattle.std.proofs.Common.{◌≡◌, ℕ, ◌+◌, ◌-◌, ◌<◌, Bool, true, false, cond, length, get_or, take, [], ◌∷◌, ◌++◌, refl, sym, ap, ◌∙◌, arith, append_assoc, eq-eqb}
 use Rattle.std.specs.Prelude.{◌==◌}
 use Rattle.std.proofs.lemmas.Bool.{and_parts, and_from, eqb-true}
-use Rattle.std.proofs.lemmas.List.{append_cancel_right}
+use Rattle.std.proofs.lemmas.List.{append_cancel_right, length-append, length-take-le, get_or-take, get_or-append-add}
 use Rattle.mos_fields.specs.Characters.{Text}
 use Rattle.mos_fields.specs.Fields.{same}
 use Rattle.mos_fields.specs.Raw.{end_text, ends_with}
@@ -59,3 +59,22 @@ end_without_name n us a e h = ends_false (end_text n) us (λ p i. h (p ++ 60 ∷
 pub end_without_begin : (n us a b : Text) → us ≡ a ++ 62 ∷ [] → a ≡ b ++ n → ((d : Text) → b ≡ d ++ 60 ∷ 47 ∷ [] → ⊥) → ends_with (end_text n) us ≡ false
 end_without_begin n us a b e f h = ends_false (end_text n) us (λ p i.
     h p (append_cancel_right b (p ++ 60 ∷ 47 ∷ []) n (sym f ∙ append_cancel_right a ((p ++ 60 ∷ 47 ∷ []) ++ n) (62 ∷ []) (sym e ∙ (i ∙ whole_end n p)))))
+
+-- ---- the `/` of an end tag
+
+pub end_without_slash : (n us : Text) (i : ℕ) → i < length us → (length n < i → get_or us (i - length n - 1) 0 ≡ 47 → ⊥) → ends_with (end_text n) (take (i + 1) us) ≡ false
+end_without_slash n us i h d = ends_false (end_text n) (take (i + 1) us) (λ p e. here p e (long p e))
+  where
+    long : (p : Text) → take (i + 1) us ≡ p ++ end_text n → length p + length n + 2 ≡ i
+    long p e =
+        let whole = ap length e ∙ length-append p (end_text n) in
+        let inner = length-append n (62 ∷ []) in
+        let front = length-take-le (i + 1) us (omega (arith, h)) in
+        omega (arith, whole, inner, front, h)
+
+    here : (p : Text) → take (i + 1) us ≡ p ++ end_text n → length p + length n + 2 ≡ i → ⊥
+    here p e l = d (omega (arith, l)) (
+        ap (λ k. get_or us k 0) (let k : i - length n - 1 ≡ length p + 1 = omega (arith, l) in k)
+        ∙ (sym (get_or-take (i + 1) us (length p + 1) 0 (omega (arith, l)))
+        ∙ (ap (λ z. get_or z (length p + 1) 0) e
+        ∙ get_or-append-add p (end_text n) 1 0)))

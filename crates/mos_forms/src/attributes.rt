@@ -9,7 +9,7 @@ ghost use Rattle.mos_forms.specs.Known.{IsGiven, given_as, known_in, values_for 
 
 use crate::chars::{is_word, trimmed};
 use crate::given::Given;
-use crate::known::{find_known, values_for};
+use crate::known::{find_known, find_plain, values_for};
 use mos_columns::is_name;
 use mos_events::KnownAttribute;
 use mos_fields::{Field, NoMemory, Operation, Text};
@@ -55,12 +55,23 @@ fn operation_of(word: &[char]) -> Operation
     }
 }
 
+fn operation_in_chars(alloc: Global, value: &Text) -> Result<Operation, NoMemory>
+    ensures { IfOk result (λ o. o ≡ operation_of_lem (inner value.now)) }
+{
+    let mut chars = Vec::with_capacity(alloc, value.units().len())?;
+    value.push_to(&mut chars)?;
+    Ok(operation_of(trimmed(&chars)))
+}
+
+/// The operation that a text names. Most texts are one with no white space round it, which need no memory.
+#[tactic(auto, using(crate::proofs::PlainLemmas::plain_operation))]
 fn operation_in_text(alloc: Global, value: &Text) -> Result<Operation, NoMemory>
     ensures { IfOk result (λ o. o ≡ operation_of_lem (inner value.now)) }
 {
-    let mut chars = Vec::new(alloc);
-    value.push_to(&mut chars)?;
-    Ok(operation_of(trimmed(&chars)))
+    match find_plain(values_for(Field::OperationKind), value.units()) {
+        Some(KnownAttribute::Operation(operation)) => Ok(operation),
+        _ => operation_in_chars(alloc, value),
+    }
 }
 
 /// The operation that the attributes of a roElementAction's start tag name; `Insert` where they name none. The only error
@@ -74,6 +85,20 @@ pub fn read_operation(alloc: Global, attributes: &[Attribute]) -> Result<Operati
     }
 }
 
+fn known_in_chars(
+    alloc: Global,
+    field: Field,
+    value: &Text,
+) -> Result<Option<KnownAttribute>, NoMemory>
+    ensures { IfOk result (λ o. o ≡ known_in (values_of_lem field) (inner value.now)) }
+{
+    let mut chars = Vec::with_capacity(alloc, value.units().len())?;
+    value.push_to(&mut chars)?;
+    Ok(find_known(values_for(field), trimmed(&chars)))
+}
+
+/// The attribute that a text is. Most texts are one with no white space round it, which need no memory.
+#[tactic(auto, using(crate::proofs::PlainLemmas::plain_known))]
 fn known_in_text(
     alloc: Global,
     field: Field,
@@ -81,9 +106,10 @@ fn known_in_text(
 ) -> Result<Option<KnownAttribute>, NoMemory>
     ensures { IfOk result (λ o. o ≡ known_in (values_of_lem field) (inner value.now)) }
 {
-    let mut chars = Vec::new(alloc);
-    value.push_to(&mut chars)?;
-    Ok(find_known(values_for(field), trimmed(&chars)))
+    match find_plain(values_for(field), value.units()) {
+        Some(attribute) => Ok(Some(attribute)),
+        None => known_in_chars(alloc, field, value),
+    }
 }
 
 fn given_once(field: Field, known: Option<KnownAttribute>) -> Given

@@ -4,6 +4,7 @@ ghost use Rattle.mos_fields.specs.Fields.{same};
 ghost use Rattle.mos_forms.specs.Known.{known_in, value_text, values_for as values_of_lem};
 
 use crate::chars::is_word;
+use mos_columns::is_name;
 use mos_events::KnownAttribute;
 use mos_fields::{Field, Level, Operation};
 
@@ -82,6 +83,53 @@ pub(crate) fn find_known(values: &[KnownAttribute], chars: &[char]) -> Option<Kn
                 Some(*value)
             } else {
                 find_known(more, chars)
+            }
+        }
+    }
+}
+
+/// Whether code units are this digit.
+fn is_plain_digit(units: &[u16], digit: u8) -> bool
+    ensures { result ≡ same units.now (value_text (KnownAttribute.Number digit)) }
+{
+    match units {
+        [] => false,
+        [u, more @ ..] => *u == 48 + u16::from(digit) && more.is_empty(),
+    }
+}
+
+/// Whether code units are those of a word of ASCII.
+#[tactic(auto, using(crate::proofs::NameLemmas::same_back))]
+fn is_plain_word(word: &str, units: &[u16]) -> bool
+    ensures { result ≡ same units.now word.now }
+{
+    is_name(word, units)
+}
+
+/// Whether code units are those of the attribute's value.
+fn has_plain_value(attribute: KnownAttribute, units: &[u16]) -> bool
+    ensures { result ≡ same units.now (value_text attribute) }
+{
+    match attribute {
+        KnownAttribute::Ncs => is_plain_word("NCS", units),
+        KnownAttribute::Mos => is_plain_word("MOS", units),
+        KnownAttribute::Number(digit) => is_plain_digit(units, digit),
+        KnownAttribute::Element(level) => is_plain_word(level.word(), units),
+        KnownAttribute::Operation(operation) => is_plain_word(operation.word(), units),
+    }
+}
+
+/// The attribute with this value in code units, which have no white space round them.
+pub(crate) fn find_plain(values: &[KnownAttribute], units: &[u16]) -> Option<KnownAttribute>
+    ensures { result ≡ known_in values.now units.now }
+{
+    match values {
+        [] => None,
+        [value, more @ ..] => {
+            if has_plain_value(*value, units) {
+                Some(*value)
+            } else {
+                find_plain(more, units)
             }
         }
     }

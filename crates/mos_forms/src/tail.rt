@@ -1,5 +1,5 @@
 //! The rest of a raw element behind its start tag.
-ghost use Rattle.std.specs.Prelude.{◌≡◌, ◌≢◌, ◌++◌, ◌+◌, ◌<◌, ◌≤◌, ℕ, List, IfOk, true, MatchOption, take, drop, slice_index, length, []};
+ghost use Rattle.std.specs.Prelude.{◌≡◌, ◌≢◌, ◌++◌, ◌+◌, ◌<◌, ◌≤◌, ℕ, List, IfOk, true, false, MatchOption, take, drop, slice_index, length, []};
 ghost use Rattle.mos_fields.specs.Characters.{IsUtf16, chars_of};
 ghost use Rattle.mos_fields.specs.Names.{is_name};
 ghost use Rattle.mos_fields.specs.Raw.{end_text, ends_with, is_tail as is_tail_of};
@@ -73,12 +73,20 @@ fn next_mark(text: &[u16], from: usize) -> usize
     n
 }
 
+/// Whether a `/` stands where an end tag of this name has its own that ends with the unit at this place. Few tags have.
+fn may_end_at(name: &[u16], text: &[u16], place: usize) -> bool
+    requires { place < length text.now }
+    ensures { result ≡ false → ends_with (end_text name.now) (take (place + 1) text.now) ≡ false }
+{
+    place > name.len() && text[place - name.len() - 1] == 47
+}
+
 /// Whether the end tag of this name ends with the unit at this place.
 fn ends_at(name: &[u16], text: &[u16], place: usize) -> bool
     requires { place < length text.now }
     ensures { result ≡ ends_with (end_text name.now) (take (place + 1) text.now) }
 {
-    ends_with_end_tag(name, front(text, place + 1))
+    may_end_at(name, text, place) && ends_with_end_tag(name, front(text, place + 1))
 }
 
 /// Reads on to the next `>`, and no end tag ends before it.
@@ -119,7 +127,8 @@ pub fn is_tail(name: &[u16], text: &[u16]) -> bool
 fn units_behind(alloc: Global, units: &[u16], more: &[u16]) -> Result<Vec<u16>, NoMemory>
     ensures { IfOk result (λ v. v.items ≡ units.now ++ more.now) }
 {
-    let mut both = Vec::from_slice(alloc, units)?;
+    let mut both = Vec::with_capacity(alloc, units.len().saturating_add(more.len()))?;
+    both.extend_from_slice(units)?;
     both.extend_from_slice(more)?;
     Ok(both)
 }
