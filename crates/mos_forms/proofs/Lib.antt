@@ -1,6 +1,7 @@
 pub mod UnitLemmas
 pub mod FormLemmas
 pub mod NameLemmas
+pub mod NumberLemmas
 pub mod PlainLemmas
 pub mod KnownLemmas
 pub mod EndLemmas

@@ -1,3 +1,4 @@
 pub mod Known
+pub mod Plain
 pub mod Canonical
 pub mod Tails

@@ -5,7 +5,7 @@ ghost use Rattle.mos_fields.specs.Forms.{only_if as only_if_of, reads, at_most a
 ghost use Rattle.mos_forms.specs.Canonical.{is_id as is_id_of, is_kept, reads_beside};
 
 use crate::chars::{is_word, shortest_digits, trimmed};
-use crate::numbers::{is_rev, is_samples, is_time};
+use crate::numbers::{is_plain_number, is_rev, is_samples, is_time};
 use mos_fields::{FieldFault, Form, NoMemory, Text};
 use mos_times::plain_time;
 use std::alloc::{AllocError, Global};
@@ -194,6 +194,18 @@ fn read_trimmed(alloc: Global, form: Form, text: Text) -> Result<Option<Text>, N
     text_of_option(alloc, canonical(form, &chars), text, &chars)
 }
 
+/// What a number of samples is written as. Plain digits, which are what most systems send, are kept and need no memory.
+#[tactic(auto, using(crate::proofs::NumberLemmas::plain_samples))]
+fn read_samples(alloc: Global, text: Text) -> Result<Option<Text>, NoMemory>
+    ensures { IfOk result (λ o. o ≡ reads Form.Samples [] text) }
+{
+    if is_plain_number(text.units()) {
+        Ok(Some(text))
+    } else {
+        read_trimmed(alloc, Form::Samples, text)
+    }
+}
+
 /// What a time is written as. A plain one, which is what most systems send, is kept as it is and needs no memory.
 #[tactic(auto, using(mos_times::proofs::TextLemmas::plain_kept))]
 fn read_time(alloc: Global, text: Text) -> Result<Option<Text>, NoMemory>
@@ -224,7 +236,7 @@ pub fn read_form(
         Form::OptId => Ok(only_if(is_at_most(128, &text), text)),
         Form::Slug => Ok(only_if(is_at_most(1024, &text), text)),
         Form::Text => Ok(Some(text)),
-        Form::Samples => read_trimmed(alloc, Form::Samples, text),
+        Form::Samples => read_samples(alloc, text),
         Form::Rev => read_trimmed(alloc, Form::Rev, text),
         Form::Time => read_time(alloc, text),
         Form::Air => read_trimmed(alloc, Form::Air, text),
