@@ -1,8 +1,8 @@
 -- Where the rest of a raw element ends, in characters and in code units.
 use Rattle.std.proofs.Common.{◌≡◌, ℕ, ◌+◌, ◌-◌, ◌<◌, ◌≤◌, zero, suc, Bool, true, false, cond, ◌&&◌, eqb, length, get_or, take, drop, List, [], ◌∷◌, ◌++◌, refl, sym, ap, ◌∙◌, subst, arith, append_assoc, eq-eqb, ne_eqb, length-drop}
-use Rattle.std.specs.Prelude.{◌==◌}
+use Rattle.std.specs.Prelude.{◌==◌, ◌||◌, nat_lt}
 use Rattle.std.specs.List.{list_all}
-use Rattle.std.proofs.lemmas.Bool.{and_parts, and_from, lt-ltb}
+use Rattle.std.proofs.lemmas.Bool.{and_parts, and_from, eqb-true, lt-ltb, ltb-true, ltb-false}
 use Rattle.std.proofs.lemmas.Bool.Decides.{nat_tests}
 use Rattle.std.proofs.lemmas.List.{append-nil, take_more, drop_more}
 use Rattle.std.proofs.lemmas.List.Folds.{list_all-append}
@@ -11,9 +11,9 @@ use Rattle.mos_fields.specs.Fields.{same}
 use Rattle.mos_fields.specs.Names.{is_empty, is_name, named, is_start, is_further, may_grow}
 use Rattle.mos_fields.specs.Raw.{end_text, ends_with, is_tail, tail_from}
 use Rattle.mos_fields.proofs.CharacterLemmas.{chars_of-nil, chars_of-lone, chars_of-pair, chars_of-unpaired, allowed_not_high, head_allowed}
-use Rattle.mos_forms.specs.Tails.{tail_units}
+use Rattle.mos_forms.specs.Tails.{IsNoEnd, tail_units}
 use Rattle.mos_forms.proofs.NameLemmas.{is_ascii, ascii_not_pair, ascii_not_high, differs, same_chars}
-use Rattle.mos_forms.proofs.EndLemmas.{end_without_mark}
+use Rattle.mos_forms.proofs.EndLemmas.{end_without_mark, end_without_slash}
 
 -- ---- names
 
@@ -194,16 +194,30 @@ goes_on n us i h e = rest_at n us i h ∙ ap (λ b. cond b (is_empty (drop (i + 
 pub no_mark_at : (n us : Text) (i : ℕ) → i < length us → (get_or us i 0 ≡ 62 → ⊥) → ends_with (end_text n) (take (i + 1) us) ≡ false
 no_mark_at n us i h d = end_without_mark n (take (i + 1) us) (λ a e. d (last_is (take i us) a (get_or us i 0) 62 (sym (take_more us i 0 h) ∙ e)))
 
--- ---- units none of which is `>`
+-- ---- places at which no end tag ends
 
-skipped : (n us : Text) (i m : ℕ) → i + m ≤ length us → ((k : ℕ) → i ≤ k → k < i + m → get_or us k 0 ≡ 62 → ⊥) → tail_units n (take i us) (drop i us) ≡ tail_units n (take (i + m) us) (drop (i + m) us)
+no_end_at : (n us : Text) (i : ℕ) → i < length us → (length n < i → IsNoEnd us (length n + 1) i) → ends_with (end_text n) (take (i + 1) us) ≡ false
+no_end_at n us i h d = go (get_or us i 0 == 62) refl
+  where
+    place : i - length n - 1 ≡ i - (length n + 1)
+    place = omega arith
+
+    go : (b : Bool) → (get_or us i 0 == 62) ≡ b → ends_with (end_text n) (take (i + 1) us) ≡ false
+    go true e = end_without_slash n us i h (λ l s. d l (eqb-true (get_or us i 0) 62 e) (ap (λ k. get_or us k 0) (sym place) ∙ s))
+    go false e = no_mark_at n us i h (λ m. let t : false ≡ true = sym e ∙ eq-eqb (get_or us i 0) 62 m in absurd (cc))
+
+skipped : (n us : Text) (i m : ℕ) → i + m ≤ length us → ((k : ℕ) → i ≤ k → k < i + m → length n < k → IsNoEnd us (length n + 1) k) → tail_units n (take i us) (drop i us) ≡ tail_units n (take (i + m) us) (drop (i + m) us)
 skipped n us i zero h d = ap (λ j. tail_units n (take j us) (drop j us)) (omega arith)
 skipped n us i (suc m) h d =
-    goes_on n us i (omega (arith, h)) (no_mark_at n us i (omega (arith, h)) (d i (omega arith) (omega arith)))
+    goes_on n us i (omega (arith, h)) (no_end_at n us i (omega (arith, h)) (d i (omega arith) (omega arith)))
     ∙ (skipped n us (i + 1) m (omega (arith, h)) (λ k a b. d k (omega (arith, a)) (omega (arith, b)))
     ∙ ap (λ j. tail_units n (take j us) (drop j us)) (omega arith))
 
-pub marks_skipped : (n us : Text) (i j : ℕ) → i ≤ j → j ≤ length us → ((k : ℕ) → i ≤ k → k < j → get_or us k 0 ≡ 62 → ⊥) → tail_units n (take i us) (drop i us) ≡ tail_units n (take j us) (drop j us)
-marks_skipped n us i j a b d =
+pub ends_skipped : (n us : Text) (i j : ℕ) → i ≤ j → j ≤ length us → ((k : ℕ) → i ≤ k → k < j → length n < k → IsNoEnd us (length n + 1) k) → tail_units n (take i us) (drop i us) ≡ tail_units n (take j us) (drop j us)
+ends_skipped n us i j a b d =
     skipped n us i (j - i) (omega (arith, a, b)) (λ k c e. d k c (omega (arith, a, e)))
     ∙ ap (λ m. tail_units n (take m us) (drop m us)) (omega (arith, a))
+
+-- what a walk over the places knows in front of `k`
+abbrev pub NoneFound : Text → ℕ → ℕ → ℕ → Bool → Type 0
+NoneFound us back from k found = found ≡ false → (j : ℕ) → from ≤ j → j < k → IsNoEnd us back j

@@ -1,9 +1,9 @@
 //! The rest of a raw element behind its start tag.
-ghost use Rattle.std.specs.Prelude.{◌≡◌, ◌≢◌, ◌++◌, ◌+◌, ◌<◌, ◌≤◌, ℕ, List, IfOk, true, false, MatchOption, take, drop, slice_index, length, []};
+ghost use Rattle.std.specs.Prelude.{◌≡◌, ◌≢◌, ◌++◌, ◌+◌, ◌<◌, ◌≤◌, ℕ, List, IfOk, true, false, MatchOption, take, drop, length, []};
 ghost use Rattle.mos_fields.specs.Characters.{IsUtf16, chars_of};
 ghost use Rattle.mos_fields.specs.Names.{is_name};
 ghost use Rattle.mos_fields.specs.Raw.{end_text, ends_with, is_tail as is_tail_of};
-ghost use Rattle.mos_forms.specs.Tails.{tail_units};
+ghost use Rattle.mos_forms.specs.Tails.{IsNoEnd, tail_units};
 
 use mos_fields::{NoMemory, Text};
 use std::alloc::Global;
@@ -38,34 +38,47 @@ fn front(text: &[u16], end: usize) -> &[u16]
     &text[..end]
 }
 
-/// None of the 8 units from `from` on is a `>`: a test with no branch, of which LLVM makes vectors.
-fn has_no_mark(text: &[u16], from: usize) -> bool
-    requires { from + 8 ≤ length text.now }
-    ensures { result ≡ true → (k : ℕ) → from ≤ k → k < from + 8 → slice_index text.now k ≢ 62 }
+/// At none of the 8 places from `from` on an end tag ends: none has a `>`, and a `/` so far before it as an end tag has. A
+/// test with no branch, of which LLVM makes vectors.
+fn has_no_end(text: &[u16], back: usize, from: usize) -> bool
+    requires behind { back ≤ from }
+    requires within { from + 8 ≤ length text.now }
+    ensures { result ≡ true → (k : ℕ) → from ≤ k → k < from + 8 → IsNoEnd text.now back k }
 {
     let mut found = false;
     for k in from..from + 8 {
-        found |= text[k] == 62;
+        found |= (text[k] == 62) & (text[k - back] == 47);
     }
     !found
 }
 
-/// Where the first `>` from `from` on stands, or the end of the text. An end tag ends with one, and few units are.
-fn next_mark(text: &[u16], from: usize) -> usize
-    requires { from ≤ length text.now }
+/// Whether there is a `>` at this place, and a `/` so far before it.
+fn may_end(text: &[u16], back: usize, place: usize) -> bool
+    requires behind { back ≤ place }
+    requires within { place < length text.now }
+    ensures { result ≡ false → IsNoEnd text.now back place }
+{
+    text[place] == 62 && text[place - back] == 47
+}
+
+/// The first place from `from` on at which an end tag may end, whose `/` stands so far before its `>`; else the end of
+/// the text.
+fn next_end(text: &[u16], back: usize, from: usize) -> usize
+    requires within { from ≤ length text.now }
+    requires behind { back ≤ from }
     ensures within { result ≤ length text.now }
     ensures onward { from ≤ result }
-    ensures none { (k : ℕ) → from ≤ k → k < result → slice_index text.now k ≢ 62 }
+    ensures none { (k : ℕ) → from ≤ k → k < result → IsNoEnd text.now back k }
 {
     let mut n = from;
     while text.len() - n >= 8 {
-        if !has_no_mark(text, n) {
+        if !has_no_end(text, back, n) {
             break;
         }
         n += 8;
     }
     while n < text.len() {
-        if text[n] == 62 {
+        if may_end(text, back, n) {
             break;
         }
         n += 1;
@@ -73,42 +86,38 @@ fn next_mark(text: &[u16], from: usize) -> usize
     n
 }
 
-/// Whether a `/` stands where an end tag of this name has its own that ends with the unit at this place. Few tags have.
-fn may_end_at(name: &[u16], text: &[u16], place: usize) -> bool
-    requires { place < length text.now }
-    ensures { result ≡ false → ends_with (end_text name.now) (take (place + 1) text.now) ≡ false }
-{
-    place > name.len() && text[place - name.len() - 1] == 47
-}
-
 /// Whether the end tag of this name ends with the unit at this place.
 fn ends_at(name: &[u16], text: &[u16], place: usize) -> bool
     requires { place < length text.now }
     ensures { result ≡ ends_with (end_text name.now) (take (place + 1) text.now) }
 {
-    may_end_at(name, text, place) && ends_with_end_tag(name, front(text, place + 1))
+    ends_with_end_tag(name, front(text, place + 1))
 }
 
-/// Reads on to the next `>`, and no end tag ends before it.
-#[tactic(auto, using(crate::proofs::TailLemmas::marks_skipped))]
-fn skip_to_mark(name: &[u16], text: &[u16], from: usize) -> usize
+/// Reads on to the next place at which the end tag of this name may end, and none ends before it.
+fn skip_to_end(name: &[u16], text: &[u16], from: usize) -> usize
     requires { from ≤ length text.now }
     ensures within { result ≤ length text.now }
     ensures onward { from ≤ result }
     ensures same { tail_units name.now (take from text.now) (drop from text.now) ≡ tail_units name.now (take result text.now) (drop result text.now) }
 {
-    next_mark(text, from)
+    let back = name.len() + 1;
+    if text.len() < back {
+        text.len()
+    } else {
+        next_end(text, back, from.max(back))
+    }
 }
 
 fn is_tail_by_units(name: &[u16], text: &[u16]) -> bool
     ensures { result ≡ tail_units name.now [] text.now }
 {
-    let mut end = skip_to_mark(name, text, 0);
+    let mut end = skip_to_end(name, text, 0);
     while end < text.len() {
         if ends_at(name, text, end) {
             return end + 1 == text.len();
         }
-        end = skip_to_mark(name, text, end + 1);
+        end = skip_to_end(name, text, end + 1);
     }
     false
 }

@@ -9,8 +9,8 @@ returns-then-ends_at c =
 
 pub loop-end-preserved : goal.loop-end-preserved
 loop-end-preserved c = (
-  c.skip_to_mark-end-in-loop-end.ensures.within,
-  sym c.skip_to_mark-end-in-loop-end.ensures.same
+  c.skip_to_end-end-in-loop-end.ensures.within,
+  sym c.skip_to_end-end-in-loop-end.ensures.same
       ∙ (sym (goes_on c.args.name.now c.args.text.now c.loop-end.end c.loop-end-test.true (sym c.ends_at.ensures ∙ c.if-ends_at.false))
       ∙ c.loop-end.invariant.1),
 )
