@@ -6,7 +6,7 @@ ghost use Rattle.mos_grammar.specs.Records.{column_of, is_named as is_named_of, 
 ghost use Rattle.mos_grammar.specs.declared.fault.Fault.TheVariants.{Twice as twice, Order as out_of_order};
 ghost use Rattle.mos_columns.specs.Counts.{counts_of, any_counted as any_counted_of, head_lack as head_lack_of, head_of, head_repeated, lack_place, lacking_by, place_of, tag_fault_by, end_fault_by};
 
-use crate::names::is_name;
+use crate::names::has_name;
 use mos_fields::{Field, Form};
 use mos_grammar::Fault;
 use mos_tables::{Column, Often, Shape, Table};
@@ -16,7 +16,7 @@ fn is_named(column: &Column, name: &[u16]) -> bool
 {
     match column.shape {
         Shape::Message => true,
-        Shape::Leaf(_) | Shape::Raw | Shape::Record(_) => is_name(column.field.name(), name),
+        Shape::Leaf(_) | Shape::Raw | Shape::Record(_) => has_name(column.field, name),
     }
 }
 

@@ -1,6 +1,8 @@
 //! Names.
 ghost use Rattle.std.specs.Prelude.{◌≡◌, ◌+◌, ◌<◌, ◌≤◌, ℕ, true, false, length, slice_index};
-ghost use Rattle.mos_fields.specs.Fields.{same};
+ghost use Rattle.mos_fields.specs.Fields.{name_of, same};
+
+use mos_fields::Field;
 
 /// Whether code units are those of an ASCII name. Most names that are compared have different lengths.
 #[inline(always)]
@@ -85,4 +87,78 @@ fn is_short_text(name: &[u8], units: &[u16]) -> bool
             [u, us @ ..] => u16::from(*c) == *u && is_short_text(cs, us),
         },
     }
+}
+
+/// How long the name of a field is: most names are told apart by this.
+#[inline(always)]
+fn name_length(field: Field) -> usize
+    ensures { result ≡ length (name_of field) }
+{
+    match field {
+        Field::Message | Field::Kept | Field::Dropped => 0,
+        Field::SerialNumber | Field::MachineID | Field::RoTag => 2,
+        Field::Dom => 3,
+        Field::RoID | Field::ItemTag | Field::TimeTag => 4,
+        Field::MosID
+        | Field::NcsID
+        | Field::StoryTag
+        | Field::ObjID
+        | Field::ObjTB
+        | Field::ModelTag
+        | Field::HwRev
+        | Field::SwRev
+        | Field::Pause
+        | Field::RoAir => 5,
+        Field::RoSlug
+        | Field::ItemID
+        | Field::MosObjTag
+        | Field::ObjRev
+        | Field::ObjDur
+        | Field::Status
+        | Field::ObjAir
+        | Field::OpTime
+        | Field::MosRev
+        | Field::Number => 6,
+        Field::RoEdDur
+        | Field::MacroIn
+        | Field::StoryID
+        | Field::ObjSlug
+        | Field::ObjType
+        | Field::Created
+        | Field::Changed
+        | Field::ElementKind => 7,
+        Field::MacroOut
+        | Field::StoryNum
+        | Field::ItemSlug
+        | Field::ObjPaths
+        | Field::ObjGroup
+        | Field::RoStatus => 8,
+        Field::MessageID
+        | Field::RoChannel
+        | Field::RoEdStart
+        | Field::RoTrigger
+        | Field::StorySlug
+        | Field::ItemEdDur
+        | Field::CreatedBy
+        | Field::ChangedBy
+        | Field::StoryBody
+        | Field::OperationKind => 9,
+        Field::MosProfile | Field::DeviceType => 10,
+        Field::MosAbstract
+        | Field::ItemChannel
+        | Field::ItemEdStart
+        | Field::ItemTrigger
+        | Field::Description => 11,
+        Field::Manufacturer => 12,
+        Field::DefaultActiveX | Field::ElementTarget | Field::ElementSource => 14,
+        Field::ItemUserTimingDur | Field::SupportedProfilesTag | Field::StatusDescription => 17,
+        Field::Metadata => 19,
+    }
+}
+
+/// Whether a field has this name.
+pub(crate) fn has_name(field: Field, name: &[u16]) -> bool
+    ensures { result ≡ same (name_of field) name.now }
+{
+    name_length(field) == name.len() && is_text(field.name().as_bytes(), name)
 }

@@ -1,5 +1,4 @@
 use Rattle.std.proofs.Common.{length, ◌-◌, arith}
-use Rattle.std.proofs.lemmas.Bool.{ltb-false}
 use Rattle.mos_columns.proofs.NamePlaces.{all_compared}
 use Rattle.mos_columns.proofs.names.is_long_text.Goals as goal
 
