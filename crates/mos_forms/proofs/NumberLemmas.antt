@@ -1,5 +1,5 @@
 -- Plain numbers are kept as they are.
-use Rattle.std.proofs.Common.{◌≡◌, ℕ, zero, suc, ◌+◌, ◌-◌, ◌*◌, ◌<◌, ◌≤◌, Bool, true, false, cond, not, ◌&&◌, leb, List, [], ◌∷◌, ◌++◌, length, reverse, Some, refl, sym, ap, ◌∙◌, subst, arith}
+use Rattle.std.proofs.Common.{◌≡◌, ℕ, zero, suc, ◌+◌, ◌-◌, ◌*◌, ◌<◌, ◌≤◌, Bool, true, false, cond, not, ◌&&◌, leb, [], ◌∷◌, length, reverse, Some, refl, sym, ap, ◌∙◌, subst, arith}
 use Rattle.std.specs.Prelude.{◌==◌, ◌||◌, nat_le, nat_lt}
 use Rattle.std.proofs.lemmas.Bool.{and_parts, and_from, leb-true, le-leb, ltb-true}
 use Rattle.std.proofs.lemmas.Bool.Decides.{nat_tests}
@@ -73,10 +73,12 @@ units_read (c ∷ cs) e =
     let p = and_parts (nat_lt (length cs) 9 && (not (c == 48) || is_empty cs)) (is_digits (c ∷ cs)) e in
     let q = and_parts (nat_lt (length cs) 9) (not (c == 48) || is_empty cs) p.0 in
     let few = ltb-true (length cs) 9 q.0 in
-    let small : number_in (c ∷ cs) < 1000000000 = bounded 9 0 1 (c ∷ cs) p.1 (omega (arith, few)) (omega arith) in
-    (p.1, all_true (nat_le 1 (length (c ∷ cs))) (at_most 10 (c ∷ cs)) (is_digits (c ∷ cs)) (nat_le (number_in (c ∷ cs)) 4294967295) (c ∷ cs) (shortest_digits (c ∷ cs))
-        (le-leb 1 (length (c ∷ cs)) (omega arith)) (le-leb (length (c ∷ cs)) 10 (omega (arith, few))) p.1 (le-leb (number_in (c ∷ cs)) 4294967295 (omega (arith, small))) (no_zero c cs (c == 48) (is_empty cs) q.1)
-    ∙ sym (ap (λ y. only_if (nat_le 1 (length y) && at_most 10 y && is_digits y && nat_le (number_in y) 4294967295) (shortest_digits y)) (digits_trimmed (c ∷ cs) p.1)))
+    let small : number_in (c ∷ cs) < 1000000000 = bounded 9 0 1 (c ∷ cs) p.1 (omega (arith, few)) (omega arith) in (
+      p.1,
+      all_true (nat_le 1 (length (c ∷ cs))) (at_most 10 (c ∷ cs)) (is_digits (c ∷ cs)) (nat_le (number_in (c ∷ cs)) 4294967295) (c ∷ cs) (shortest_digits (c ∷ cs))
+          (le-leb 1 (length (c ∷ cs)) (omega arith)) (le-leb (length (c ∷ cs)) 10 (omega (arith, few))) p.1 (le-leb (number_in (c ∷ cs)) 4294967295 (omega (arith, small))) (no_zero c cs (c == 48) (is_empty cs) q.1)
+          ∙ sym (ap (λ y. only_if (nat_le 1 (length y) && at_most 10 y && is_digits y && nat_le (number_in y) 4294967295) (shortest_digits y)) (digits_trimmed (c ∷ cs) p.1)),
+    )
 
 -- a text whose units are a plain number is kept as it is
 pub plain_samples : (x : Text) → are_allowed x ≡ true → is_plain_number (units_of x) ≡ true → Some x ≡ reads forms.Samples [] x

@@ -1,8 +1,8 @@
 -- The values of attributes with no white space round them.
-use Rattle.std.proofs.Common.{◌≡◌, ℕ, ◌+◌, Bool, true, false, cond, List, [], ◌∷◌, reverse, Option, Some, None, refl, sym, ap, ◌∙◌, arith}
+use Rattle.std.proofs.Common.{◌≡◌, ℕ, ◌+◌, true, false, List, [], ◌∷◌, Some, refl, sym, ap, ◌∙◌, arith}
 use Rattle.std.proofs.lemmas.Bool.Decides.{nat_tests}
 use Rattle.mos_fields.specs.Characters.{Text, are_allowed, chars_of, units_of}
-use Rattle.mos_fields.specs.Forms.{behind_white, trimmed, is_space}
+use Rattle.mos_fields.specs.Forms.{trimmed, is_space}
 use Rattle.mos_fields.specs.declared.field.Field.{Field}
 use Rattle.mos_fields.specs.declared.field.Field.TheVariants as fields
 use Rattle.mos_fields.specs.declared.level.Level.TheVariants.{Ro, Story, Item}

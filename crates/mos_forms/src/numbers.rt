@@ -19,9 +19,7 @@ pub(crate) fn is_plain_number(units: &[u16]) -> bool
 {
     match units {
         [] => false,
-        [u, more @ ..] => {
-            more.len() < 9 && (*u != 48 || more.is_empty()) && are_digits(units)
-        }
+        [u, more @ ..] => { more.len() < 9 && (*u != 48 || more.is_empty()) && are_digits(units) }
     }
 }
 
