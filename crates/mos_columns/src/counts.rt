@@ -1,5 +1,5 @@
 //! What a tag shows by the fields that were seen.
-ghost use Rattle.std.specs.Prelude.{◌≡◌, ◌<◌, ◌≤◌, ◌&&◌, List, cond, drop, length, nat_lt, take, MatchOption, Some, None};
+ghost use Rattle.std.specs.Prelude.{◌≡◌, ◌≤◌, ◌&&◌, List, cond, drop, length, nat_lt, take, MatchOption, Some, None};
 ghost use Rattle.mos_fields.specs.declared.field.Field.{Field as FieldOf};
 ghost use Rattle.mos_tables.specs.Tables.{columns as columns_of, ack_columns as ack_columns_of};
 ghost use Rattle.mos_grammar.specs.Records.{column_of, is_named as is_named_of, field_fault, wanted, lacking as lacking_of, lack_of, least_count as least_count_of, is_single as is_single_of, or_else};
@@ -55,35 +55,13 @@ fn lack(field: Field) -> Fault
     }
 }
 
-/// Whether a field has to stand in its record.
-fn is_required(often: Often) -> bool
-    ensures { result ≡ nat_lt 0 (least_count_of often) }
-{
-    match often {
-        Often::One | Often::Many => true,
-        Often::Optional | Often::Any => false,
-        Often::Count(least) => 0 < least,
-    }
-}
-
-/// Whether a field that was seen has to be there more often.
-fn is_short(often: Often, count: usize) -> bool
-    requires { 0 < count }
-    ensures { result ≡ nat_lt count (least_count_of often) }
-{
-    match often {
-        Often::One | Often::Many | Often::Optional | Often::Any => false,
-        Often::Count(least) => count < usize::from(least),
-    }
-}
-
 fn lacks(column: &Column, count: usize) -> bool
     ensures { result ≡ nat_lt count (least_count_of (column.now).often) }
 {
-    if count == 0 {
-        is_required(column.often)
-    } else {
-        is_short(column.often, count)
+    match column.often {
+        Often::One | Often::Many => count < 1,
+        Often::Optional | Often::Any => false,
+        Often::Count(least) => count < usize::from(least),
     }
 }
 
