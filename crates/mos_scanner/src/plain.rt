@@ -3,9 +3,6 @@ ghost use Rattle.std.specs.Prelude.{◌≡◌, ◌≤◌, ◌<◌, ◌+◌, ◌-
 ghost use Rattle.mos_fields.specs.Names.{is_further as is_further_of};
 ghost use Rattle.mos_scanner.specs.Runs.{is_plain_but};
 
-/// So many units of a run are looked at one by one before blocks are.
-const SHORT_RUN: usize = 8;
-
 /// The unit is no allowed character by itself, or one of these three.
 #[inline(always)]
 fn is_special(u: u16, p: u16, q: u16, r: u16) -> bool
@@ -22,17 +19,141 @@ pub fn is_plain(u: u16, p: u16, q: u16) -> bool
     !is_special(u, p, q, q)
 }
 
-/// None of the 8 units from `from` on is special: a test with no branch, of which LLVM makes vectors.
+/// The unit ends a run of a text: `<`, `&`, or no allowed character by itself. Letters are most of them.
 #[inline(always)]
-fn is_plain_block(s: &[u16], from: usize, p: u16, q: u16, r: u16) -> bool
+fn ends_text(u: u16) -> bool
+    ensures { result ≡ not (is_plain_but 60 38 38 u) }
+{
+    if u > 60 {
+        u > 0xD7FF
+    } else {
+        u == 60 || u == 38 || u < 0x20
+    }
+}
+
+/// None of the 8 units from `from` on ends a run of a text: a test with no branch, of which LLVM makes vectors.
+#[inline(always)]
+fn is_text_block(s: &[u16], from: usize) -> bool
     requires { from + 8 ≤ length s.now }
-    ensures { result ≡ true → (k : ℕ) → from ≤ k → k < from + 8 → is_plain_but p q r (slice_index s.now k) ≡ true }
+    ensures { result ≡ true → (k : ℕ) → from ≤ k → k < from + 8 → is_plain_but 60 38 38 (slice_index s.now k) ≡ true }
 {
     let mut hit = false;
-    for k in from..from + 8 {
-        hit |= is_special(s[k], p, q, r);
+    for k in 0..8 {
+        hit |= is_special(s[from + k], 60, 38, 38);
     }
     !hit
+}
+
+/// The same for the rest of a raw element.
+#[inline(always)]
+fn is_tail_block(s: &[u16], from: usize) -> bool
+    requires { from + 8 ≤ length s.now }
+    ensures { result ≡ true → (k : ℕ) → from ≤ k → k < from + 8 → is_plain_but 62 62 62 (slice_index s.now k) ≡ true }
+{
+    let mut hit = false;
+    for k in 0..8 {
+        hit |= is_special(s[from + k], 62, 62, 62);
+    }
+    !hit
+}
+
+/// How many of the four units from `from` on stand before the first that ends a run of a text.
+#[inline(always)]
+fn text_of_four(s: &[u16], from: usize) -> usize
+    requires { from + 4 ≤ length s.now }
+    ensures few { result ≤ 4 }
+    ensures plain { (k : ℕ) → from ≤ k → k < from + result → is_plain_but 60 38 38 (slice_index s.now k) ≡ true }
+{
+    let mut count = 0;
+    while count < 4 {
+        if ends_text(s[from + count]) {
+            break;
+        }
+        count += 1;
+    }
+    count
+}
+
+/// The end of a run of units of a text, looked at in blocks.
+fn long_text_end(s: &[u16], from: usize) -> usize
+    requires { from ≤ length s.now }
+    ensures within { result ≤ length s.now }
+    ensures onward { from ≤ result }
+    ensures plain { (k : ℕ) → from ≤ k → k < result → is_plain_but 60 38 38 (slice_index s.now k) ≡ true }
+{
+    let mut n = from;
+    while s.len() - n >= 8 {
+        if !is_text_block(s, n) {
+            break;
+        }
+        n += 8;
+    }
+    'last: while n < s.len() {
+        if ends_text(s[n]) {
+            break;
+        }
+        n += 1;
+    }
+    n
+}
+
+/// The end of a run of units of a text. Short runs are most of them, and end before a block is looked at.
+pub fn text_end(s: &[u16], from: usize) -> usize
+    requires { from ≤ length s.now }
+    ensures within { result ≤ length s.now }
+    ensures onward { from ≤ result }
+    ensures plain { (k : ℕ) → from ≤ k → k < result → is_plain_but 60 38 38 (slice_index s.now k) ≡ true }
+{
+    if s.len() - from >= 4 {
+        let count = text_of_four(s, from);
+        if count < 4 {
+            return from + count;
+        }
+    }
+    long_text_end(s, from)
+}
+
+/// The end of a run of units of the rest of a raw element, looked at in blocks where the first unit is none of it.
+pub fn tail_end(s: &[u16], from: usize) -> usize
+    requires { from ≤ length s.now }
+    ensures within { result ≤ length s.now }
+    ensures onward { from ≤ result }
+    ensures plain { (k : ℕ) → from ≤ k → k < result → is_plain_but 62 62 62 (slice_index s.now k) ≡ true }
+{
+    if from < s.len() && is_special(s[from], 62, 62, 62) {
+        return from;
+    }
+    let mut n = from;
+    while s.len() - n >= 8 {
+        if !is_tail_block(s, n) {
+            break;
+        }
+        n += 8;
+    }
+    'last: while n < s.len() {
+        if is_special(s[n], 62, 62, 62) {
+            break;
+        }
+        n += 1;
+    }
+    n
+}
+
+/// The end of a run of units of a value with this quote.
+pub fn value_end(s: &[u16], from: usize, quote: u16) -> usize
+    requires { from ≤ length s.now }
+    ensures within { result ≤ length s.now }
+    ensures onward { from ≤ result }
+    ensures plain { (k : ℕ) → from ≤ k → k < result → is_plain_but quote 38 60 (slice_index s.now k) ≡ true }
+{
+    let mut n = from;
+    while n < s.len() {
+        if is_special(s[n], quote, 38, 60) {
+            break;
+        }
+        n += 1;
+    }
+    n
 }
 
 /// Where so many units from `from` on end, or what is held.
@@ -50,73 +171,41 @@ fn end_within(s: &[u16], from: usize, most: usize) -> usize
     }
 }
 
-/// The end of a run of units from `from` on none of which is special, looked at in blocks where the first unit is none.
-pub fn long_end(s: &[u16], from: usize, p: u16, q: u16, r: u16) -> usize
-    requires { from ≤ length s.now }
-    ensures within { result ≤ length s.now }
-    ensures onward { from ≤ result }
-    ensures plain { (k : ℕ) → from ≤ k → k < result → is_plain_but p q r (slice_index s.now k) ≡ true }
+/// How many of the four units from `from` on stand before the first that is no letter.
+#[inline(always)]
+fn letters_of_four(s: &[u16], from: usize) -> usize
+    requires { from + 4 ≤ length s.now }
+    ensures few { result ≤ 4 }
+    ensures named { (k : ℕ) → from ≤ k → k < from + result → is_further_of (slice_index s.now k) ≡ true }
 {
-    if from < s.len() && is_special(s[from], p, q, r) {
-        return from;
-    }
-    let mut n = from;
-    while s.len() - n >= 8 {
-        if !is_plain_block(s, n, p, q, r) {
+    let mut count = 0;
+    while count < 4 {
+        if !is_letter(s[from + count]) {
             break;
         }
-        n += 8;
+        count += 1;
     }
-    while n < s.len() {
-        if is_special(s[n], p, q, r) {
-            break;
-        }
-        n += 1;
-    }
-    n
-}
-
-/// The end of a run of units from `from` on none of which is special. Short runs are most of them, and end before a block
-/// is looked at.
-#[inline(always)]
-pub fn plain_end(s: &[u16], from: usize, p: u16, q: u16, r: u16) -> usize
-    requires { from ≤ length s.now }
-    ensures within { result ≤ length s.now }
-    ensures onward { from ≤ result }
-    ensures plain { (k : ℕ) → from ≤ k → k < result → is_plain_but p q r (slice_index s.now k) ≡ true }
-{
-    let end = end_within(s, from, SHORT_RUN);
-    let mut n = from;
-    while n < end {
-        if is_special(s[n], p, q, r) {
-            return n;
-        }
-        n += 1;
-    }
-    long_end(s, n, p, q, r)
-}
-
-/// That place, or the end of the units.
-#[inline(always)]
-fn place_within(s: &[u16], place: usize) -> usize
-    ensures within { result ≤ length s.now }
-    ensures before { result ≤ place }
-{
-    if s.len() <= place { s.len() } else { place }
+    count
 }
 
 /// The end of a run of letters from `from` on, before `end`.
 #[inline(always)]
 fn letters_end(s: &[u16], from: usize, end: usize) -> usize
-    requires from { from ≤ length s.now }
+    requires from { from ≤ end }
     requires end { end ≤ length s.now }
-    ensures within { result ≤ length s.now }
+    ensures within { result ≤ end }
     ensures onward { from ≤ result }
-    ensures before { result ≤ from + (end - from) }
     ensures named { (k : ℕ) → from ≤ k → k < result → is_further_of (slice_index s.now k) ≡ true }
 {
     let mut n = from;
-    while n < end {
+    'fours: while end - n >= 4 {
+        let count = letters_of_four(s, n);
+        n += count;
+        if count < 4 {
+            return n;
+        }
+    }
+    'last: while n < end {
         if !is_letter(s[n]) {
             break;
         }
@@ -125,15 +214,16 @@ fn letters_end(s: &[u16], from: usize, end: usize) -> usize
     n
 }
 
-/// The end of a run of units from `from` on that names go on with, before `last`. Letters are most of them.
-pub fn name_end(s: &[u16], from: usize, last: usize) -> usize
+/// The end of a run of at most so many units from `from` on that names go on with. Letters are most of them.
+#[inline(always)]
+pub fn name_end(s: &[u16], from: usize, most: usize) -> usize
     requires { from ≤ length s.now }
     ensures within { result ≤ length s.now }
     ensures onward { from ≤ result }
-    ensures before { result ≤ from + (last - from) }
+    ensures before { result ≤ from + most }
     ensures named { (k : ℕ) → from ≤ k → k < result → is_further_of (slice_index s.now k) ≡ true }
 {
-    let end = place_within(s, last);
+    let end = end_within(s, from, most);
     let mut n = letters_end(s, from, end);
     while n < end {
         if !is_further_unit(s[n]) {

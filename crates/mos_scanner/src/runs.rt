@@ -1,16 +1,13 @@
 //! Reading runs of characters at once.
-ghost use Rattle.std.specs.Prelude.{◌≡◌, ◌≤◌, ◌+◌, length, IfOk, true};
+ghost use Rattle.std.specs.Prelude.{◌≡◌, ◌≤◌, length, IfOk, true};
 ghost use Rattle.mos_fields.specs.Raw.{is_quote as is_quote_of};
 ghost use Rattle.mos_scanner.specs.Runs.{IsRun};
-ghost use Rattle.mos_scanner.specs.ScannerView.{IsSound, IsSoundAt};
+ghost use Rattle.mos_scanner.specs.ScannerView.{IsSound};
 
 use crate::mode::Mode;
-use crate::plain::{long_end, name_end, plain_end};
+use crate::plain::{tail_end, text_end, value_end};
 use crate::scanner::Scanner;
 use mos_fields::NoMemory;
-
-/// The most characters of a name.
-const NAME_LIMIT: usize = 128;
 
 /// The code unit of a quote.
 #[inline(always)]
@@ -22,7 +19,7 @@ fn quote_unit(quote: char) -> u16
 }
 
 impl Scanner {
-    /// Reads on in a text, a value, a name or the rest of a raw element.
+    /// Reads on in a text, a value or the rest of a raw element.
     fn skip_plain(&mut self, held: &[u16], here: usize) -> Result<usize, NoMemory>
         requires within { here ≤ length held.now }
         requires sound { IsSound self.old held.now here }
@@ -30,25 +27,29 @@ impl Scanner {
     {
         match self.mode {
             Mode::InText => {
-                let next = plain_end(held, here, 60, 38, 38);
+                let next = text_end(held, here);
                 self.grow_resolved(held, here, next)?;
                 Ok(next)
             }
-            Mode::InTail => Ok(long_end(held, here, 62, 62, 62)),
+            Mode::InTail => Ok(tail_end(held, here)),
             Mode::InValue => {
-                let next = plain_end(held, here, quote_unit(self.quote), 38, 60);
+                let next = value_end(held, here, quote_unit(self.quote));
                 self.grow_resolved(held, here, next)?;
                 Ok(next)
-            }
-            Mode::StartName => Ok(name_end(held, here, name_limit(held, self.start + 1))),
-            Mode::EndName => {
-                if here - self.start > 2 {
-                    Ok(name_end(held, here, name_limit(held, self.start + 2)))
-                } else {
-                    Ok(here)
-                }
             }
             _ => Ok(here),
+        }
+    }
+
+    /// Reads on behind the first character of a token.
+    fn skip_on(&mut self, held: &[u16], here: usize) -> Result<usize, NoMemory>
+        requires within { here ≤ length held.now }
+        requires sound { IsSound self.old held.now here }
+        ensures { IfOk result (λ next. IsRun self.old self.new held.now here next) }
+    {
+        match self.mode {
+            Mode::InTag => Ok(self.skip_tag(held, here)),
+            _ => self.skip_plain(held, here),
         }
     }
 
@@ -62,16 +63,7 @@ impl Scanner {
         requires sound { IsSound self.old held.now here }
         ensures { IfOk result (λ next. IsRun self.old self.new held.now here next) }
     {
-        let begun = self.skip_start(held, here);
-        self.skip_plain(held, begun)
+        let begun = self.skip_begin(held, here);
+        self.skip_on(held, begun)
     }
-}
-
-/// Where a name ends at the latest that begins at this place.
-#[inline(always)]
-fn name_limit(held: &[u16], begin: usize) -> usize
-    requires { begin ≤ length held.now }
-    ensures { result ≡ begin + 128 }
-{
-    begin + NAME_LIMIT
 }

@@ -1,11 +1,12 @@
 //! Reading the beginnings of tokens at once.
-ghost use Rattle.std.specs.Prelude.{◌≡◌, ◌≤◌, length};
+ghost use Rattle.std.specs.Prelude.{◌≡◌, ◌+◌, ◌≤◌, length};
 ghost use Rattle.mos_fields.specs.Names.{is_start as is_start_of};
 ghost use Rattle.mos_scanner.specs.Runs.{IsRun};
 ghost use Rattle.mos_scanner.specs.ScannerView.{IsSound};
+ghost use Rattle.mos_scanner.specs.declared.mode.Mode.TheVariants.{EndName, InTag};
 
 use crate::mode::Mode;
-use crate::plain::is_plain;
+use crate::plain::{is_plain, name_end};
 use crate::scanner::Scanner;
 
 /// What a name begins with.
@@ -16,9 +17,12 @@ fn is_start_unit(u: u16) -> bool
     u >= 97 && u <= 122 || u >= 65 && u <= 90 || u == 95
 }
 
+/// A name has so many characters at most behind its first.
+const FURTHER_LIMIT: usize = 127;
+
 impl Scanner {
     /// Reads the `<` that begins a tag, or the character that begins a text and stands for itself.
-    fn skip_begin(&mut self, held: &[u16], here: usize) -> usize
+    pub(crate) fn skip_begin(&mut self, held: &[u16], here: usize) -> usize
         requires within { here ≤ length held.now }
         requires sound { IsSound self.old held.now here }
         ensures { IsRun self.old self.new held.now here result }
@@ -42,59 +46,41 @@ impl Scanner {
         }
     }
 
-    /// Reads the character behind `<`: the `/` of an end tag, or what begins the name of another tag.
-    fn skip_mark(&mut self, held: &[u16], here: usize) -> usize
+    /// Reads the name of an end tag behind its `</`, as much of it as is held.
+    fn skip_end_name(&self, held: &[u16], here: usize) -> usize
         requires within { here ≤ length held.now }
-        requires sound { IsSound self.old held.now here }
-        ensures { IsRun self.old self.new held.now here result }
+        requires mode { (self.now).mode ≡ EndName }
+        requires sound { IsSound self.now held.now here }
+        requires begun { (self.now).start + 2 ≡ here }
+        ensures { IsRun self.now self.now held.now here result }
     {
-        match self.mode {
-            Mode::InTag => {
-                if here >= held.len() {
-                    here
-                } else if held[here] == 47 {
-                    self.mode = Mode::EndName;
-                    here + 1
-                } else if is_start_unit(held[here]) {
-                    self.attributes.clear();
-                    self.mode = Mode::StartName;
-                    here + 1
-                } else {
-                    here
-                }
-            }
-            _ => here,
+        if here >= held.len() {
+            here
+        } else if is_start_unit(held[here]) {
+            name_end(held, here + 1, FURTHER_LIMIT)
+        } else {
+            here
         }
     }
 
-    /// Reads what begins the name of an end tag.
-    fn skip_end_start(&mut self, held: &[u16], here: usize) -> usize
+    /// Reads what stands behind the `<` of a tag: the `/` of an end tag, and the name, as much of it as is held.
+    pub(crate) fn skip_tag(&mut self, held: &[u16], here: usize) -> usize
         requires within { here ≤ length held.now }
+        requires mode { (self.old).mode ≡ InTag }
         requires sound { IsSound self.old held.now here }
         ensures { IsRun self.old self.new held.now here result }
     {
-        match self.mode {
-            Mode::EndName => {
-                if here >= held.len() {
-                    here
-                } else if here - self.start == 2 && is_start_unit(held[here]) {
-                    here + 1
-                } else {
-                    here
-                }
-            }
-            _ => here,
+        if here >= held.len() {
+            here
+        } else if held[here] == 47 {
+            self.mode = Mode::EndName;
+            self.skip_end_name(held, here + 1)
+        } else if is_start_unit(held[here]) {
+            self.attributes.clear();
+            self.mode = Mode::StartName;
+            name_end(held, here + 1, FURTHER_LIMIT)
+        } else {
+            here
         }
-    }
-
-    /// Reads the first characters of a token, behind each of which it goes on. It is the same as a step for each of them.
-    pub(crate) fn skip_start(&mut self, held: &[u16], here: usize) -> usize
-        requires within { here ≤ length held.now }
-        requires sound { IsSound self.old held.now here }
-        ensures { IsRun self.old self.new held.now here result }
-    {
-        let begun = self.skip_begin(held, here);
-        let marked = self.skip_mark(held, begun);
-        self.skip_end_start(held, marked)
     }
 }

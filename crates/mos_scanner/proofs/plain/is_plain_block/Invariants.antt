@@ -1,6 +1,0 @@
-use Rattle.std.proofs.Common.{◌≡◌, ℕ, ◌<◌, ◌≤◌, true, false, get_or}
-use Rattle.mos_scanner.specs.Runs.{is_plain_but}
-use Rattle.mos_scanner.proofs.plain.is_plain_block.Given as goal
-
-abbrev pub invariant-loop-k : goal.invariant-loop-k
-invariant-loop-k l = l.hit ≡ false → (j : ℕ) → l.from ≤ j → j < l.k → is_plain_but l.p l.q l.r (get_or l.s j 0) ≡ true
