@@ -1,6 +1,8 @@
 -- The parts of all columns, one after another.
-use Rattle.std.proofs.Common.{◌≡◌, true, false, List, [], ◌∷◌, ◌++◌, length, refl, sym, ap, subst, ◌∙◌, append_assoc, arith}
-use Rattle.std.proofs.lemmas.List.{append-nil}
+use Rattle.std.proofs.Common.{◌≡◌, ℕ, suc, ◌+◌, ◌<◌, ◌≤◌, true, false, take, drop, List, [], ◌∷◌, ◌++◌, length, refl, sym, ap, subst, ◌∙◌, append_assoc, arith}
+use Rattle.std.proofs.Math.ListN.{set}
+use Rattle.std.proofs.Math.Seq.{take-length, take-suc-set}
+use Rattle.std.proofs.lemmas.List.{append-nil, length-set, at_drop_all}
 use Rattle.mos_fields.specs.Characters.{Text}
 use Rattle.mos_fields.specs.Fields.{same_field}
 use Rattle.mos_fields.specs.declared.field.Field.TheVariants as fields
@@ -12,48 +14,78 @@ use Rattle.mos_cursor.specs.Parts.{raws, parts_events, places, kept_column}
 use Rattle.mos_cursor.specs.Accepted.{IsAccepted, AllFit}
 use Rattle.mos_cursor.specs.Taking.{raws_taken, raws_left, Takes, TakesAll}
 use Rattle.mos_cursor.specs.declared.slot.Slot.{Slot}
-use Rattle.mos_cursor.specs.declared.slot.Slot.TheVariants as slots
+use Rattle.mos_cursor.specs.declared.slot.Slot.TheVariants as variants
 use Rattle.mos_cursor.specs.Slots.{part_of, parts_of, Filled}
 use Rattle.mos_cursor.proofs.Taken.{taken_fits}
 
-pub filled_none : (e : List Event) (before : List Slot) → Filled [] e before before e
-filled_none e before = record { more = []; slots = sym (append-nil before); taken = refl }
+-- What is taken from here on, behind the slots so far, is what is taken from the start.
+pub record FilledSoFar (cs : List Column) (start now : List Event) (slots : List Slot) (i at : ℕ) : Type 0 where
+  pub so_far : (ss : List Slot) (r : List Event) → TakesAll (places (drop i cs)) now (parts_of ss) r → TakesAll (places cs) start (parts_of (take at slots ++ ss)) r
+  pub room : at + length (places (drop i cs)) ≡ length slots
 
-pub filled_one : (c : Column) (cs : List Column) (old mid new : List Event) (before after : List Slot) (s : Slot) → Takes c old (part_of s) mid → same_field c.field fields.Metadata ≡ false → Filled cs mid (before ++ s ∷ []) after new → Filled (c ∷ cs) old before after new
-filled_one c cs old mid new before after s t e f = record {
-  more = s ∷ f.more;
-  slots = f.slots ∙ append_assoc before (s ∷ []) f.more;
-  taken = subst (λ (p : List Column). TakesAll p old (parts_of (s ∷ f.more)) new) (sym q) (mid, t, f.taken);
+pub fill_start : (cs : List Column) (start : List Event) (slots : List Slot) → length slots ≡ length (places cs) → FilledSoFar cs start start slots 0 0
+fill_start cs start slots e = record { so_far = λ ss r w. w; room = omega (arith, e) }
+
+-- the slots up to one that was filled
+one_more : (slots : List Slot) (at : ℕ) (s : Slot) (ss : List Slot) → at < length slots → take (suc at) (set slots at s) ++ ss ≡ take at slots ++ s ∷ ss
+one_more slots at s ss h = ap (λ (z : List Slot). z ++ ss) (take-suc-set slots at s h) ∙ append_assoc (take at slots) (s ∷ []) ss
+
+pub fill_one : (cs : List Column) (start now next : List Event) (slots : List Slot) (i at : ℕ) (c : Column) (s : Slot) → FilledSoFar cs start now slots i at → drop i cs ≡ c ∷ drop (suc i) cs → same_field c.field fields.Metadata ≡ false → Takes c now (part_of s) next
+    → FilledSoFar cs start next (set slots at s) (suc i) (suc at)
+fill_one cs start now next slots i at c s f d e t = record {
+  so_far = λ ss r w.
+      subst (λ (z : List Slot). TakesAll (places cs) start (parts_of z) r) (sym (one_more slots at s ss within)) (f.so_far (s ∷ ss) r (subst (λ (p : List Column). TakesAll p now (parts_of (s ∷ ss)) r) (sym q) (next, t, w)));
+  room = omega (arith, f.room, counted, length-set slots at s);
 }
   where
-    q : places (c ∷ cs) ≡ c ∷ places cs
-    q = rw e refl
+    q : places (drop i cs) ≡ c ∷ places (drop (suc i) cs)
+    q = ap places d ∙ rw e refl
 
-pub filled_two : (c : Column) (cs : List Column) (old mid last new : List Event) (before after : List Slot) (s : Slot) (xs : List Text) → Takes c old (part_of s) mid → same_field c.field fields.Metadata ≡ true
-    → xs ≡ raws_taken fields.Kept mid → last ≡ raws_left fields.Kept mid → Filled cs last ((before ++ s ∷ []) ++ slots.Raws xs ∷ []) after new → Filled (c ∷ cs) old before after new
-filled_two c cs old mid last new before after s xs t e k l f = record {
-  more = s ∷ slots.Raws xs ∷ f.more;
-  slots = f.slots ∙ append_assoc (before ++ s ∷ []) (slots.Raws xs ∷ []) f.more ∙ append_assoc before (s ∷ []) (slots.Raws xs ∷ f.more);
-  taken = subst (λ (p : List Column). TakesAll p old (parts_of (s ∷ slots.Raws xs ∷ f.more)) new) (sym q) (mid, t, (last, record { taken = (ap raws k, l) }, f.taken));
+    counted : length (places (drop i cs)) ≡ suc (length (places (drop (suc i) cs)))
+    counted = ap length q
+
+    within : at < length slots
+    within = omega (arith, f.room, counted)
+
+pub fill_two : (cs : List Column) (start now mid next : List Event) (slots : List Slot) (i at : ℕ) (c : Column) (s : Slot) (xs : List Text) → FilledSoFar cs start now slots i at → drop i cs ≡ c ∷ drop (suc i) cs → same_field c.field fields.Metadata ≡ true
+    → Takes c now (part_of s) mid → xs ≡ raws_taken fields.Kept mid → next ≡ raws_left fields.Kept mid
+    → FilledSoFar cs start next (set (set slots at s) (suc at) (variants.Raws xs)) (suc i) (suc (suc at))
+fill_two cs start now mid next slots i at c s xs f d e t k l = record {
+  so_far = λ ss r w.
+      subst (λ (z : List Slot). TakesAll (places cs) start (parts_of z) r) (sym (one_more (set slots at s) (suc at) (variants.Raws xs) ss within_set ∙ one_more slots at s (variants.Raws xs ∷ ss) within))
+      (f.so_far (s ∷ variants.Raws xs ∷ ss) r (subst (λ (p : List Column). TakesAll p now (parts_of (s ∷ variants.Raws xs ∷ ss)) r) (sym q) (mid, t, (next, record { taken = (ap raws k, l) }, w))));
+  room = omega (arith, f.room, counted, length-set slots at s, length-set (set slots at s) (suc at) (variants.Raws xs));
 }
   where
-    q : places (c ∷ cs) ≡ c ∷ kept_column ∷ places cs
-    q = rw e refl
+    q : places (drop i cs) ≡ c ∷ kept_column ∷ places (drop (suc i) cs)
+    q = ap places d ∙ rw e refl
 
-fit_length : (t : Table) (cs : List Column) (ss : List Slot) → AllFit t cs (parts_of ss) → length ss ≡ length cs
-fit_length t [] [] h = refl
-fit_length t [] (s ∷ ss) h = absurd h
-fit_length t (c ∷ cs) [] h = absurd h
-fit_length t (c ∷ cs) (s ∷ ss) h = omega (arith, fit_length t cs ss h.1)
+    counted : length (places (drop i cs)) ≡ suc (suc (length (places (drop (suc i) cs))))
+    counted = ap length q
 
-pub filled_fits : (t : Table) (taken : List Text) (es : List Event) (ss : List Slot) (r : List Event) → is_ack t ≡ false → IsAccepted t taken es → Filled (columns t) es [] ss r → AllFit t (places (columns t)) (parts_of ss)
-filled_fits t taken es ss r k a f = subst (λ (z : List Slot). AllFit t (places (columns t)) (parts_of z)) (sym f.slots) (taken_fits t taken es (parts_of f.more) r k a f.taken).0
+    within : at < length slots
+    within = omega (arith, f.room, counted)
 
-pub filled_events : (t : Table) (taken : List Text) (es : List Event) (ss : List Slot) (r : List Event) → is_ack t ≡ false → IsAccepted t taken es → Filled (columns t) es [] ss r → es ≡ parts_events (places (columns t)) (parts_of ss)
-filled_events t taken es ss r k a f = (taken_fits t taken es (parts_of f.more) r k a f.taken).1 ∙ ap (λ (z : List Slot). parts_events (places (columns t)) (parts_of z)) (sym f.slots)
+    within_set : suc at < length (set slots at s)
+    within_set = omega (arith, f.room, counted, length-set slots at s)
 
-pub filled_length : (t : Table) (taken : List Text) (es : List Event) (ss : List Slot) (r : List Event) → is_ack t ≡ false → IsAccepted t taken es → Filled (columns t) es [] ss r → length ss ≡ length (places (columns t))
-filled_length t taken es ss r k a f = fit_length t (places (columns t)) ss (filled_fits t taken es ss r k a f)
+pub fill_end : (cs : List Column) (start now : List Event) (slots : List Slot) (i at : ℕ) → FilledSoFar cs start now slots i at → length cs ≤ i → Filled cs start slots now
+fill_end cs start now slots i at f h = record { taken = subst (λ (z : List Slot). TakesAll (places cs) start (parts_of z) now) whole (f.so_far [] now (subst (λ (p : List Column). TakesAll (places p) now [] now) (sym d) refl)) }
+  where
+    d : drop i cs ≡ []
+    d = at_drop_all (λ (z : List Column). z) cs i h
 
-pub filled_here : (t : Table) (cs : List Column) (es : List Event) (before ss : List Slot) (r : List Event) → cs ≡ columns t → before ≡ [] → Filled cs es before ss r → Filled (columns t) es [] ss r
-filled_here t cs es before ss r e b f = subst (λ (z : List Column). Filled z es [] ss r) e (subst (λ (z : List Slot). Filled cs es z ss r) b f)
+    all : at ≡ length slots
+    all = omega (arith, f.room, ap (λ (z : List Column). length (places z)) d)
+
+    whole : take at slots ++ [] ≡ slots
+    whole = append-nil (take at slots) ∙ ap (λ (z : ℕ). take z slots) all ∙ take-length slots
+
+pub filled_fits : (t : Table) (taken : List Text) (es : List Event) (ss : List Slot) (r : List Event) → is_ack t ≡ false → IsAccepted t taken es → Filled (columns t) es ss r → AllFit t (places (columns t)) (parts_of ss)
+filled_fits t taken es ss r k a f = (taken_fits t taken es (parts_of ss) r k a f.taken).0
+
+pub filled_events : (t : Table) (taken : List Text) (es : List Event) (ss : List Slot) (r : List Event) → is_ack t ≡ false → IsAccepted t taken es → Filled (columns t) es ss r → es ≡ parts_events (places (columns t)) (parts_of ss)
+filled_events t taken es ss r k a f = (taken_fits t taken es (parts_of ss) r k a f.taken).1
+
+pub filled_here : (t : Table) (cs : List Column) (es : List Event) (ss : List Slot) (r : List Event) → cs ≡ columns t → Filled cs es ss r → Filled (columns t) es ss r
+filled_here t cs es ss r e f = subst (λ (z : List Column). Filled z es ss r) e f

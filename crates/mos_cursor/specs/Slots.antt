@@ -1,5 +1,5 @@
 -- Parts in memory.
-use Rattle.std.specs.Prelude.{List, map, Option, Some, None, ◌≡◌, ◌++◌}
+use Rattle.std.specs.Prelude.{List, map, Option, Some, None}
 use Rattle.mos_tables.specs.declared.column.Column.{Column}
 use Rattle.mos_tables.specs.Events.{Event}
 use Rattle.mos_cursor.specs.Taking.{TakesAll}
@@ -34,8 +34,6 @@ abbrev pub nested_part : Option Nested → Part
 nested_part None = absent
 nested_part (Some r) = one_record (record_of r)
 
--- These slots were added, which are the parts of the columns.
-pub record Filled (cs : List Column) (old : List Event) (before after : List Slot) (new : List Event) : Type 0 where
-  pub more : List Slot
-  pub slots : after ≡ before ++ more
-  pub taken : TakesAll (places cs) old (parts_of more) new
+-- These slots are the parts of the columns.
+pub record Filled (cs : List Column) (old : List Event) (slots : List Slot) (new : List Event) : Type 0 where
+  pub taken : TakesAll (places cs) old (parts_of slots) new

@@ -1,6 +1,7 @@
 //! Events that are still to be read.
-ghost use Rattle.std.specs.Prelude.{◌≡◌, List, [], ◌∷◌, ◌++◌, reverse, MatchOption, IfOk, length, true};
+ghost use Rattle.std.specs.Prelude.{◌≡◌, ◌+◌, ◌-◌, ◌^◌, ◌<◌, ◌≤◌, List, [], ◌∷◌, ◌++◌, reverse, take, drop, MatchOption, IfOk, IfSome, length, true};
 ghost use Rattle.std.specs.Option.{option_copied};
+ghost use Rattle.mos_tables.specs.Events.{Event as Event_};
 ghost use Rattle.mos_events.specs.EventView.{event_of, events_of, element_text};
 ghost use Rattle.mos_fields.specs.Fields.{name_of, number_of, same, same_field};
 ghost use Rattle.mos_cursor.specs.Taking.{begins_leaf, begins_raw, begins_record, begins_message, inner_of, behind_of};
@@ -9,6 +10,7 @@ use mos_events::{ElementName, Event, Events};
 use mos_fields::{Field, NoMemory};
 use std::alloc::Global;
 use std::marker::Model;
+use std::mem::replace;
 
 /// The events of a record that are still to be read. Reading them moves their texts out.
 #[derive(Drop)]
@@ -64,6 +66,38 @@ pub(crate) fn is_named(name: ElementName, field: Field) -> bool
     ensures { result ≡ same (element_text name) (name_of field) }
 {
     is_own(name, field) || have_one_text(name, field)
+}
+
+/// Inside how many further records the events behind this one stand, where it stands inside so many; `None` if it is the
+/// end of the record.
+fn depth_behind(event: &Event, depth: usize) -> Option<usize>
+    requires { depth < 2 ^ 63 }
+    ensures inner { (es : List Event_) → MatchOption result (inner_of depth (event_of event.now ∷ es) ≡ []) (λ d. inner_of depth (event_of event.now ∷ es) ≡ event_of event.now ∷ inner_of d es) }
+    ensures behind { (es : List Event_) → MatchOption result (behind_of depth (event_of event.now ∷ es) ≡ es) (λ d. behind_of depth (event_of event.now ∷ es) ≡ behind_of d es) }
+    ensures next { IfSome result (λ d. d ≤ depth + 1) }
+{
+    match event {
+        Event::Opens { .. } => Some(depth + 1),
+        Event::Closes { .. } => { if depth == 0 { None } else { Some(depth - 1) } }
+        Event::Leaf { .. } | Event::Raw { .. } => Some(depth),
+    }
+}
+
+/// How many of the events, of which the next one is the last, are left at the end of the record that they stand in, with
+/// that end; 0 if it is not there.
+fn left_with_end(rest: &[Event], depth: usize) -> usize
+    requires { depth + length rest.now < 2 ^ 63 }
+    ensures within { result ≤ length rest.now }
+    ensures inner { inner_of depth (reverse (events_of rest.now)) ≡ reverse (events_of (drop result rest.now)) }
+    ensures behind { behind_of depth (reverse (events_of rest.now)) ≡ reverse (events_of (take (result - 1) rest.now)) }
+{
+    match rest {
+        [] => 0,
+        [front @ .., event] => match depth_behind(event, depth) {
+            Some(next) => left_with_end(front, next),
+            None => rest.len(),
+        },
+    }
 }
 
 impl Cursor {
@@ -134,25 +168,16 @@ impl Cursor {
     pub(crate) fn take_inner(&mut self, alloc: Global) -> Result<Cursor, NoMemory>
         ensures { IfOk result (λ c. (c ≡ inner_of 0 self.old) × (self.new ≡ behind_of 0 self.old)) }
     {
-        let mut inner = Vec::new(alloc);
-        let mut depth = 0usize;
-        while let Some(event) = self.rest.pop() {
-            match event {
-                Event::Closes { name } => {
-                    if depth == 0 {
-                        break;
-                    }
-                    inner.push(Event::Closes { name })?;
-                    depth -= 1;
-                }
-                Event::Opens { name, attribute } => {
-                    inner.push(Event::Opens { name, attribute })?;
-                    depth += 1;
-                }
-                event => inner.push(event)?,
+        let left = left_with_end(&self.rest, 0);
+        if left < 2 {
+            let mut inner = replace(&mut self.rest, Vec::new(alloc));
+            if left == 1 {
+                let _end = inner.remove(0);
             }
+            return Ok(Cursor { rest: inner });
         }
-        inner.reverse();
+        let inner = self.rest.split_off(left)?;
+        let _end = self.rest.pop();
         Ok(Cursor { rest: inner })
     }
 }

@@ -1,5 +1,5 @@
 //! The parts of a record.
-ghost use Rattle.std.specs.Prelude.{◌≡◌, List, IfOk, OnOk, length, true, false};
+ghost use Rattle.std.specs.Prelude.{◌≡◌, ◌<◌, List, IfOk, OnOk, length, slice_set, true, false};
 ghost use Rattle.mos_fields.specs.Characters.{Text};
 ghost use Rattle.mos_fields.specs.Fields.{same_field};
 ghost use Rattle.mos_fields.specs.declared.field.Field.TheVariants.{Metadata as metadata_field};
@@ -17,6 +17,7 @@ use crate::take::{
 use mos_fields::{Field, NoMemory};
 use mos_tables::{Column, Often, Shape, Table};
 use std::alloc::Global;
+use std::array::from_fn;
 
 /// Whether at most one element of the column stands in a record.
 fn is_single(often: Often) -> bool
@@ -56,36 +57,45 @@ fn take_slot(alloc: Global, cursor: &mut Cursor, column: Column) -> Result<Slot,
     }
 }
 
-/// Adds the parts of these columns to those before.
-#[tactic(auto, using(crate::proofs::Fill::filled_none, crate::proofs::Fill::filled_one, crate::proofs::Fill::filled_two))]
+/// Puts a slot in its place.
+fn put(slots: &mut [Slot], at: usize, slot: Slot)
+    requires { at < length slots.old }
+    ensures { slots.new ≡ slice_set slots.old at slot }
+{
+    slots[at] = slot;
+}
+
+/// Fills the slots with the parts of these columns, one for each of their places.
+#[tactic(auto, using(crate::proofs::Fill::fill_start, crate::proofs::Fill::fill_one, crate::proofs::Fill::fill_two, crate::proofs::Fill::fill_end))]
 fn fill(
     alloc: Global,
     cursor: &mut Cursor,
     columns: &[Column],
-    slots: &mut Vec<Slot>,
+    slots: &mut [Slot],
 ) -> Result<(), NoMemory>
-    ensures { OnOk result (Filled columns.now cursor.old slots.old.items slots.new.items cursor.new) }
+    requires { length slots.old ≡ length (places columns.now) }
+    ensures { OnOk result (Filled columns.now cursor.old slots.new cursor.new) }
 {
-    match columns {
-        [] => Ok(()),
-        [column, rest @ ..] => {
-            let slot = take_slot(alloc, cursor, *column)?;
-            slots.push(slot)?;
-            if !is_field(column.field, Field::Metadata) {
-                return fill(alloc, cursor, rest, slots);
-            }
+    let mut at = 0;
+    for column in columns {
+        let slot = take_slot(alloc, cursor, *column)?;
+        put(slots, at, slot);
+        at += 1;
+        if is_field(column.field, Field::Metadata) {
             let kept = take_raws(alloc, cursor, Field::Kept)?;
-            slots.push(Slot::Raws(kept))?;
-            fill(alloc, cursor, rest, slots)
+            put(slots, at, Slot::Raws(kept));
+            at += 1;
         }
     }
+    Ok(())
 }
 
 /// The parts of a record of this table, one for each of its places: its columns, and behind mosExternalMetadata the
 /// elements that the table does not name. The texts move out of the cursor.
 ///
 /// The only error is that memory runs out.
-#[tactic(auto, using(crate::proofs::Fill::filled_fits, crate::proofs::Fill::filled_events, crate::proofs::Fill::filled_length))]
+#[inline(always)]
+#[tactic(auto, using(crate::proofs::Fill::filled_fits, crate::proofs::Fill::filled_events))]
 pub fn record_slots<const N: usize>(
     alloc: Global,
     table: Table,
@@ -97,10 +107,7 @@ pub fn record_slots<const N: usize>(
     ensures fit { IfOk result (λ s. AllFit table (places (columns_of table)) (parts_of s)) }
     ensures events { IfOk result (λ s. cursor ≡ parts_events (places (columns_of table)) (parts_of s)) }
 {
-    let mut slots = Vec::with_capacity(alloc, N)?;
+    let mut slots: [Slot; N] = from_fn(|_| Slot::Absent);
     fill(alloc, &mut cursor, table.columns(), &mut slots)?;
-    match <[Slot; N]>::try_from(slots) {
-        Ok(slots) => Ok(slots),
-        Err(_) => unreachable!(),
-    }
+    Ok(slots)
 }

@@ -33,6 +33,7 @@ fn inner_of(events: Events) -> Cursor
 }
 
 /// The envelope of these parts. The only error is that memory runs out.
+#[inline(always)]
 #[tactic(auto, unfolding(mos_values::specs::MessageViews::envelope_events))]
 fn envelope_with(
     alloc: Global,
@@ -61,6 +62,7 @@ fn envelope_with(
 }
 
 /// The envelope of the events inside its element.
+#[inline(always)]
 fn envelope_inside(alloc: Global, inner: Cursor) -> Result<Envelope, NoMemory>
     requires { IsAccepted tables.Envelope [] inner }
     ensures events { IfOk result (λ e. envelope_events e ≡ element mos_name inner) }
@@ -75,6 +77,7 @@ fn envelope_inside(alloc: Global, inner: Cursor) -> Result<Envelope, NoMemory>
 ///
 /// The events have to be those of a whole message, as a reader hands them out: `encoded_message` says that the events
 /// of every encoding are. The only error is that memory runs out.
+#[inline(always)]
 pub fn envelope_of(alloc: Global, events: Events) -> Result<Envelope, NoMemory>
     requires { IsMessageValue events }
     ensures events { IfOk result (λ e. envelope_events e ≡ events) }
