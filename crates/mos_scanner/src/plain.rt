@@ -113,7 +113,7 @@ pub fn text_end(s: &[u16], from: usize) -> usize
     long_text_end(s, from)
 }
 
-/// The end of a run of units of the rest of a raw element, looked at in blocks where the first unit is none of it.
+/// The end of a run of units of the rest of a raw element, looked at in blocks unless it has no unit.
 pub fn tail_end(s: &[u16], from: usize) -> usize
     requires { from ≤ length s.now }
     ensures within { result ≤ length s.now }
