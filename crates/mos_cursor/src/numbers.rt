@@ -67,7 +67,7 @@ fn time_of_any_form(alloc: Global, text: &Text) -> Result<MosTime, NoMemory>
     }
 }
 
-/// The time of a canonical text. A plain one, which is what most systems send, needs no memory.
+/// The time of a canonical text. A plain one needs no memory.
 fn time_of(alloc: Global, text: Text) -> Result<MosTime, NoMemory>
     requires { reads forms.Time [] text ≡ Some text }
     ensures { IfOk result (λ t. time_text t ≡ text) }

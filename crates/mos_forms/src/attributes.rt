@@ -63,7 +63,7 @@ fn operation_in_chars(alloc: Global, value: &Text) -> Result<Operation, NoMemory
     Ok(operation_of(trimmed(&chars)))
 }
 
-/// The operation that a text names. Most texts are one with no white space round it, which need no memory.
+/// The operation that a text names. With no white space round it, that needs no memory.
 #[tactic(auto, using(crate::proofs::PlainLemmas::plain_operation))]
 fn operation_in_text(alloc: Global, value: &Text) -> Result<Operation, NoMemory>
     ensures { IfOk result (λ o. o ≡ operation_of_lem (inner value.now)) }
@@ -97,7 +97,7 @@ fn known_in_chars(
     Ok(find_known(values_for(field), trimmed(&chars)))
 }
 
-/// The attribute that a text is. Most texts are one with no white space round it, which need no memory.
+/// The attribute that a text is. With no white space round it, that needs no memory.
 #[tactic(auto, using(crate::proofs::PlainLemmas::plain_known))]
 fn known_in_text(
     alloc: Global,

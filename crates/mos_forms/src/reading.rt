@@ -194,7 +194,7 @@ fn read_trimmed(alloc: Global, form: Form, text: Text) -> Result<Option<Text>, N
     text_of_option(alloc, canonical(form, &chars), text, &chars)
 }
 
-/// What a number of samples is written as. Plain digits, which are what most systems send, are kept and need no memory.
+/// What a number of samples is written as. Plain digits are kept as they are, and need no memory.
 #[tactic(auto, using(crate::proofs::NumberLemmas::plain_samples))]
 fn read_samples(alloc: Global, text: Text) -> Result<Option<Text>, NoMemory>
     ensures { IfOk result (λ o. o ≡ reads Form.Samples [] text) }
@@ -206,7 +206,7 @@ fn read_samples(alloc: Global, text: Text) -> Result<Option<Text>, NoMemory>
     }
 }
 
-/// What a time is written as. A plain one, which is what most systems send, is kept as it is and needs no memory.
+/// What a time is written as. A plain one is kept as it is, and needs no memory.
 #[tactic(auto, using(mos_times::proofs::TextLemmas::plain_kept))]
 fn read_time(alloc: Global, text: Text) -> Result<Option<Text>, NoMemory>
     ensures { IfOk result (λ o. o ≡ reads Form.Time [] text) }

@@ -1,4 +1,4 @@
--- Times in the form that most systems send.
+-- Times of the form `YYYY-MM-DDThh:mm:ssZ`.
 use Rattle.std.specs.Prelude.{◌≡◌, Bool, true, ◌&&◌, codes}
 use Rattle.mos_fields.specs.declared.time.MosTime.{MosTime}
 use Rattle.mos_fields.specs.Characters.{Text}
