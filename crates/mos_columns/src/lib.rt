@@ -12,4 +12,4 @@ mod noting;
 pub use counts::{find_end_fault, find_tag};
 pub use messages::{find_message, message_table};
 pub use names::is_name;
-pub use noting::{may_grow, note, start_counts};
+pub use noting::{note, restart_counts, start_counts};

@@ -34,23 +34,22 @@ fn push_zeros(columns: &[Column], out: &mut Vec<usize>) -> Result<(), NoMemory>
     }
 }
 
+/// Makes these the counts of a record that has seen no field, whatever they were. The only error is that memory runs out.
+pub fn restart_counts(columns: &[Column], counts: &mut Vec<usize>) -> Result<(), NoMemory>
+    ensures { OnOk result (counts.new.items ≡ counts_of columns.now []) }
+{
+    counts.clear();
+    counts.reserve(columns.len())?;
+    push_zeros(columns, counts)
+}
+
 /// The counts of a record that has seen no field. The only error is that memory runs out.
 pub fn start_counts(alloc: Global, columns: &[Column]) -> Result<Vec<usize>, NoMemory>
     ensures { IfOk result (λ v. v.items ≡ counts_of columns.now []) }
 {
-    let mut counts = Vec::with_capacity(alloc, columns.len())?;
-    push_zeros(columns, &mut counts)?;
+    let mut counts = Vec::new(alloc);
+    restart_counts(columns, &mut counts)?;
     Ok(counts)
-}
-
-/// Whether each count may still grow by one, so that one more field can be counted.
-pub fn may_grow(counts: &[usize]) -> bool
-    ensures { result ≡ may_grow_of counts.now }
-{
-    match counts {
-        [] => true,
-        [k, ks @ ..] => *k < usize::MAX && may_grow(ks),
-    }
 }
 
 /// The count of a column that may grow, behind a field.

@@ -1,8 +1,9 @@
 //! Memory of records that have ended, for records that begin later.
-ghost use Rattle.std.specs.Prelude.{◌≡◌, ◌++◌, [], IfOk, OnOk};
+ghost use Rattle.std.specs.Prelude.{◌≡◌, [], IfOk};
 ghost use Rattle.mos_columns.specs.Counts.{counts_of};
 
 use crate::child::Child;
+use mos_columns::restart_counts;
 use mos_fields::NoMemory;
 use mos_tables::Column;
 use std::alloc::Global;
@@ -37,18 +38,6 @@ pub fn take_spare(alloc: Global, spares: &mut Vec<Spare>) -> Spare {
     }
 }
 
-fn push_zeros(columns: &[Column], counts: &mut Vec<usize>) -> Result<(), NoMemory>
-    ensures { OnOk result (counts.new.items ≡ counts.old.items ++ counts_of columns.now []) }
-{
-    match columns {
-        [] => Ok(()),
-        [_, more @ ..] => {
-            counts.push(0)?;
-            push_zeros(more, counts)
-        }
-    }
-}
-
 impl Spare {
     /// The counts and the children of a record that begins: it has seen no field. The only error is that memory runs out.
     pub fn start(self, columns: &[Column]) -> Result<(Vec<usize>, Vec<Child>), NoMemory>
@@ -57,9 +46,7 @@ impl Spare {
     {
         let mut counts = self.counts;
         let mut before = self.before;
-        counts.clear();
-        counts.reserve(columns.len())?;
-        push_zeros(columns, &mut counts)?;
+        restart_counts(columns, &mut counts)?;
         before.clear();
         before.reserve(columns.len())?;
         Ok((counts, before))
