@@ -58,6 +58,7 @@ fn take_slot(alloc: Global, cursor: &mut Cursor, column: Column) -> Result<Slot,
 }
 
 /// Puts a slot in its place.
+#[inline(always)]
 fn put(slots: &mut [Slot], at: usize, slot: Slot)
     requires { at < length slots.old }
     ensures { slots.new ≡ slice_set slots.old at slot }
