@@ -1,2 +1,2 @@
 pub mod EncodedLemmas
-pub mod TagLemmas
+pub mod AsciiLemmas

@@ -1,7 +1,6 @@
 -- The bytes of canonical encodings.
 use Rattle.std.specs.Prelude.{ℕ, List, [], ◌∷◌, ◌++◌}
 use Rattle.mos_fields.specs.Characters.{Text, bytes_of, units_of}
-use Rattle.mos_fields.specs.Escapes.{escaped}
 use Rattle.mos_tables.specs.Events.{Event}
 use Rattle.mos_tables.specs.Canonical.{canonical}
 

@@ -11,7 +11,6 @@ ghost use Rattle.mos_values.specs.Views.{ack_status_text};
 ghost use Rattle.mos_writer.specs.Encoded.{encoded, end_bytes, in_bytes, start_bytes, start_with_bytes, word_bytes};
 
 use crate::bytes::{push_ascii, push_escaped, push_units};
-use crate::tags::{push_end, push_start};
 use crate::values::{ack_status_word, air_word, obj_type_word, push_decimal, push_time};
 use mos_fields::{Air, Field, Id, MosTime, NoMemory, ObjType, OptId, Slug, Text, Unread};
 use mos_values::{AckStatus, Piece};
@@ -21,6 +20,26 @@ pub fn push_word(out: &mut Vec<u8>, word: &str) -> Result<(), NoMemory>
     ensures { OnOk result (out.new.items ≡ out.old.items ++ in_bytes word.now) }
 {
     push_ascii(out, word.as_bytes())
+}
+
+/// Appends a start tag without attributes.
+pub fn push_start(out: &mut Vec<u8>, name: &str) -> Result<(), NoMemory>
+    ensures { OnOk result (out.new.items ≡ out.old.items ++ start_bytes name.now) }
+{
+    push_ascii(out, b"<")?;
+    push_word(out, name)?;
+    push_ascii(out, b">")?;
+    Ok(())
+}
+
+/// Appends an end tag.
+pub fn push_end(out: &mut Vec<u8>, name: &str) -> Result<(), NoMemory>
+    ensures { OnOk result (out.new.items ≡ out.old.items ++ end_bytes name.now) }
+{
+    push_ascii(out, b"</")?;
+    push_word(out, name)?;
+    push_ascii(out, b">")?;
+    Ok(())
 }
 
 fn push_front(out: &mut Vec<u8>, name: &str) -> Result<(), NoMemory>

@@ -4,15 +4,13 @@
 
 mod bytes;
 mod fields;
-mod tags;
 mod values;
 
 pub use bytes::{push_ascii, push_escaped, push_units};
 pub use fields::{
-    close, open, push_start_with, push_word, write_air, write_id, write_number, write_opt_id,
-    write_pieces, write_raw, write_slug, write_text, write_time,
+    close, open, push_end, push_start, push_start_with, push_word, write_air, write_id,
+    write_number, write_opt_id, write_pieces, write_raw, write_slug, write_text, write_time,
 };
-pub use tags::{push_end, push_start};
 pub use values::{
     answer_word, device_type_word, digit_word, level_word, operation_word, push_decimal,
 };

@@ -1,9 +1,8 @@
-use Rattle.std.proofs.Common.{ℕ, List, ◌++◌, ap, refl, ◌∙◌, arith}
-use Rattle.std.specs.Fmt.{decimal}
+use Rattle.std.proofs.Common.{ℕ, List, ◌++◌, ap, ◌∙◌}
 use Rattle.mos_fields.specs.Values.{time_text}
-use Rattle.mos_values.proofs.Simple.{simple_decimal, simple_time}
+use Rattle.mos_values.proofs.Simple.{simple_time}
 use Rattle.mos_writer.specs.Encoded.{word_bytes}
-use Rattle.mos_writer.proofs.EncodedLemmas.{three, must_is, simple_is_written}
+use Rattle.mos_writer.proofs.EncodedLemmas.{three, simple_is_written}
 use Rattle.mos_writer.proofs.fields.write_time.Goals as goal
 
 pub returns : goal.returns

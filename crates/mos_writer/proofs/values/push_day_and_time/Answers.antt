@@ -1,6 +1,6 @@
 use Rattle.std.proofs.Common.{◌/◌, ◌^◌, ◌<◌, ◌∷◌, ◌++◌, arith}
 use Rattle.mos_fields.specs.Values.{day_text, clock_text}
-use Rattle.mos_writer.proofs.TagLemmas.{written_wide, digit_small}
+use Rattle.mos_writer.proofs.AsciiLemmas.{written_wide, digit_small}
 use Rattle.mos_writer.proofs.values.push_day_and_time.Goals as goal
 
 pub returns : goal.returns

@@ -1,6 +1,0 @@
-use Rattle.std.proofs.Common.{[], ◌∷◌}
-use Rattle.mos_writer.proofs.TagLemmas.{ends_wide}
-use Rattle.mos_writer.proofs.tags.push_end_of_seven.Goals as goal
-
-pub returns : goal.returns
-returns c = ends_wide _ _ (c.args.a ∷ c.args.b ∷ c.args.c ∷ c.args.d ∷ c.args.e ∷ c.args.f ∷ c.args.g ∷ []) (c.ranges.a.fits, (c.ranges.b.fits, (c.ranges.c.fits, (c.ranges.d.fits, (c.ranges.e.fits, (c.ranges.f.fits, (c.ranges.g.fits, tt))))))) c.in_ok-extend_from_slice.ensures.items

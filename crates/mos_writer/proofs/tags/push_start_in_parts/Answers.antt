@@ -1,6 +1,0 @@
-use Rattle.std.proofs.Common.{ℕ, List, ◌++◌, ap, ◌∙◌}
-use Rattle.mos_writer.proofs.EncodedLemmas.{three, start_is}
-use Rattle.mos_writer.proofs.tags.push_start_in_parts.Goals as goal
-
-pub returns : goal.returns
-returns c = three _ _ _ _ _ _ _ c.in_ok-push_ascii.ensures c.in_ok-push_ascii-2.ensures c.in_ok-push_ascii-3.ensures ∙ ap (λ (ys : List ℕ). c.args.out.now.items ++ ys) (start_is c.args.name.now)

@@ -1,6 +1,0 @@
-use Rattle.std.proofs.Common.{[], ◌∷◌}
-use Rattle.mos_writer.proofs.TagLemmas.{starts_wide}
-use Rattle.mos_writer.proofs.tags.push_start_of_three.Goals as goal
-
-pub returns : goal.returns
-returns c = starts_wide _ _ (c.args.a ∷ c.args.b ∷ c.args.c ∷ []) (c.ranges.a.fits, (c.ranges.b.fits, (c.ranges.c.fits, tt))) c.in_ok-extend_from_slice.ensures.items
