@@ -17,15 +17,12 @@ use mos_values::Sequence;
 use std::alloc::Global;
 
 /// The identifier of a canonical text, which may be empty.
-#[tactic(auto, using(mos_cursor::proofs::Typed::opt_id_fine))]
+#[tactic(auto, using(mos_cursor::proofs::Typed::opt_id_sized))]
 pub(crate) fn id_of(text: Text) -> OptId
     requires { reads forms.OptId [] text ≡ Some text }
     ensures { result ≡ text }
 {
-    match OptId::from_text(text) {
-        Ok(id) => id,
-        Err(_) => unreachable!(),
-    }
+    OptId::from_sized(text)
 }
 
 /// The identifiers of these texts, in order.

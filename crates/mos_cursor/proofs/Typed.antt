@@ -1,54 +1,40 @@
 -- Canonical texts are texts of their types.
-use Rattle.std.proofs.Common.{◌≡◌, ℕ, suc, ◌+◌, ◌≤◌, Bool, true, false, List, [], ◌∷◌, ◌++◌, reverse, append_assoc, length, Some, None, refl, sym, subst, ◌∙◌, ap, arith, inl, inr}
-use Rattle.std.specs.Prelude.{◌&&◌, nat_le, nat_lt, ◌==◌, codes}
+use Rattle.std.proofs.Common.{◌≡◌, ℕ, ◌+◌, ◌≤◌, true, List, [], ◌∷◌, ◌++◌, reverse, append_assoc, length, Some, None, refl, sym, subst, ◌∙◌, ap}
+use Rattle.std.specs.Prelude.{◌&&◌, nat_le, codes}
 use Rattle.std.specs.List.{AllByRecursion}
 use Rattle.std.proofs.lemmas.List.{append-nil, reverse-append, reverse-reverse}
 use Rattle.mos_fields.specs.Raw.{IsRawElement}
-use Rattle.std.proofs.lemmas.Bool.{leb-true, eqb-true}
-use Rattle.std.proofs.lemmas.Bool.Decides.{leb_tells}
+use Rattle.std.proofs.lemmas.Bool.{leb-true}
 use Rattle.mos_fields.specs.Characters.{Text, is_allowed, are_allowed}
 use Rattle.mos_fields.specs.declared.form.Form.TheVariants as forms
 use Rattle.mos_fields.specs.Forms.{reads, at_most, trimmed, is_time, among}
-use Rattle.mos_fields.specs.Faults.{bad_char_from, id_length_fault, length_fault, samples_fault, rev_fault, time_fault, air_fault, obj_type_fault}
-use Rattle.mos_fields.specs.Limits.{id_limit, slug_limit}
+use Rattle.mos_fields.specs.Faults.{bad_char_from, samples_fault, rev_fault, time_fault, air_fault, obj_type_fault}
+use Rattle.mos_fields.specs.Limits.{IsId, id_limit, slug_limit}
 use Rattle.mos_cursor.proofs.Forms.{both, only_if_some}
 
-not_below : (a b : ℕ) → b ≤ a → nat_lt a b ≡ false
-not_below a b h = elim (leb_tells (suc a) b) [ inl p ↦ absurd (omega (arith, p.1, h)) | inr p ↦ p.0 ]
+sized : (x : Text) → 1 ≤ length x → length x ≤ 128 → IsId x
+sized x s h = record { some = s; short = h }
 
-not_zero : (a : ℕ) → 1 ≤ a → (a == 0) ≡ false
-not_zero a h = go (a == 0) refl
-  where
-    go : (b : Bool) → (a == 0) ≡ b → b ≡ false
-    go true e = absurd (omega (arith, eqb-true a 0 e, h))
-    go false e = refl
-
-pub short_fine : (k : ℕ) (x : Text) → length x ≤ k → length_fault k x ≡ None
-short_fine k x h = rw (not_below k (length x) h) refl
-
-some_fine : (x : Text) → 1 ≤ length x → length x ≤ 128 → id_length_fault x ≡ None
-some_fine x s h = rw (not_below 128 (length x) h, not_zero (length x) s) refl
-
-pub id_fine : (x : Text) → reads forms.Id [] x ≡ Some x → id_length_fault x ≡ None
+pub id_sized : (x : Text) → reads forms.Id [] x ≡ Some x → IsId x
 unfolding reads
-id_fine x h =
+id_sized x h =
     let p = both (nat_le 1 (length x)) (at_most 128 x) (only_if_some (nat_le 1 (length x) && at_most 128 x) x x h).0 in
-    some_fine x (leb-true 1 (length x) p.0) (leb-true (length x) 128 p.1)
+    sized x (leb-true 1 (length x) p.0) (leb-true (length x) 128 p.1)
 
-pub key_fine : (x : Text) → reads forms.Key [] x ≡ Some x → id_length_fault x ≡ None
+pub key_sized : (x : Text) → reads forms.Key [] x ≡ Some x → IsId x
 unfolding reads
-key_fine x h =
+key_sized x h =
     let q = both (nat_le 1 (length x) && at_most 128 x) true (only_if_some (nat_le 1 (length x) && at_most 128 x && true) x x h).0 in
     let p = both (nat_le 1 (length x)) (at_most 128 x) q.0 in
-    some_fine x (leb-true 1 (length x) p.0) (leb-true (length x) 128 p.1)
+    sized x (leb-true 1 (length x) p.0) (leb-true (length x) 128 p.1)
 
-pub opt_id_fine : (x : Text) → reads forms.OptId [] x ≡ Some x → length_fault id_limit x ≡ None
+pub opt_id_sized : (x : Text) → reads forms.OptId [] x ≡ Some x → length x ≤ id_limit
 unfolding reads
-opt_id_fine x h = short_fine 128 x (leb-true (length x) 128 (only_if_some (at_most 128 x) x x h).0)
+opt_id_sized x h = leb-true (length x) 128 (only_if_some (at_most 128 x) x x h).0
 
-pub slug_fine : (x : Text) → reads forms.Slug [] x ≡ Some x → length_fault slug_limit x ≡ None
+pub slug_sized : (x : Text) → reads forms.Slug [] x ≡ Some x → length x ≤ slug_limit
 unfolding reads
-slug_fine x h = short_fine 1024 x (leb-true (length x) 1024 (only_if_some (at_most 1024 x) x x h).0)
+slug_sized x h = leb-true (length x) 1024 (only_if_some (at_most 1024 x) x x h).0
 
 allowed_from : (k : ℕ) (x : Text) → are_allowed x ≡ true → bad_char_from k x ≡ None
 allowed_from k [] h = refl

@@ -12,51 +12,39 @@ use crate::slot::Slot;
 use mos_fields::{Id, OptId, Slug, Text, Unread};
 
 /// The identifier of a canonical text.
-#[tactic(auto, using(crate::proofs::Typed::id_fine))]
+#[tactic(auto, using(crate::proofs::Typed::id_sized))]
 fn id_of(text: Text) -> Id
     requires { reads forms.Id [] text ≡ Some text }
     ensures { result ≡ text }
 {
-    match Id::from_text(text) {
-        Ok(id) => id,
-        Err(_) => unreachable!(),
-    }
+    Id::from_sized(text)
 }
 
 /// The identifier of a canonical text of a key.
-#[tactic(auto, using(crate::proofs::Typed::key_fine))]
+#[tactic(auto, using(crate::proofs::Typed::key_sized))]
 fn key_of(text: Text) -> Id
     requires { reads forms.Key [] text ≡ Some text }
     ensures { result ≡ text }
 {
-    match Id::from_text(text) {
-        Ok(id) => id,
-        Err(_) => unreachable!(),
-    }
+    Id::from_sized(text)
 }
 
 /// The identifier of a canonical text, which may be empty.
-#[tactic(auto, using(crate::proofs::Typed::opt_id_fine))]
+#[tactic(auto, using(crate::proofs::Typed::opt_id_sized))]
 fn opt_id_of(text: Text) -> OptId
     requires { reads forms.OptId [] text ≡ Some text }
     ensures { result ≡ text }
 {
-    match OptId::from_text(text) {
-        Ok(id) => id,
-        Err(_) => unreachable!(),
-    }
+    OptId::from_sized(text)
 }
 
 /// The slug of a canonical text.
-#[tactic(auto, using(crate::proofs::Typed::slug_fine))]
+#[tactic(auto, using(crate::proofs::Typed::slug_sized))]
 fn slug_of(text: Text) -> Slug
     requires { reads forms.Slug [] text ≡ Some text }
     ensures { result ≡ text }
 {
-    match Slug::from_text(text) {
-        Ok(slug) => slug,
-        Err(_) => unreachable!(),
-    }
+    Slug::from_sized(text)
 }
 
 #[tactic(auto, unfolding(mos_values::specs::Parts::must, mos_values::specs::Parts::maybe, mos_values::specs::Parts::must_raw, mos_values::specs::Parts::maybe_raw))]

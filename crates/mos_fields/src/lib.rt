@@ -51,6 +51,7 @@ pub use samples::Samples;
 pub use slug::Slug;
 pub use text::Text;
 pub use time::{MosTime, Zone};
+pub use time_reader::{is_day, is_time_of_day};
 pub use units::{is_allowed_unit, is_high, is_low, lone, pair};
 pub use unread::Unread;
 

@@ -148,5 +148,5 @@ pub fn join(alloc: Global, text: &Text, more: &[u16]) -> Result<Text, NoMemory>
     ensures { IfOk result (λ t. t ≡ text.now ++ chars_of more.now) }
 {
     let both = units_behind(alloc, text.units(), more)?;
-    Text::from_units(alloc, &both)
+    Ok(Text::from_vec(both))
 }

@@ -6,25 +6,7 @@ ghost use Rattle.mos_fields.specs.Values.{time_text};
 ghost use Rattle.mos_times.specs.Plain.{IsPlainRead, is_plain};
 
 use crate::form::{has_form, two_at, year_of};
-use jiff::civil::Date;
-use mos_fields::{MosTime, Text, Zone};
-
-/// Whether the calendar has the day.
-fn is_day(year: u16, month: u16, day: u16) -> bool
-    requires year { year ≤ 9999 }
-    requires month { month ≤ 99 }
-    requires day { day ≤ 99 }
-    ensures { result ≡ day_exists year month day }
-{
-    Date::new(year as i16, month as i8, day as i8).is_ok()
-}
-
-/// Whether the day has the time.
-fn is_time_of_day(hour: u16, minute: u16, second: u16) -> bool
-    ensures { result ≡ time_exists hour minute second }
-{
-    hour <= 23 && minute <= 59 && second <= 59
-}
+use mos_fields::{MosTime, Text, Zone, is_day, is_time_of_day};
 
 /// The time that code units of the form write.
 fn time_of_form(units: &[u16]) -> Option<MosTime>
