@@ -2,8 +2,8 @@
 import os
 import subprocess
 import sys
-import time
 
+TIMED = os.path.join(os.path.dirname(os.path.dirname(os.path.abspath(__file__))), "timed.py")
 FRONT = "<mos><mosID>dev1</mosID><ncsID>ncs1</ncsID><messageID>{}</messageID>"
 
 
@@ -55,16 +55,12 @@ def make(path, size, share):
     return written, number
 
 
-def timed(command, path):
-    """Runs the command on the file; its seconds, the most memory that it took, and what it printed."""
-    with open(path, "rb") as source:
-        before = time.monotonic()
-        child = subprocess.Popen(command, stdin=source, stdout=subprocess.PIPE)
-        printed = child.stdout.read()
-        _, status, usage = os.wait4(child.pid, 0)
-        seconds = time.monotonic() - before
-    assert status == 0, f"{command} ended with {status}"
-    return seconds, usage.ru_maxrss / 1024, printed
+def timed(command, path, sink):
+    """Runs the command on the file; its seconds, the most memory that it took in MiB, and what it printed."""
+    words = [sys.executable, "-I", "-S", TIMED, path, sink, *command]
+    seconds, most = subprocess.run(words, check=True, stdout=subprocess.PIPE, text=True).stdout.split()
+    with open(sink, "rb") as printed:
+        return float(seconds), int(most) / 1024, printed.read()
 
 
 def main():
@@ -76,7 +72,7 @@ def main():
         best, memory, printed = {}, {}, {}
         for _ in range(7):
             for reader, command in commands.items():
-                seconds, most, text = timed(command, path)
+                seconds, most, text = timed(command, path, f"{work}/printed")
                 best[reader] = min(seconds, best.get(reader, seconds))
                 memory[reader] = max(most, memory.get(reader, most))
                 printed[reader] = text

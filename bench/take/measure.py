@@ -1,10 +1,9 @@
 """Makes heartbeats, and times mos_replay and xml.etree on them."""
 import os
-import resource
 import subprocess
 import sys
-import time
 
+TIMED = os.path.join(os.path.dirname(os.path.dirname(os.path.abspath(__file__))), "timed.py")
 PARSE = """
 import sys, xml.etree.ElementTree as tree
 text = open(sys.argv[1], 'rb').read().decode('utf-16-be')
@@ -32,11 +31,10 @@ def make(path, size):
 
 
 def timed(command, path):
-    """Runs the command on the file, and returns its seconds and the most memory that a child took so far."""
-    with open(path, "rb") as source, open(os.devnull, "wb") as sink:
-        before = time.monotonic()
-        subprocess.run(command, stdin=source, stdout=sink, check=True)
-        return time.monotonic() - before, resource.getrusage(resource.RUSAGE_CHILDREN).ru_maxrss
+    """Runs the command on the file; its seconds, and the most memory that it took in KiB."""
+    words = [sys.executable, "-I", "-S", TIMED, path, os.devnull, *command]
+    seconds, most = subprocess.run(words, check=True, stdout=subprocess.PIPE, text=True).stdout.split()
+    return float(seconds), int(most)
 
 
 def main():
