@@ -80,6 +80,7 @@ def main():
         print(f"{name}: {count} messages, {size / 1e6:.0f} MB")
         for reader in commands:
             print(f"  {reader:18} {size / 1e6 / best[reader]:8.1f} MB/s {memory[reader]:8.1f} MiB")
+        print(f"  {'times as fast':18} {best['libexpat'] / best['mos_replay check']:8.2f}")
 
 
 main()
