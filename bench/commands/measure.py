@@ -1,4 +1,4 @@
-"""Times `bench_commands` beside sqlite3 in memory. Usage: measure.py PROGRAM."""
+"""Times `bench_machines commands` beside sqlite3 in memory. Usage: measure.py PROGRAM."""
 import resource
 import sqlite3
 import statistics
@@ -12,7 +12,7 @@ program = sys.argv[1]
 def seconds(*words):
     """The processor time of one run, and what it says."""
     before = resource.getrusage(resource.RUSAGE_CHILDREN)
-    said = subprocess.run([program, *map(str, words)], check=True, capture_output=True, text=True).stdout
+    said = subprocess.run([program, "commands", *map(str, words)], check=True, capture_output=True, text=True).stdout
     after = resource.getrusage(resource.RUSAGE_CHILDREN)
     return after.ru_utime + after.ru_stime - before.ru_utime - before.ru_stime, said
 

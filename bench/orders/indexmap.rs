@@ -1,4 +1,4 @@
-// The same look-ups and edits as crates/bench_orders, in an IndexMap: `indexmap WORK STORIES CALLS`.
+// The same look-ups and edits as `bench_machines orders`, in an IndexMap: `indexmap WORK STORIES CALLS`.
 use indexmap::IndexMap;
 use std::hint::black_box;
 

@@ -10,6 +10,7 @@ use Rattle.mos_machines.specs.Device.{GateState, Decks, gate_read}
 use Rattle.mos_machines.specs.Messages.{Message}
 use Rattle.mos_machines.specs.Messages.Message.{Heartbeat, RoEdit, RoAck, RoReq, RoReqAll, RoList, RoListAll, RoElementStat, OtherMessage}
 use Rattle.mos_message_reading.specs.Values.{IsNamed}
+use Rattle.value_laws.specs.Ranges.{IsInRange}
 use Rattle.device_answers.specs.Taking.{opening, device_after, answer_to, device_behind, answers, encoding, take_output, AreMessages, IsAnswered}
 
 answers_more : (g : GateState) (es : List Envelope) (e : Envelope) → answers g (es ++ e ∷ []) ≡ answers g es ++ answer_to (device_behind g es) e ∷ []
@@ -20,11 +21,11 @@ behind_more : (g : GateState) (es : List Envelope) (e : Envelope) → device_beh
 behind_more g [] e = refl
 behind_more g (x ∷ es) e = behind_more (device_after g x) es e
 
-messages_more : (fs : List Found) (es : List Envelope) (f : Found) (e : Envelope) → AreMessages fs es → envelope_events e ≡ f.value → IsNamed e.message → AreMessages (fs ++ f ∷ []) (es ++ e ∷ [])
-messages_more [] [] f e h v n = (v, n, tt)
-messages_more [] (x ∷ es) f e h v n = absurd h
-messages_more (y ∷ fs) [] f e h v n = absurd h
-messages_more (y ∷ fs) (x ∷ es) f e h v n = (h.0, h.1, messages_more fs es f e h.2 v n)
+messages_more : (fs : List Found) (es : List Envelope) (f : Found) (e : Envelope) → AreMessages fs es → envelope_events e ≡ f.value → IsNamed e.message → IsInRange e.message → AreMessages (fs ++ f ∷ []) (es ++ e ∷ [])
+messages_more [] [] f e h v n r = (v, n, r, tt)
+messages_more [] (x ∷ es) f e h v n r = absurd h
+messages_more (y ∷ fs) [] f e h v n r = absurd h
+messages_more (y ∷ fs) (x ∷ es) f e h v n r = (h.0, h.1, h.2, messages_more fs es f e h.3 v n r)
 
 output_more : (es : List Envelope) (e : Envelope) → take_output (es ++ e ∷ []) ≡ take_output es ++ encoding (answer_to (device_behind opening es) e)
 output_more es e =
@@ -36,11 +37,11 @@ pub nothing_answered : IsAnswered opening [] []
 nothing_answered = record { envelopes = []; messages = tt; written = refl; behind = refl }
 
 -- one more message is answered
-pub answered_more : (g h : GateState) (fs : List Found) (text more : List ℕ) (f : Found) (e : Envelope) → IsAnswered g fs text → envelope_events e ≡ f.value → IsNamed e.message → more ≡ encoding (answer_to g e) → h ≡ device_after g e
+pub answered_more : (g h : GateState) (fs : List Found) (text more : List ℕ) (f : Found) (e : Envelope) → IsAnswered g fs text → envelope_events e ≡ f.value → IsNamed e.message → IsInRange e.message → more ≡ encoding (answer_to g e) → h ≡ device_after g e
     → IsAnswered h (fs ++ f ∷ []) (text ++ more)
-answered_more g h fs text more f e i v n w b = record {
+answered_more g h fs text more f e i v n r w b = record {
   envelopes = i.envelopes ++ e ∷ [];
-  messages = messages_more fs i.envelopes f e i.messages v n;
+  messages = messages_more fs i.envelopes f e i.messages v n r;
   written =
       ap (λ (z : List ℕ). z ++ more) i.written
       ∙ (ap (λ (z : List ℕ). take_output i.envelopes ++ z) (w ∙ ap (λ (z : GateState). encoding (answer_to z e)) i.behind) ∙ sym (output_more i.envelopes e));

@@ -12,6 +12,7 @@ use Rattle.mos_machines.specs.Device.{GateState, Decks, no_gate, gate_accepted, 
 use Rattle.mos_machines.specs.Values.{seen, message_of}
 use Rattle.mos_message_reading.specs.Values.{IsNamed}
 use Rattle.stream_commands.specs.Lines.{refused_line}
+use Rattle.value_laws.specs.Ranges.{IsInRange}
 
 -- ---- a device without decks, on one connection
 
@@ -63,12 +64,12 @@ refused_text place k = wide (refused_line place k)
 
 -- ---- the messages of a stream
 
--- these are the messages whose values were found
+-- These are the messages whose values were found. Their numbers are in range, so that the values pin them.
 abbrev pub AreMessages : List Found → List Envelope → Type 0
 AreMessages [] [] = Unit {0}
 AreMessages [] (e ∷ es) = ⊥
 AreMessages (f ∷ fs) [] = ⊥
-AreMessages (f ∷ fs) (e ∷ es) = (envelope_events e ≡ f.value) × IsNamed e.message × AreMessages fs es
+AreMessages (f ∷ fs) (e ∷ es) = (envelope_events e ≡ f.value) × IsNamed e.message × IsInRange e.message × AreMessages fs es
 
 -- The values that were found are those of messages, this was written in answer, and the device is as it is behind them.
 pub record IsAnswered (g : GateState) (found : List Found) (text : List ℕ) : Type 0 where

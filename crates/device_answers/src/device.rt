@@ -10,7 +10,7 @@ ghost use Rattle.device_answers.specs.Taking.{IsAnswered, answer_to, device_afte
 use crate::wide::wide;
 use gateway_core::{DeckState, Gate};
 use machine_answers::Heard;
-use mos_fields::NoMemory;
+use mos_fields::{NoMemory, let_go};
 use mos_lexer::Kind;
 use mos_message_reading::{envelope_of, read_message};
 use mos_messages::encode_with;
@@ -19,6 +19,7 @@ use mos_values::{Envelope, Message};
 use std::alloc::Global;
 use std::marker::Model;
 use stream_commands::{Teller, refused_line};
+use value_laws::ranges::message_is_in_range;
 
 /// The connection that the device accepted.
 const LINK: u64 = 1;
@@ -46,9 +47,6 @@ impl Model for Device {
 
     ghost invariant = { λ d. (gate_of d.gate).upper ≡ Some 1 };
 }
-
-// Lets a value go. What is let go here is dropped by a function of its type, and not variant by variant on each path.
-fn let_go<T: Drop>(_value: T) {}
 
 /// The encoding of an answer, with the names and the messageID of the message's envelope.
 fn encode_heard(alloc: Global, envelope: &Envelope, heard: &Heard) -> Result<Vec<u8>, NoMemory>
@@ -92,6 +90,11 @@ impl Device {
     }
 }
 
+/// Lets a device go. Who hands its device to this call drops none of its parts by itself, which would be proved once more.
+pub fn close_device(device: Device) {
+    let_go(device);
+}
+
 impl Teller for Device {
     ghost use Rattle.std.specs.Prelude.{[]};
     ghost use Rattle.mos_machines.specs.Tables.{gate_of};
@@ -106,6 +109,7 @@ impl Teller for Device {
     fn tell(&mut self, alloc: Global, found: Found) -> Result<Vec<u8>, NoMemory> {
         read_message();
         let envelope = envelope_of(alloc, found.value)?;
+        message_is_in_range(&envelope.message);
         let text = self.answer_encoded(alloc, &envelope);
         let_go(envelope);
         text

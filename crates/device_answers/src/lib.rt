@@ -4,4 +4,4 @@
 mod device;
 mod wide;
 
-pub use device::Device;
+pub use device::{Device, close_device};

@@ -1,5 +1,5 @@
 -- The first fault of an edit, told before anything is copied.
-use Rattle.std.proofs.Common.{◌≡◌, Bool, true, Option, Result, Some, Ok, Err, sym, subst}
+use Rattle.std.proofs.Common.{Bool, true, Option, Result, Some, Ok, Err, sym, subst}
 use Rattle.std.specs.Result.{IfErr}
 use Rattle.mos_edits.specs.Texts.{Text}
 use Rattle.mos_edits.specs.KeyedLists.{Applied}
@@ -9,7 +9,7 @@ use Rattle.mos_values.specs.declared.action.Action as values
 use Rattle.mos_values.specs.declared.edit.Edit.TheVariants as edit
 use Rattle.element_action.specs.declared.fault.ActFault.{ActFault}
 use Rattle.element_action.specs.declared.fault.ActFault.TheVariants.{Missing, AlreadyThere, NoMemory}
-use Rattle.element_action.specs.Answers.{IsCause}
+use Rattle.element_action.specs.Answers.{IsCause, IsChecked}
 use Rattle.element_action.proofs.EditLemmas.{act_there}
 use Rattle.element_action.proofs.FormLemmas.{cause_of_order}
 
@@ -20,6 +20,6 @@ cause_of_copy takes d (AlreadyThere id) c = c
 cause_of_copy takes d NoMemory c = tt
 
 -- the fault of an action is that of its edit
-pub refused_there : (r q : Text) (o : Order) (a : values.Action) (res : Result (Unit {0}) ActFault) → IfErr res (IsCause true (act shape (form_of a) o.stories)) → IfErr res (IsCause true (apply r (Some o) (edit.Act q a)))
+pub refused_there : (r q : Text) (o : Order) (a : values.Action) (res : Result (Unit {0}) ActFault) → IsChecked (act shape (form_of a) o.stories) res → IfErr res (IsCause true (apply r (Some o) (edit.Act q a)))
 refused_there r q o a (Ok x) h = tt
 refused_there r q o a (Err f) h = subst (λ (p : Applied (Option Order)). IsCause true p f) (sym (act_there r q o a)) (cause_of_order true o.header (act shape (form_of a) o.stories) f h)

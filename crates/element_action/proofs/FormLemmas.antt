@@ -11,7 +11,7 @@ use Rattle.element_action.specs.Levels.{edit_story}
 use Rattle.mos_edits.specs.KeyedLists.Applied.{Done, Fault}
 use Rattle.element_action.specs.declared.fault.ActFault.{ActFault}
 use Rattle.element_action.specs.declared.fault.ActFault.TheVariants.{Missing, AlreadyThere, NoMemory}
-use Rattle.element_action.specs.Answers.{IsTold, IsCause, IsApplied, HasFault}
+use Rattle.element_action.specs.Answers.{IsTold, IsCause, IsApplied, HasFault, HasResult}
 use Rattle.element_action.proofs.ItemLemmas.{items_in, act_items}
 
 pub done_when : {X : Type 0} (o : Option EditFault) (x : X) → o ≡ None → done_unless o x ≡ Done x
@@ -25,6 +25,14 @@ told_cause {X = X} false d f NoMemory h t = subst (λ (p : Applied X). HasFault 
 
 pub cause_when : {X : Type 0} (takes : Bool) (o : Option EditFault) (x : X) (f : EditFault) (e : ActFault) → o ≡ Some f → IsTold f e → IsCause takes (done_unless o x) e
 cause_when takes o x f e h t = told_cause takes (done_unless o x) f e (ap (λ p. done_unless p x) h) t
+
+-- a form that has no fault has a result
+pub has_result : {X : Type 0} (o : Option EditFault) (x : X) → o ≡ None → HasResult (done_unless o x)
+has_result o x h = subst (λ (d : Applied _). HasResult d) (sym (done_when o x h)) tt
+
+pub item_result : (story : Text) (action : ListAction Item) (ss : List Story) → first_of (lacking (story_ids ss) story) (list_fault shape.item_id action (item_ids (items_in story ss))) ≡ None
+    → HasResult (act shape (OnItems story action) ss)
+item_result story action ss h = subst (λ (d : Applied (List Story)). HasResult d) (sym (act_items story action ss ∙ done_when (first_of (lacking (story_ids ss) story) (list_fault shape.item_id action (item_ids (items_in story ss)))) (edit_story story (list_result shape.item_id action) ss) h)) tt
 
 -- a form on the items of a story
 pub item_fault : (takes : Bool) (story : Text) (action : ListAction Item) (ss : List Story) (f : EditFault) (e : ActFault)

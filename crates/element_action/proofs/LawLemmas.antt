@@ -1,12 +1,11 @@
 -- MOVE and SWAP change places only; what was deleted can be put back.
-use Rattle.std.proofs.Common.{◌≡◌, ◌≢◌, ℕ, List, [], ◌∷◌, ◌++◌, Bool, true, false, not, ◌&&◌, ◌||◌, Option, Some, None, arith, refl, if◌then◌else◌, sym, ap, ◌∙◌, subst}
+use Rattle.std.proofs.Common.{◌≡◌, ℕ, List, [], ◌∷◌, ◌++◌, Bool, true, false, ◌||◌, Option, Some, None, arith, refl, if◌then◌else◌, sym, ap, ◌∙◌, subst}
 use Rattle.std.specs.List.Sorted.{IsPermutation}
 use Rattle.std.specs.Option.{is_some}
 use Rattle.std.proofs.lemmas.List.{map-append, append-nil}
-use Rattle.std.proofs.lemmas.List.Sorted.{IsPermutation-refl, IsPermutation-sym, IsPermutation-cons, IsPermutation-trans, IsPermutation-middle, IsPermutation-append_comm, IsPermutation-swap}
+use Rattle.std.proofs.lemmas.List.Sorted.{IsPermutation-refl, IsPermutation-cons, IsPermutation-trans, IsPermutation-middle, IsPermutation-append_comm, IsPermutation-swap}
 use Rattle.mos_edits.specs.Texts.{Text, same_id, has_id}
-use Rattle.mos_edits.specs.KeyedLists.{ActFault, Applied, ListAction, ids, find, with_found, picked, without, put_at, put_before, exchanged, first_of, missing_if_not, lacking, lacking_target, lacking_place, first_missing, first_repeated, done_unless, act_list}
-use Rattle.mos_edits.specs.KeyedLists.ActFault.{Missing, AlreadyThere}
+use Rattle.mos_edits.specs.KeyedLists.{ids, find, with_found, picked, without, put_at, put_before, exchanged, first_of, missing_if_not, lacking, lacking_target, lacking_place, first_missing, first_repeated, done_unless, act_list}
 use Rattle.mos_edits.specs.KeyedLists.Applied.{Done}
 use Rattle.mos_edits.specs.KeyedLists.ListAction.{Insert, Move, Delete, Swap}
 use Rattle.mos_edits.proofs.Identifiers.{same-true, same-self, same-sym, has-append}
@@ -15,7 +14,7 @@ use Rattle.mos_edits.proofs.Swaps.{done-fault}
 use Rattle.mos_values.specs.Distinct.{AreDistinct}
 use Rattle.running_order.specs.Places.{place_of}
 use Rattle.element_action.specs.Targets.{StandsFirst}
-use Rattle.element_action.proofs.PlaceLemmas.{Stands, place_stands, place_has, stands_within, without_absent, without_none}
+use Rattle.element_action.proofs.PlaceLemmas.{place_stands, place_has, stands_within, without_absent, without_none}
 use Rattle.element_action.proofs.MoveLemmas.{without_append, without_twice, picked_without, put_at_behind}
 use Rattle.element_action.proofs.SourceLemmas.{first-none, missing-none}
 use Rattle.element_action.proofs.StepLemmas.{exchange_is_swap}
@@ -56,7 +55,7 @@ module _ {X : Type 0} (key : X → Text) where
       by false f = refl
 
   -- several, and what is left
-  all_picked : (ss : List Text) (xs : List X) → IsDistinct ss → IsDistinct (ids key xs) → IsPermutation xs (picked key ss xs ++ without key ss xs)
+  pub all_picked : (ss : List Text) (xs : List X) → IsDistinct ss → IsDistinct (ids key xs) → IsPermutation xs (picked key ss xs ++ without key ss xs)
   all_picked [] xs e d = subst (λ (l : List X). IsPermutation xs l) (sym (without_nothing xs)) (IsPermutation-refl xs)
   all_picked (s ∷ ss) xs e d =
       let out = without key (s ∷ []) xs in

@@ -10,3 +10,5 @@ pub mod LoopLemmas
 pub mod ItemSteps
 pub mod LawLemmas
 pub mod CheckLemmas
+mod ArrangeLemmas
+mod GatherLemmas

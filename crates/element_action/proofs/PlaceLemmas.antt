@@ -100,3 +100,11 @@ module _ {X : Type 0} (key : X → Text) where
       go : (b : Bool) → (has_id t (ids key xs) ≡ false → put_for key t new xs ≡ xs) → b || has_id t (ids key xs) ≡ false → (if b then new ++ xs else x ∷ put_for key t new xs) ≡ x ∷ xs
       go true r h = absurd (cc)
       go false r h = ap (λ l. x ∷ l) (r h)
+
+-- whether an identifier has a place among identifiers
+pub place_among : (t : Text) (ts : List Text) → is_some (place_of t ts) ≡ has_id t ts
+place_among t ts = subst (λ (l : List Text). is_some (place_of t l) ≡ has_id t l) (same ts) (place_has (λ x. x) t ts)
+  where
+    same : (l : List Text) → ids (λ x. x) l ≡ l
+    same [] = refl
+    same (x ∷ l) = ap (λ r. x ∷ r) (same l)

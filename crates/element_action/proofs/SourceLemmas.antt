@@ -6,6 +6,7 @@ use Rattle.mos_edits.specs.KeyedLists.{ActFault, ids, without, first_of, missing
 use Rattle.mos_edits.specs.KeyedLists.ActFault.{Missing, AlreadyThere}
 use Rattle.mos_edits.proofs.Identifiers.{same-true, same-self, has-append, has-without}
 use Rattle.mos_values.specs.Distinct.{AreDistinct}
+use Rattle.running_order.proofs.Ids.{AreDistinct-take}
 use Rattle.mos_edits.proofs.Distinct.{IsDistinct, AreDisjoint, are-distinct, is-distinct, distinct-append, distinct-without}
 use Rattle.element_action.proofs.PlaceLemmas.{Stands, remove_place}
 use Rattle.element_action.proofs.MoveLemmas.{IsApart}
@@ -144,7 +145,7 @@ place-apart there ss (c ∷ cs) h = go (has_id (c ∷ cs) there) (has_id (c ∷ 
     go false false h = absurd (cc)
 
 module _ {X : Type 0} (key : X → Text) where
-  ids_without : (gone : List Text) (xs : List X) → ids key (without key gone xs) ≡ without (λ x. x) gone (ids key xs)
+  pub ids_without : (gone : List Text) (xs : List X) → ids key (without key gone xs) ≡ without (λ x. x) gone (ids key xs)
   ids_without gone [] = refl
   ids_without gone (x ∷ xs) = go (has_id (key x) gone) (ids_without gone xs)
     where
@@ -171,3 +172,15 @@ module _ {X : Type 0} (key : X → Text) where
       let e : ids key less ≡ without (λ x. x) (t ∷ []) (ids key xs) = ids_without (t ∷ []) xs in
       subst (λ (l : List X). AreDistinct (ids key l ++ ids key new)) (sym (remove_place key t xs n i s))
       (insert_distinct less new (are-distinct (ids key less) (distinct-without key (t ∷ []) xs i)) (subst (λ (l : List Text). first_repeated l [] (ids key new) ≡ None) (sym e) h))
+
+-- one identifier more, which isn't there yet
+pub noted_distinct : (id : Text) (ts : List Text) → AreDistinct ts → has_id id ts ≡ false → AreDistinct (ts ++ id ∷ [])
+noted_distinct id ts d h = are-distinct (ts ++ id ∷ []) (distinct-append ts (id ∷ []) (is-distinct ts d) (refl, tt) (λ z i. by z (same_id z id) refl i))
+  where
+    by : (z : Text) (b : Bool) → same_id z id ≡ b → has_id z ts ≡ true → b || false ≡ false
+    by z true e i = absurd (let g : has_id id ts ≡ true = subst (λ (u : Text). has_id u ts ≡ true) (same-true z id e) i in cc)
+    by z false e i = refl
+
+-- the identifiers up to one more of them are distinct
+pub next_distinct : (ts : List Text) (k : ℕ) (id : Text) → AreDistinct ts → k < length ts → id ≡ get_or ts k id → AreDistinct (take k ts ++ id ∷ [])
+next_distinct ts k id d lt at = subst AreDistinct (take_more ts k id lt ∙ ap (λ u. take k ts ++ u ∷ []) (sym at)) (AreDistinct-take (k + 1) ts d)

@@ -32,7 +32,7 @@ module _ {X : Type 0} (key : X → Text) where
       subst (λ u. same_id t u ≡ true) (sym s_is) i
   stands_apart s t (x ∷ xs) (suc n) h i = stands_apart s t xs n h.1 i.1
 
-  got_one : (xs : List X) (n : ℕ) → n < length xs → (x : X) × (slice_get xs n ≡ Some x)
+  pub got_one : (xs : List X) (n : ℕ) → n < length xs → (x : X) × (slice_get xs n ≡ Some x)
   got_one [] n lt = absurd (omega (arith, lt))
   got_one (x ∷ xs) zero lt = (x, refl)
   got_one (x ∷ xs) (suc n) lt = got_one xs n (omega (arith, lt))
@@ -113,12 +113,12 @@ module _ {X : Type 0} (key : X → Text) where
       rw (s.0, t) (ap (λ l. x ∷ l) (exchange_first a b x y zs i d.1 (subst (λ u. has_id u (ids key zs) ≡ false) (sym b_is) d.0) s.1))
   exchange_places a b x y (z ∷ zs) (suc i) (suc j) d s t g = rw (s.0, t.0) (ap (λ l. z ∷ l) (exchange_places a b x y zs i j d.1 s.1 t.1 g))
 
-  got_or : (xs : List X) (i : ℕ) (x d : X) → slice_get xs i ≡ Some x → get_or xs i d ≡ x
+  pub got_or : (xs : List X) (i : ℕ) (x d : X) → slice_get xs i ≡ Some x → get_or xs i d ≡ x
   got_or [] i x d h = absurd (cc)
   got_or (y ∷ ys) zero x d h = cc
   got_or (y ∷ ys) (suc i) x d h = got_or ys i x d h
 
-  swap_sets : (xs : List X) (i j : ℕ) (x y : X) → slice_get xs i ≡ Some x → slice_get xs j ≡ Some y → swap xs i j ≡ set (set xs i y) j x
+  pub swap_sets : (xs : List X) (i j : ℕ) (x y : X) → slice_get xs i ≡ Some x → slice_get xs j ≡ Some y → swap xs i j ≡ set (set xs i y) j x
   swap_sets [] i j x y h g = refl
   swap_sets (d ∷ ds) i j x y h g = λ k. set (set (d ∷ ds) i (got_or (d ∷ ds) j y d g k)) j (got_or (d ∷ ds) i x d h k)
 

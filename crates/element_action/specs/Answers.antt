@@ -51,6 +51,15 @@ IsCause takes defined (AlreadyThere id) = defined ≡ Fault (EditFault.AlreadyTh
 IsCause true defined NoMemory = Unit {0}
 IsCause false defined NoMemory = HasFault defined
 
+abbrev pub HasResult : {X : Type 0} → Applied X → Type 0
+HasResult (Done x) = Unit {0}
+HasResult (Fault f) = ⊥
+
+-- Ok exactly where the definition has a result, and else its fault; NoMemory may come in place of both
+abbrev pub IsChecked : {X : Type 0} → Applied X → Result (Unit {0}) ActFault → Type 0
+IsChecked defined (Ok x) = HasResult defined
+IsChecked defined (Err f) = IsCause true defined f
+
 -- Ok with the result of the definition, and the header as it was; or the definition's fault, and the order as it was
 abbrev pub IsAnswer : Bool → Applied (List Story) → Order → Order → Result (Unit {0}) ActFault → Type 0
 IsAnswer takes defined before after (Ok x) = (defined ≡ Done after.stories) × (after.header ≡ before.header)

@@ -1,7 +1,8 @@
 -- Places of targets, and moves before a target.
-use Rattle.std.specs.Prelude.{◌≡◌, ◌≢◌, ℕ, ◌-◌, List, [], ◌∷◌, Option, Some, None, nat_lt, if◌then◌else◌}
+use Rattle.std.specs.Prelude.{◌≡◌, ◌≢◌, ℕ, ◌-◌, List, [], ◌∷◌, ◌++◌, Option, Some, None, take, drop, swap, nat_lt, if◌then◌else◌}
+use Rattle.std.specs.Option.{option_map_or}
 use Rattle.mos_edits.specs.Texts.{Text}
-use Rattle.mos_edits.specs.KeyedLists.{find, with_found, without, put_before}
+use Rattle.mos_edits.specs.KeyedLists.{ids, find, with_found, picked, without, put_before}
 use Rattle.running_order.specs.Places.{place_of}
 
 -- the place of a target; none for an empty one, which stands for the end
@@ -32,3 +33,11 @@ moved key t s xs = put_before key t (with_found (find key s xs) []) (without key
 abbrev pub moved_all : {X : Type 0} → (X → Text) → Text → List Text → List X → List X
 moved_all key t [] xs = xs
 moved_all key t (s ∷ ss) xs = moved_all key t ss (moved key t s xs)
+
+-- the element with that identifier exchanged with the one at the place
+abbrev pub brought : {X : Type 0} → (X → Text) → ℕ → Text → List X → List X
+brought key at id xs = option_map_or (λ from. swap xs at from) (place_of id (ids key xs)) xs
+
+-- the elements with these identifiers together before the place, the others as they stood
+abbrev pub gathered : {X : Type 0} → (X → Text) → ℕ → List Text → List X → List X
+gathered key at ss xs = without key ss (take at xs) ++ (picked key ss xs ++ without key ss (drop at xs))

@@ -29,7 +29,7 @@ pub fn insert(
     ensures { IsAnswer true (act_of shape (OnItems story.now (Insert target.now sources.now)) order.old.stories) order.old order.new result }
 {
     let ids = ids_of_items(alloc, sources)?;
-    match find_insert_fault(order, Level::Items(story), target, ids.as_slice()) {
+    match find_insert_fault(alloc, order, Level::Items(story), target, ids.as_slice()) {
         Some(fault) => Err(told(fault)),
         None => Ok(put_items(order, story, target, sources)?),
     }
@@ -46,7 +46,7 @@ pub fn replace(
     ensures { IsAnswer true (act_of shape (OnItems story.now (Replace target.now sources.now)) order.old.stories) order.old order.new result }
 {
     let ids = ids_of_items(alloc, sources)?;
-    match find_replace_fault(order, Level::Items(story), target, ids.as_slice()) {
+    match find_replace_fault(alloc, order, Level::Items(story), target, ids.as_slice()) {
         Some(fault) => Err(told(fault)),
         None => Ok(put_items_for(order, story, target, sources)?),
     }
@@ -54,6 +54,7 @@ pub fn replace(
 
 /// Moves items before the target.
 pub fn shift<'a>(
+    alloc: Global,
     order: &mut Order,
     story: &'a OptId,
     target: &'a OptId,
@@ -62,7 +63,7 @@ pub fn shift<'a>(
     ensures { IsAnswer false (act_of shape (OnItems story.now (Move target.now sources.now)) order.old.stories) order.old order.new result }
 {
     let ids = sources.as_slice();
-    match find_move_fault(order, Level::Items(story), target, ids) {
+    match find_move_fault(alloc, order, Level::Items(story), target, ids) {
         Some(fault) => Err(told(fault)),
         None => {
             move_items(order, story, target, ids);
@@ -72,11 +73,16 @@ pub fn shift<'a>(
 }
 
 /// Removes items.
-pub fn delete<'a>(order: &mut Order, story: &'a OptId, sources: &'a OptIds) -> Result<(), ActFault>
+pub fn delete<'a>(
+    alloc: Global,
+    order: &mut Order,
+    story: &'a OptId,
+    sources: &'a OptIds,
+) -> Result<(), ActFault>
     ensures { IsAnswer false (act_of shape (OnItems story.now (Delete sources.now)) order.old.stories) order.old order.new result }
 {
     let ids = sources.as_slice();
-    match find_delete_fault(order, Level::Items(story), ids) {
+    match find_delete_fault(alloc, order, Level::Items(story), ids) {
         Some(fault) => Err(told(fault)),
         None => {
             remove_items(order, story, ids);

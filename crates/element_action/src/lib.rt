@@ -10,14 +10,17 @@ mod copying;
 mod edits;
 mod fault;
 mod first_fault;
+mod gathering;
 mod item_edits;
 mod item_forms;
 mod laws;
 mod level;
 mod search;
+mod seen;
 mod sources;
 mod story_edits;
 mod story_forms;
+mod story_moves;
 mod target;
 
 pub use actions::act;

@@ -1,7 +1,8 @@
 //! The first fault of each form of action: the story of an item form, the target, then the sources from left to right.
 //!
-//! No search takes memory.
-ghost use Rattle.std.specs.Prelude.{◌≡◌, [], Some};
+//! Many sources are looked for in a table of those before them. Where there is no memory for it, they are compared with one
+//! another, so that each search has its answer.
+ghost use Rattle.std.specs.Prelude.{◌≡◌, [], Some, IfOk};
 ghost use Rattle.std.specs.Option.{option_copied, option_map};
 ghost use Rattle.mos_edits.specs.Texts.{same_id, has_id};
 ghost use Rattle.mos_edits.specs.KeyedLists.{first_of, lacking, lacking_target, lacking_place, first_repeated, first_missing};
@@ -10,8 +11,10 @@ ghost use Rattle.element_action.specs.Levels.{level_ids, level_fault, beside};
 
 use crate::first_fault::FirstFault;
 use crate::level::Level;
-use mos_fields::OptId;
-use running_order::Order;
+use crate::seen::{are_few, is_seen, note};
+use mos_fields::{NoMemory, OptId};
+use running_order::{IdTable, Order};
+use std::alloc::Global;
 
 // Whether two IDs are the same.
 fn is_same(a: &OptId, b: &OptId) -> bool
@@ -105,7 +108,7 @@ fn find_place_fault<'a>(
 }
 
 // The first source that is there, or that equals one before it.
-fn find_repeated<'a>(
+fn find_repeated_by_pairs<'a>(
     order: &Order,
     level: Level<'_>,
     out: Option<&OptId>,
@@ -122,8 +125,53 @@ fn find_repeated<'a>(
     None
 }
 
+// The same, by a table of those before it.
+fn find_repeated_by_table<'a>(
+    alloc: Global,
+    order: &Order,
+    level: Level<'_>,
+    out: Option<&OptId>,
+    sources: &'a [OptId],
+) -> Result<Option<FirstFault<'a>>, NoMemory>
+    ensures { IfOk result (λ f. option_map named f ≡ first_repeated (beside (option_copied out.entry) (level_ids level.entry order.now.stories)) [] sources.now) }
+{
+    let mut seen = IdTable::with_room(alloc, sources.len())?;
+    for k in 0..sources.len() {
+        let id = &sources[k];
+        if is_beside(order, level, out, id) || is_seen(&seen, id) {
+            return Ok(Some(FirstFault::AlreadyThere(id)));
+        }
+        note(&mut seen, alloc, id)?;
+    }
+    Ok(None)
+}
+
+// The same, however many there are.
+fn find_repeated<'a>(
+    alloc: Global,
+    order: &Order,
+    level: Level<'_>,
+    out: Option<&OptId>,
+    sources: &'a [OptId],
+) -> Option<FirstFault<'a>>
+    ensures { option_map named result ≡ first_repeated (beside (option_copied out.entry) (level_ids level.entry order.now.stories)) [] sources.now }
+{
+    if are_few(sources) {
+        find_repeated_by_pairs(order, level, out, sources)
+    } else {
+        match find_repeated_by_table(alloc, order, level, out, sources) {
+            Ok(found) => found,
+            Err(_) => find_repeated_by_pairs(order, level, out, sources),
+        }
+    }
+}
+
 // The first source that isn't there, or that equals one before it.
-fn find_missing<'a>(order: &Order, level: Level<'_>, sources: &'a [OptId]) -> Option<FirstFault<'a>>
+fn find_missing_by_pairs<'a>(
+    order: &Order,
+    level: Level<'_>,
+    sources: &'a [OptId],
+) -> Option<FirstFault<'a>>
     ensures { option_map named result ≡ first_missing (level_ids level.entry order.now.stories) [] sources.now }
 {
     for k in 0..sources.len() {
@@ -135,8 +183,48 @@ fn find_missing<'a>(order: &Order, level: Level<'_>, sources: &'a [OptId]) -> Op
     None
 }
 
+// The same, by a table of those before it.
+fn find_missing_by_table<'a>(
+    alloc: Global,
+    order: &Order,
+    level: Level<'_>,
+    sources: &'a [OptId],
+) -> Result<Option<FirstFault<'a>>, NoMemory>
+    ensures { IfOk result (λ f. option_map named f ≡ first_missing (level_ids level.entry order.now.stories) [] sources.now) }
+{
+    let mut seen = IdTable::with_room(alloc, sources.len())?;
+    for k in 0..sources.len() {
+        let id = &sources[k];
+        if !is_there(order, level, id) || is_seen(&seen, id) {
+            return Ok(Some(FirstFault::Missing(id)));
+        }
+        note(&mut seen, alloc, id)?;
+    }
+    Ok(None)
+}
+
+// The same, however many there are.
+fn find_missing<'a>(
+    alloc: Global,
+    order: &Order,
+    level: Level<'_>,
+    sources: &'a [OptId],
+) -> Option<FirstFault<'a>>
+    ensures { option_map named result ≡ first_missing (level_ids level.entry order.now.stories) [] sources.now }
+{
+    if are_few(sources) {
+        find_missing_by_pairs(order, level, sources)
+    } else {
+        match find_missing_by_table(alloc, order, level, sources) {
+            Ok(found) => found,
+            Err(_) => find_missing_by_pairs(order, level, sources),
+        }
+    }
+}
+
 /// The first fault of an INSERT of what has these IDs.
 pub fn find_insert_fault<'a>(
+    alloc: Global,
     order: &Order,
     level: Level<'a>,
     target: &'a OptId,
@@ -148,13 +236,14 @@ pub fn find_insert_fault<'a>(
         Some(fault) => Some(fault),
         None => match find_target_fault(order, level, target) {
             Some(fault) => Some(fault),
-            None => find_repeated(order, level, None, sources),
+            None => find_repeated(alloc, order, level, None, sources),
         },
     }
 }
 
 /// The first fault of a REPLACE by what has these IDs.
 pub fn find_replace_fault<'a>(
+    alloc: Global,
     order: &Order,
     level: Level<'a>,
     target: &'a OptId,
@@ -166,13 +255,14 @@ pub fn find_replace_fault<'a>(
         Some(fault) => Some(fault),
         None => match find_lacking(order, level, target) {
             Some(fault) => Some(fault),
-            None => find_repeated(order, level, Some(target), sources),
+            None => find_repeated(alloc, order, level, Some(target), sources),
         },
     }
 }
 
 /// The first fault of a MOVE.
 pub fn find_move_fault<'a>(
+    alloc: Global,
     order: &Order,
     level: Level<'a>,
     target: &'a OptId,
@@ -184,13 +274,14 @@ pub fn find_move_fault<'a>(
         Some(fault) => Some(fault),
         None => match find_place_fault(order, level, sources, target) {
             Some(fault) => Some(fault),
-            None => find_missing(order, level, sources),
+            None => find_missing(alloc, order, level, sources),
         },
     }
 }
 
 /// The first fault of a DELETE.
 pub fn find_delete_fault<'a>(
+    alloc: Global,
     order: &Order,
     level: Level<'a>,
     sources: &'a [OptId],
@@ -199,7 +290,7 @@ pub fn find_delete_fault<'a>(
 {
     match find_level_fault(order, level) {
         Some(fault) => Some(fault),
-        None => find_missing(order, level, sources),
+        None => find_missing(alloc, order, level, sources),
     }
 }
 

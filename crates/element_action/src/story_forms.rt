@@ -12,9 +12,8 @@ use crate::search::{
     find_delete_fault, find_insert_fault, find_move_fault, find_replace_fault, find_swap_fault,
 };
 use crate::sources::ids_of_stories;
-use crate::story_edits::{
-    move_stories, put_stories, put_stories_for, remove_stories, swap_stories,
-};
+use crate::story_edits::{put_stories, put_stories_for, swap_stories};
+use crate::story_moves::{move_all, remove_all};
 use mos_fields::{OptId, OptIds};
 use mos_values::Stories;
 use running_order::Order;
@@ -30,7 +29,7 @@ pub fn insert(
     ensures { IsAnswer true (act_of shape (OnStories (Insert target.now sources.now)) order.old.stories) order.old order.new result }
 {
     let ids = ids_of_stories(alloc, sources)?;
-    match find_insert_fault(order, Level::Stories, target, ids.as_slice()) {
+    match find_insert_fault(alloc, order, Level::Stories, target, ids.as_slice()) {
         Some(fault) => Err(told(fault)),
         None => Ok(put_stories(order, target, sources)?),
     }
@@ -46,35 +45,40 @@ pub fn replace(
     ensures { IsAnswer true (act_of shape (OnStories (Replace target.now sources.now)) order.old.stories) order.old order.new result }
 {
     let ids = ids_of_stories(alloc, sources)?;
-    match find_replace_fault(order, Level::Stories, target, ids.as_slice()) {
+    match find_replace_fault(alloc, order, Level::Stories, target, ids.as_slice()) {
         Some(fault) => Err(told(fault)),
         None => Ok(put_stories_for(order, target, sources)?),
     }
 }
 
 /// Moves stories before the target.
-pub fn shift<'a>(order: &mut Order, target: &'a OptId, sources: &'a OptIds) -> Result<(), ActFault>
+pub fn shift<'a>(
+    alloc: Global,
+    order: &mut Order,
+    target: &'a OptId,
+    sources: &'a OptIds,
+) -> Result<(), ActFault>
     ensures { IsAnswer false (act_of shape (OnStories (Move target.now sources.now)) order.old.stories) order.old order.new result }
 {
     let ids = sources.as_slice();
-    match find_move_fault(order, Level::Stories, target, ids) {
+    match find_move_fault(alloc, order, Level::Stories, target, ids) {
         Some(fault) => Err(told(fault)),
         None => {
-            move_stories(order, target, ids);
+            move_all(alloc, order, target, ids);
             Ok(())
         }
     }
 }
 
 /// Removes stories.
-pub fn delete(order: &mut Order, sources: &OptIds) -> Result<(), ActFault>
+pub fn delete(alloc: Global, order: &mut Order, sources: &OptIds) -> Result<(), ActFault>
     ensures { IsAnswer false (act_of shape (OnStories (Delete sources.now)) order.old.stories) order.old order.new result }
 {
     let ids = sources.as_slice();
-    match find_delete_fault(order, Level::Stories, ids) {
+    match find_delete_fault(alloc, order, Level::Stories, ids) {
         Some(fault) => Err(told(fault)),
         None => {
-            remove_stories(order, ids);
+            remove_all(alloc, order, ids);
             Ok(())
         }
     }

@@ -31,7 +31,7 @@ use Rattle.encoding_laws.proofs.Admitted.{HasRoom, Opens}
 use Rattle.encoding_laws.proofs.Pieces.{Canonical, leaf_piece}
 use Rattle.encoding_laws.proofs.Ordered.{Builds, builds_end, builds_child}
 use Rattle.encoding_laws.proofs.KindSegments.{is_key, reads_beside, field_named}
-use Rattle.encoding_laws.proofs.Texts.{Level, level_none, level_both, splits, level_must, level_maybe, level_joined, texts_of_parts, text_of_must}
+use Rattle.encoding_laws.proofs.LevelTexts.{Level, level_none, level_both, splits, level_must, level_maybe, level_joined, texts_of_parts, text_of_must}
 
 abbrev Seen : List Child → List Field → Type 0
 Seen b s = seen_of tables.RoAck b ≡ s

@@ -37,7 +37,7 @@ use Rattle.encoding_laws.specs.Identifiers.{HasDistinctItems, BringsDistinctItem
 use Rattle.encoding_laws.proofs.Pieces.{Canonical}
 use Rattle.encoding_laws.proofs.Assembled.{ColumnPieces, HasNoKey, Segment, Segments, assembled}
 use Rattle.encoding_laws.proofs.KindSegments.{segment_of, records_hold, reads_beside, IsTextColumn, text_piece, one_text, absent_segment, IsRecordColumn, record_child, record_piece_of, records_segment}
-use Rattle.encoding_laws.proofs.Texts.{Level, level_none, level_leaf, level_both, splits, texts_inside, level_must, level_element, text_of_must, must_part}
+use Rattle.encoding_laws.proofs.LevelTexts.{Level, level_none, level_leaf, level_both, splits, texts_inside, level_must, level_element, text_of_must, must_part}
 use Rattle.encoding_laws.proofs.Keys.{no_keys, unkeyed_follow}
 use Rattle.encoding_laws.proofs.StoryRecords.{each_inside, level_item, level_items, level_story, level_stories, FreshItem, items_fresh, FreshStory, stories_fresh}
 

@@ -43,7 +43,7 @@ use Rattle.encoding_laws.proofs.Admitted.{given_again, no_message, raw_of_messag
 use Rattle.encoding_laws.proofs.Pieces.{Piece, raw_piece, Canonical, record_piece}
 use Rattle.encoding_laws.proofs.Assembled.{ColumnPiece, Segment, assembled}
 use Rattle.encoding_laws.proofs.KindSegments.{segment_of, records_hold, raw_tokens, records_segment}
-use Rattle.encoding_laws.proofs.Texts.{Level, level_none, level_both, splits, texts_inside, level_must, level_maybe, level_must_raw, level_element, level_elements, must_part, maybe_part, same_false}
+use Rattle.encoding_laws.proofs.LevelTexts.{Level, level_none, level_both, splits, texts_inside, level_must, level_maybe, level_must_raw, level_element, level_elements, must_part, maybe_part, same_false}
 use Rattle.encoding_laws.proofs.Keys.{no_keys, unkeyed_follow}
 use Rattle.encoding_laws.proofs.StoryRecords.{each_inside, level_patch, patch_canonical, level_body, body_canonical}
 use Rattle.encoding_laws.proofs.ObjectRecords.{level_mos_obj, mos_obj_canonical, level_mos_ack, mos_ack_canonical, level_element_stat, element_stat_canonical, level_story_send, story_send_canonical, level_mach_info, mach_info_canonical}

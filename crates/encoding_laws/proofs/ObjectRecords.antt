@@ -23,7 +23,7 @@ use Rattle.encoding_laws.specs.Fitting.{TextsFit}
 use Rattle.encoding_laws.proofs.Pieces.{Canonical}
 use Rattle.encoding_laws.proofs.Assembled.{Segment, assembled}
 use Rattle.encoding_laws.proofs.KindSegments.{record_segment, absent_segment}
-use Rattle.encoding_laws.proofs.Texts.{Level, level_none, level_both, splits, level_must, level_maybe, level_maybe_as, level_must_raw, level_maybe_raw, level_raws, level_element, level_joined, texts_of_parts, EachFits, raws_of_parts, must_part, maybe_part, maybe_as_part, must_raw_part, maybe_raw_part, raws_part, kept_part}
+use Rattle.encoding_laws.proofs.LevelTexts.{Level, level_none, level_both, splits, level_must, level_maybe, level_maybe_as, level_must_raw, level_maybe_raw, level_raws, level_element, level_joined, texts_of_parts, EachFits, raws_of_parts, must_part, maybe_part, maybe_as_part, must_raw_part, maybe_raw_part, raws_part, kept_part}
 use Rattle.encoding_laws.proofs.Keys.{joined_append}
 use Rattle.mos_values.specs.declared.mos_obj.MosObj.{MosObj}
 use Rattle.mos_values.specs.declared.mach_info.MachInfo.{MachInfo}
@@ -39,7 +39,7 @@ use Rattle.std.proofs.lemmas.Fmt.{decimal_digit}
 use Rattle.encoding_laws.proofs.Pieces.{leaf_piece}
 use Rattle.encoding_laws.proofs.Assembled.{ColumnPiece, ColumnPieces, HasNoKey}
 use Rattle.encoding_laws.proofs.KindSegments.{field_named, segment_of}
-use Rattle.encoding_laws.proofs.Texts.{level_leaf}
+use Rattle.encoding_laws.proofs.LevelTexts.{level_leaf}
 
 abbrev mos_obj_parts : MosObj → List (List Event)
 mos_obj_parts v = must fields.ObjID v.id ∷ maybe fields.ObjSlug v.slug ∷ maybe_raw fields.MosAbstract v.mos_abstract ∷ maybe fields.ObjGroup v.group ∷ maybe_as obj_type_text fields.ObjType v.obj_type ∷ maybe_as samples_text fields.ObjTB v.time_base ∷ maybe_as rev_text fields.ObjRev v.rev ∷ maybe_as samples_text fields.ObjDur v.dur ∷ maybe fields.Status v.status ∷ maybe_as air_text fields.ObjAir v.air ∷ maybe_raw fields.ObjPaths v.obj_paths ∷ maybe fields.CreatedBy v.created_by ∷ maybe fields.Created v.created ∷ maybe fields.ChangedBy v.changed_by ∷ maybe fields.Changed v.changed ∷ maybe_raw fields.Description v.description ∷ raws fields.Metadata v.metadata ∷ raws fields.Kept v.others ∷ []

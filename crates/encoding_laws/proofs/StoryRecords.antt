@@ -22,7 +22,7 @@ use Rattle.encoding_laws.specs.Identifiers.{HasDistinctItems}
 use Rattle.encoding_laws.proofs.Pieces.{Canonical}
 use Rattle.encoding_laws.proofs.Assembled.{Segment, assembled}
 use Rattle.encoding_laws.proofs.KindSegments.{key_segment, records_segment}
-use Rattle.encoding_laws.proofs.Texts.{Level, level_both, splits, texts_inside, level_must, level_maybe, level_maybe_as, level_maybe_raw, level_raws, level_element, level_elements, level_joined, texts_of_parts, EachFits, raws_of_parts, text_of_must, must_part, maybe_part, maybe_as_part, maybe_raw_part, raws_part, kept_part}
+use Rattle.encoding_laws.proofs.LevelTexts.{Level, level_both, splits, texts_inside, level_must, level_maybe, level_maybe_as, level_maybe_raw, level_raws, level_element, level_elements, level_joined, texts_of_parts, EachFits, raws_of_parts, text_of_must, must_part, maybe_part, maybe_as_part, maybe_raw_part, raws_part, kept_part}
 use Rattle.encoding_laws.proofs.Keys.{fresh, reads_key, keys_keyless, no_keys_yet, keyed_follow, joined_behind}
 use Rattle.mos_values.specs.declared.header.Header.{Header}
 use Rattle.mos_values.specs.declared.header.HeaderPatch.{HeaderPatch}

@@ -2,4 +2,9 @@
 //! and its clause is the law.
 #![tactic(auto)]
 
+pub mod elements;
 pub mod laws;
+pub mod numbers;
+pub mod texts;
+pub mod times;
+pub mod words;

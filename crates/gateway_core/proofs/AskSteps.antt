@@ -8,7 +8,7 @@ use Rattle.mos_machines.specs.Messages.Message.{Heartbeat}
 use Rattle.mos_machines.specs.Device.{GateState, GateOut, Confirmation, asked_next, next_if, gate_next, first_wanted}
 use Rattle.mos_machines.specs.Device.GateOut.{NotAsking, AsksFor, AsksAll, AsksBeat}
 use Rattle.mos_machines.specs.Device.Confirmation.{NotDue, Due, Unanswered}
-use Rattle.mos_machines.specs.Steps.{device_step, DeviceEvent, unless_stale, gate_sent}
+use Rattle.mos_machines.specs.Steps.{device_step, DeviceEvent, asked_on, gate_sent}
 use Rattle.mos_machines.specs.Steps.DeviceEvent.{NextAsk}
 use Rattle.mos_machines.specs.Tables.{look, row_ids, KnownOrder, unknown_order, GateTables, gate_of}
 use Rattle.machine_answers.specs.Answers.{asked_of}
@@ -68,25 +68,23 @@ next-busy now g (Some b) AsksAll n = refl
 next-busy now g (Some b) AsksBeat n = refl
 
 module _ (g : GateState) (c : ℕ) (now : MosTime) where
-  stale-by : (b : Bool) → b ≡ false → (asked_of (unless_stale b g (gate_sent (gate_next now g))).0 ≡ asked_of (unless_stale false g (gate_sent (gate_next now g))).0) × ((unless_stale b g (gate_sent (gate_next now g))).1 ≡ g)
-  stale-by false e = (refl, refl)
-  stale-by true e = absurd (cc)
-
-  step-by : (b : Bool) → b ≡ true → (asked_of (unless_stale b g (gate_sent (gate_next now g))).0 ≡ sent_of (gate_next now g).1) × ((unless_stale b g (gate_sent (gate_next now g))).1 ≡ (gate_next now g).0)
-  step-by true e = (sent-by (gate_next now g), state-by (gate_next now g))
-  step-by false e = absurd (cc)
+  -- what is answered, and the state after it, by what is asked on the connection
+  asks-so : (x : GateState × Option Message) → asked_on (is_link g.link c) g (gate_next now g) ≡ x → (asked_of (device_step g (NextAsk c now)).0 ≡ sent_of x.1) × ((device_step g (NextAsk c now)).1 ≡ x.0)
+  asks-so x e =
+      (ap (λ (y : GateState × Option Message). asked_of (gate_sent y).0) e ∙ sent-by x, ap (λ (y : GateState × Option Message). (gate_sent y).1) e ∙ state-by x)
 
   pub asked-current : is_link g.link c ≡ true → g.out ≡ NotAsking → (asked_of (device_step g (NextAsk c now)).0 ≡ sent_of (asks_next now g).1) × ((device_step g (NextAsk c now)).1 ≡ (asks_next now g).0)
-  asked-current e f =
-      let s = step-by (is_link g.link c) e in
-      let n = next-open now g g.link c g.out e f in
-      (s.0 ∙ ap (λ (x : GateState × Option Message). sent_of x.1) n, s.1 ∙ ap (λ (x : GateState × Option Message). x.0) n)
+  asked-current e f = asks-so (asks_next now g) (ap (λ (b : Bool). asked_on b g (gate_next now g)) e ∙ next-open now g g.link c g.out e f)
 
-  pub asked-busy : is_link g.link c ≡ true → (g.out ≡ NotAsking → ⊥) → (asked_of (device_step g (NextAsk c now)).0 ≡ sent_of None) × ((device_step g (NextAsk c now)).1 ≡ g)
-  asked-busy e f =
-      let s = step-by (is_link g.link c) e in
-      let n = next-busy now g g.link g.out f in
-      (s.0 ∙ ap (λ (x : GateState × Option Message). sent_of x.1) n, s.1 ∙ ap (λ (x : GateState × Option Message). x.0) n)
+  pub asked-busy : (g.out ≡ NotAsking → ⊥) → (asked_of (device_step g (NextAsk c now)).0 ≡ sent_of None) × ((device_step g (NextAsk c now)).1 ≡ g)
+  asked-busy f = asks-so (g, None) (ap (λ (x : GateState × Option Message). asked_on (is_link g.link c) g x) (next-busy now g g.link g.out f) ∙ same (is_link g.link c))
+    where
+      same : (b : Bool) → asked_on b g (g, None) ≡ (g, None)
+      same true = refl
+      same false = refl
+
+  pub asked-elsewhere : is_link g.link c ≡ false → (asked_of (device_step g (NextAsk c now)).0 ≡ sent_of None) × ((device_step g (NextAsk c now)).1 ≡ g)
+  asked-elsewhere e = asks-so (g, None) (ap (λ (b : Bool). asked_on b g (gate_next now g)) e)
 
 -- the first wanted order of the state is that of the rows
 AreLooked : (Text → Bool) → List (Text × KnownOrder) → Type 0

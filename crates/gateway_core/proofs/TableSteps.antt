@@ -9,8 +9,8 @@ use Rattle.mos_machines.specs.Device.Phase.{InStep, OutOfStep}
 use Rattle.order_table.proofs.AscendingRows.{before-all, find-none}
 use Rattle.mos_machines.specs.Device.GateOut.{NotAsking, AsksFor, AsksAll, AsksBeat}
 use Rattle.mos_machines.specs.Device.Confirmation.{NotDue}
-use Rattle.mos_machines.specs.Tables.{look, put_row, row_ids, map_rows, KnownOrder, unknown_order, GateTables, gate_of, with_row}
-use Rattle.mos_machines.proofs.RowTables.{look-put, look-map, ids-put, ids-map, gate-put, gate-accepted, gate-dropped, crossed_order, dropped_order, has_row}
+use Rattle.mos_machines.specs.Tables.{look, put_row, row_ids, map_rows, KnownOrder, unknown_order, GateTables, gate_of, with_row, crossed_order, dropped_order}
+use Rattle.mos_machines.proofs.RowTables.{look-put, look-map, ids-put, ids-map, gate-put, gate-accepted, gate-dropped, has_row}
 use Rattle.order_table.specs.Rows.{IsAscending, find_row, value_or}
 use Rattle.order_table.proofs.Looked.{look-found, find-put, find-map, find-kept, ids-there}
 use Rattle.gateway_core.specs.Gots.{got_known}

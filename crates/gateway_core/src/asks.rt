@@ -65,15 +65,16 @@ impl Gate {
     /// What is sent next on the connection that the device opened: a heartbeat that confirms a list, a request of all
     /// orders, a request of the least order that is wanted, or a heartbeat that was asked for.
     ///
-    /// `Nothing` comes exactly where an answer is awaited, or none of these is due. The only error is that memory runs out;
-    /// the gateway then stays as it was.
+    /// `Nothing` comes exactly where the connection isn't the one that the device opened, an answer is awaited there, or none
+    /// of these is due; `Stale` never does. The only error is that memory runs out; the gateway then stays as it was.
     pub fn next_ask(&mut self, link: u64, now: &MosTime) -> Result<Sent, NoMemory>
         ensures answer { IfOk result (λ a. a ≡ asked_of (device_step (gate_of self.old) (DeviceEvent.NextAsk link now.now)).0) }
         ensures step { OnOk result (gate_of self.new ≡ (device_step (gate_of self.old) (DeviceEvent.NextAsk link now.now)).1) }
+        ensures never_stale { IfOk result (λ a. a ≡ sent.Stale → ⊥) }
         ensures err { OnErr result (self.new ≡ self.old) }
     {
         if !is_link(self.link, link) {
-            return Ok(Sent::Stale);
+            return Ok(Sent::Nothing);
         }
         match self.out {
             Asking::Nothing => self.ask(now),

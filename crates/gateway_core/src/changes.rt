@@ -23,7 +23,7 @@ fn crossed(phase: Phase) -> Phase
 }
 
 impl RowChange<Known> for Crossing {
-    ghost use Rattle.mos_machines.proofs.RowTables.{crossed_order};
+    ghost use Rattle.mos_machines.specs.Tables.{crossed_order};
 
     ghost changed = { λ s r k. crossed_order k };
 
@@ -71,7 +71,7 @@ fn dropped_phase(asked: bool, confirmed: bool, phase: Phase) -> Phase
 }
 
 impl RowChange<Known> for Dropping {
-    ghost use Rattle.mos_machines.proofs.RowTables.{dropped_order};
+    ghost use Rattle.mos_machines.specs.Tables.{dropped_order};
     ghost use Rattle.gateway_core.specs.Parts.{asking_of, confirmation_of};
 
     ghost changed = { λ s r k. dropped_order (asking_of s.out) (confirmation_of s.confirm) r k };

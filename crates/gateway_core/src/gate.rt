@@ -22,8 +22,8 @@ use std::mem::replace;
 
 /// What a gateway keeps: its two connections with the server, what is in flight on its own, and the orders that it knows.
 ///
-/// Each call is one step of the device. A call for a connection that isn't the current one is answered `Stale` and changes
-/// nothing.
+/// Each call is one step of the device. A call for a connection that isn't the current one is answered `Stale`, `next_ask`
+/// there `Nothing`, and changes nothing.
 #[derive(Drop)]
 pub struct Gate {
     pub(crate) upper: Option<u64>,

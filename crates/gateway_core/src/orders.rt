@@ -8,7 +8,7 @@ ghost use Rattle.gateway_core.specs.Gots.{got_known};
 ghost use Rattle.gateway_core.specs.Parts.{phase_of, wanted_order, first_wanted_row};
 
 use crate::known::{Known, Phase, is_wanted};
-use mos_fields::{Id, NoMemory};
+use mos_fields::{Id, NoMemory, let_go};
 use order_table::OrderTable;
 use running_order::Order;
 
@@ -65,6 +65,7 @@ pub fn mark(orders: &mut OrderTable<Known>, ro: &Id, phase: Phase, wanted: bool)
     known.phase = phase;
     known.wanted = wanted;
     orders.exchange(ro, &mut known);
+    let_go(known);
 }
 
 // Wants an order, unless it is asked for; one that is in step is out of step from then on. Only a new row takes memory.
@@ -105,5 +106,6 @@ pub fn hold(orders: &mut OrderTable<Known>, ro: &Id, held: Option<Order>) -> boo
         wanted: !in_step,
     };
     orders.exchange(ro, &mut known);
+    let_go(known);
     in_step
 }

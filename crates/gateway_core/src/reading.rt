@@ -17,7 +17,7 @@ use crate::known::{DeckState, Known, Phase};
 use crate::orders::{is_wanted_in, know, mark, phase_in};
 use element_action::ActFault;
 use machine_answers::{Status, acknowledgement};
-use mos_fields::{Air, Id, NoMemory, OptId};
+use mos_fields::{Air, Id, NoMemory, OptId, let_go, pair_ok};
 use mos_values::{Message, OrderBody, RoAck};
 use order_table::OrderTable;
 use running_order::Order;
@@ -30,17 +30,33 @@ fn ack(alloc: Global, ro: &Id, status: &Status) -> Result<RoAck, NoMemory>
     acknowledgement(alloc, OptId::from_id(ro.try_clone()?), status)
 }
 
+// The same with a status that is let go then.
+fn ack_with(alloc: Global, ro: &Id, status: Status) -> Result<RoAck, NoMemory>
+    ensures { IfOk result (λ a. a ≡ acked ro.now (status_of status)) }
+{
+    let answer = ack(alloc, ro, &status);
+    let_go(status);
+    answer
+}
+
 // An edit of an order that is asked for isn't taken; the list that comes is out of date.
 fn read_asked(alloc: Global, orders: &mut OrderTable<Known>, ro: &Id) -> Result<RoAck, NoMemory>
     ensures rows { OnOk result (orders.new ≡ put_row ro.now (kept (asked_result (look unknown_order orders.old ro.now))) orders.old) }
     ensures answer { IfOk result (λ a. a ≡ acked ro.now MachineStatus.NotInStep) }
     ensures err { OnErr result (orders.new ≡ orders.old) }
 {
-    let answer = ack(alloc, ro, &Status::NotInStep)?;
+    let answer = ack_with(alloc, ro, Status::NotInStep)?;
     let wanted = is_wanted_in(orders, ro);
-    know(orders, ro)?;
-    mark(orders, ro, Phase::Crossed, wanted);
-    Ok(answer)
+    match know(orders, ro) {
+        Ok(()) => {
+            mark(orders, ro, Phase::Crossed, wanted);
+            Ok(answer)
+        }
+        Err(fault) => {
+            let_go(answer);
+            Err(fault)
+        }
+    }
 }
 
 // A change of an order that is out of step isn't taken; the order is asked for.
@@ -53,10 +69,17 @@ fn read_out_of_step(
     ensures answer { IfOk result (λ a. a ≡ acked ro.now MachineStatus.NotInStep) }
     ensures err { OnErr result (orders.new ≡ orders.old) }
 {
-    let answer = ack(alloc, ro, &Status::NotInStep)?;
-    know(orders, ro)?;
-    mark(orders, ro, Phase::Out, true);
-    Ok(answer)
+    let answer = ack_with(alloc, ro, Status::NotInStep)?;
+    match know(orders, ro) {
+        Ok(()) => {
+            mark(orders, ro, Phase::Out, true);
+            Ok(answer)
+        }
+        Err(fault) => {
+            let_go(answer);
+            Err(fault)
+        }
+    }
 }
 
 // A fault as the text of a roAck tells it.
@@ -75,7 +98,7 @@ fn refuse(alloc: Global, ro: &Id, fault: ActFault) -> Result<RoAck, NoMemory>
     ensures { IsRefused ro.now fault result }
 {
     let status = refusal(fault)?;
-    ack(alloc, ro, &status)
+    ack_with(alloc, ro, status)
 }
 
 // A change of an order that is in step is applied to what is held; after a fault the order is out of step and asked for.
@@ -91,10 +114,11 @@ fn read_in_step(
     ensures answer { IfOk result (λ a. a ≡ acked ro.now (known_result known.old (decks_of decks) (entry_at ro.now change.entry)).status) }
     ensures err { OnErr result (known.new ≡ known.old) }
 {
-    let answer = ack(alloc, ro, &status_after(change, decks))?;
+    let answer = ack_with(alloc, ro, status_after(change, decks))?;
     match apply(alloc, &mut known.held, ro, change) {
         Ok(()) => Ok(answer),
         Err(fault) => {
+            let_go(answer);
             let answer = refuse(alloc, ro, fault)?;
             known.phase = Phase::Out;
             known.wanted = true;
@@ -121,6 +145,7 @@ fn read_known(
     orders.exchange(ro, &mut known);
     let answer = read_in_step(alloc, &mut known, ro, change, decks);
     orders.exchange(ro, &mut known);
+    let_go(known);
     answer
 }
 
@@ -165,18 +190,20 @@ fn hold_whole(
     ensures answer { IfOk result (λ a. a ≡ acked ro.now MachineStatus.Okay) }
     ensures err { OnErr result (orders.new ≡ orders.old) }
 {
-    let answer = ack(alloc, ro, &Status::Okay)?;
-    let held = copied(alloc, body)?;
+    let (answer, held) = pair_ok(ack_with(alloc, ro, Status::Okay), copied(alloc, body))?;
     let wanted = is_wanted_in(orders, ro);
-    orders.put(
-        ro,
-        Known {
-            held,
-            phase: Phase::In,
-            wanted,
-        },
-    )?;
-    Ok(answer)
+    let known = Known {
+        held,
+        phase: Phase::In,
+        wanted,
+    };
+    match orders.put(ro, known) {
+        Ok(()) => Ok(answer),
+        Err(fault) => {
+            let_go(answer);
+            Err(fault)
+        }
+    }
 }
 
 // roCreate, roReplace and roDelete.

@@ -4,7 +4,7 @@ ghost use Rattle.mos_fields.specs.Characters.{bytes_of, units_of};
 ghost use Rattle.mos_tables.specs.Canonical.{canonical};
 ghost use Rattle.mos_values.specs.MessageViews.{envelope_events};
 
-use mos_fields::NoMemory;
+use mos_fields::{NoMemory, let_go};
 use mos_lexer::Kind;
 use mos_message_reading::{envelope_of, read_message};
 use mos_messages::encode;
@@ -16,9 +16,6 @@ use stream_commands::{Teller, refused_line};
 /// Tells each message in its canonical encoding, and of a rejection its line in UTF-8.
 #[derive(Clone, Copy, Debug, PartialEq, Eq)]
 pub struct Echo;
-
-// Lets a value go. What is let go here is dropped by a function of its type, and not variant by variant on each path.
-fn let_go<T: Drop>(_value: T) {}
 
 /// The canonical encoding of an envelope, which is let go.
 fn encoded(alloc: Global, envelope: Envelope) -> Result<Vec<u8>, NoMemory>

@@ -13,8 +13,12 @@ fn is_blank(unit: u16) -> bool
 pub fn are_blank(units: &[u16]) -> bool
     ensures { result ≡ are_blank_of units.now }
 {
-    match units {
-        [] => true,
-        [unit, more @ ..] => is_blank(*unit) && are_blank(more),
+    let mut rest = units;
+    while let [unit, more @ ..] = rest {
+        if !is_blank(*unit) {
+            return false;
+        }
+        rest = more;
     }
+    true
 }

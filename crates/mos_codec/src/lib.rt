@@ -15,6 +15,3 @@ pub use decoding::decoded;
 pub use encoding::{EncodeFault, encoded};
 pub use fault::DecodeFault;
 pub use whole::Placed;
-
-#[cfg(test)]
-mod tests;

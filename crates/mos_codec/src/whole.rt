@@ -11,15 +11,15 @@ ghost use Rattle.mos_codec.specs.Decoding.{IsReady, placed_events, with_ready};
 ghost use Rattle.mos_codec.specs.Taking.{IsMore, TakesFirst, Took};
 
 use mos_decoder::EventDecoder;
-use mos_fields::NoMemory;
+use mos_fields::{NoMemory, let_go};
 use mos_lexer::laws::encodings_are_read;
 use mos_message_reading::{envelope_of, read_message};
 use mos_reader::{Found, ReadFault};
 use mos_values::Envelope;
-use sound_reading::laws::read_messages_are_sound;
 use std::alloc::Global;
 use std::collections::VecDeque;
 use value_laws::envelopes::events_pin_envelopes;
+use value_laws::laws::read_messages_are_sound;
 use value_laws::ranges::message_is_in_range;
 
 /// A message that is whole.
@@ -30,9 +30,6 @@ pub struct Placed {
     /// the message with its envelope
     pub envelope: Envelope,
 }
-
-/// Lets a value go. What is let go here is dropped by a function of its type, and not variant by variant on each path.
-pub fn let_go<T: Drop>(_value: T) {}
 
 /// The envelope of events that were read.
 fn place(alloc: Global, found: Found) -> Result<Placed, NoMemory>

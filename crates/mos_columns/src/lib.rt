@@ -10,6 +10,6 @@ mod names;
 mod noting;
 
 pub use counts::{find_end_fault, find_tag};
-pub use messages::{find_message, message_table};
+pub use messages::{find_message, find_named, message_table};
 pub use names::is_name;
 pub use noting::{note, restart_counts, start_counts};

@@ -54,13 +54,14 @@ fn named_in(name: &[u16], among: &[MessageName]) -> Option<MessageName>
     }
 }
 
-fn find_named(name: &[u16]) -> Option<MessageName>
+/// The message whose element has this name, if there is one.
+pub fn find_named(name: &[u16]) -> Option<MessageName>
     ensures { result ≡ named_in_lem name.now all_messages }
 {
     named_in(name, messages_by_table())
 }
 
-/// The message whose element has this name, if there is one.
+/// The message whose element has this name, with the record that the tables give the name.
 pub fn find_message(name: &[u16]) -> Option<MessageName>
     ensures { (o : OperationOf) → table_of_name name.now (messages o) ≡ record_if o result }
 {

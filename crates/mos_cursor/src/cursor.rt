@@ -91,13 +91,16 @@ fn left_with_end(rest: &[Event], depth: usize) -> usize
     ensures inner { inner_of depth (reverse (events_of rest.now)) ≡ reverse (events_of (drop result rest.now)) }
     ensures behind { behind_of depth (reverse (events_of rest.now)) ≡ reverse (events_of (take (result - 1) rest.now)) }
 {
-    match rest {
-        [] => 0,
-        [front @ .., event] => match depth_behind(event, depth) {
-            Some(next) => left_with_end(front, next),
-            None => rest.len(),
-        },
+    let mut left = rest.len();
+    let mut inside = depth;
+    'event: while left > 0 {
+        match depth_behind(&rest[left - 1], inside) {
+            Some(next) => inside = next,
+            None => return left,
+        }
+        left -= 1;
     }
+    0
 }
 
 impl Cursor {

@@ -13,3 +13,4 @@ pub use cursor::Cursor;
 pub use laws::{whole_record, written_tags};
 pub use record::record_slots;
 pub use slot::{LeafText, Nested, Slot};
+pub use take::take_leaf;

@@ -167,6 +167,54 @@ impl Slot {
         }
     }
 
+    /// The time of a field that may be absent. The only error is that memory runs out.
+    pub fn optional_time(self, alloc: Global) -> Result<Option<MosTime>, NoMemory>
+        requires { OptionalLeaf forms.Time (part_of self) }
+        ensures { IfOk result (λ t. (f : Field_) → part_events f (part_of self) ≡ maybe_as time_text f t) }
+    {
+        match self {
+            Slot::Leaf(leaf) => Ok(Some(time_of(alloc, leaf.text)?)),
+            Slot::Absent => Ok(None),
+            _ => unreachable!(),
+        }
+    }
+
+    /// Whether something is ready to go on air, of a field that may be absent. The only error is that memory runs out.
+    pub fn optional_air(self, alloc: Global) -> Result<Option<Air>, NoMemory>
+        requires { OptionalLeaf forms.Air (part_of self) }
+        ensures { IfOk result (λ a. (f : Field_) → part_events f (part_of self) ≡ maybe_as air_text f a) }
+    {
+        match self {
+            Slot::Leaf(leaf) => Ok(Some(air_of(alloc, leaf.text)?)),
+            Slot::Absent => Ok(None),
+            _ => unreachable!(),
+        }
+    }
+
+    /// The type of an object, of a field that may be absent. The only error is that memory runs out.
+    pub fn optional_obj_type(self, alloc: Global) -> Result<Option<ObjType>, NoMemory>
+        requires { OptionalLeaf forms.ObjType (part_of self) }
+        ensures { IfOk result (λ t. (f : Field_) → part_events f (part_of self) ≡ maybe_as obj_type_text f t) }
+    {
+        match self {
+            Slot::Leaf(leaf) => Ok(Some(obj_type_of(alloc, leaf.text)?)),
+            Slot::Absent => Ok(None),
+            _ => unreachable!(),
+        }
+    }
+
+    /// The revision of a field that may be absent. The only error is that memory runs out.
+    pub fn optional_rev(self, alloc: Global) -> Result<Option<Rev>, NoMemory>
+        requires { OptionalLeaf forms.Rev (part_of self) }
+        ensures { IfOk result (λ n. (f : Field_) → part_events f (part_of self) ≡ maybe_as rev_text f n) }
+    {
+        match self {
+            Slot::Leaf(leaf) => Ok(Some(rev_of(alloc, leaf.text)?)),
+            Slot::Absent => Ok(None),
+            _ => unreachable!(),
+        }
+    }
+
     /// The raw elements of a field. The only error is that memory runs out.
     pub fn raws(self, alloc: Global) -> Result<Unreads, NoMemory>
         requires { AnyRaws (part_of self) }

@@ -12,7 +12,7 @@ use mos_values::Sequence;
 use std::alloc::Global;
 
 /// A text of this field, if it is next.
-pub(crate) fn take_leaf(cursor: &mut Cursor, field: Field) -> Slot
+pub fn take_leaf(cursor: &mut Cursor, field: Field) -> Slot
     ensures taken { part_of result ≡ leaf_taken (name_of field) cursor.old }
     ensures left { cursor.new ≡ leaf_left (name_of field) cursor.old }
 {

@@ -8,7 +8,7 @@ use Rattle.mos_lexer.specs.Units.{Found as FoundOf}
 use Rattle.mos_reader.specs.declared.found.Found.{Found}
 use Rattle.mos_reader.specs.declared.found.ReadFault.{ReadFault}
 use Rattle.mos_reader.specs.declared.found.ReadFault.TheVariants.{Rejected, NoMemory}
-use Rattle.mos_reader.specs.Answers.{Stream, fed_on, run_of, answer_of, stream_behind}
+use Rattle.mos_reader.specs.Answers.{Stream, fed_on, run_of, answer_of, stream_behind, ComesTo}
 use Rattle.mos_reader.specs.Answers.{start_stream as start_units}
 use Rattle.mos_decoder.specs.Inputs.{Input, whole, refused, is_odd, input_of}
 
@@ -60,6 +60,31 @@ pub record HasHanded (s : ByteStream) (bytes : List ℕ) (found : List FoundOf) 
   pub count : s.count ≡ length found
   pub odd : s.odd ≡ odd_in bytes
   pub reads : s.stream.fault ≡ None
+
+-- ---- the end of the input, and faults
+
+-- Where the input ends behind so many units and an odd byte, the stream is rejected there, if it isn't before.
+abbrev pub cut_run : ℕ → UnitRun → UnitRun
+cut_run count (still_reads t) = rejected_at count kinds.End
+cut_run count (completed began v rest) = completed began v rest
+cut_run count (rejected_at place k) = rejected_at place k
+
+-- what the units held come to where the input ends behind them, and behind an odd byte where there is one
+abbrev pub last_run : Option ℕ → Stream → UnitRun
+last_run None s = run_of true s
+last_run (Some b) s = cut_run (length s.held) (unit_run start_reader s.held)
+
+-- The answer at the end of the input. A stream that is read no further is answered with the fault that it has.
+abbrev pub AnswersEnd : Option ℕ → Option ReadFault → Stream → Result (Option Found) ReadFault → Stream → Type 0
+AnswersEnd odd (Some k) s r t = (r ≡ Err k) × (t ≡ s)
+AnswersEnd odd None s r t = ComesTo (last_run odd s) s r t
+
+-- the fault is kept exactly where it is answered
+abbrev pub IsKept : Result (Option Found) ReadFault → Option ReadFault → Type 0
+IsKept (Ok o) fault = fault ≡ None
+IsKept (Err k) fault = fault ≡ Some k
+
+-- ---- what an answer says
 
 -- how many messages were handed out behind an answer
 abbrev pub counted : Result (Option Found) ReadFault → ℕ → ℕ

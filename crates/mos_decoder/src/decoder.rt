@@ -1,8 +1,11 @@
 //! Reading a stream of bytes.
-ghost use Rattle.std.specs.Prelude.{◌≡◌, ◌+◌, ◌<◌, ◌^◌, ◌++◌, ℕ, List, [], None, IsSome, false, OnErr, OnOk, length};
+ghost use Rattle.std.specs.Prelude.{◌≡◌, ◌+◌, ◌<◌, ◌^◌, ◌++◌, ℕ, List, [], Err, None, Some, IsSome, false, OnErr, OnOk, length};
+ghost use Rattle.mos_lexer.specs.declared.kind.Kind.TheVariants.{End as ending};
 ghost use Rattle.mos_lexer.specs.Units.{Found as FoundOf};
-ghost use Rattle.mos_reader.specs.Answers.{Answers, fed};
-ghost use Rattle.mos_decoder.specs.Bytes.{HandsValue, HasHanded, OnFound, Tells, TellsEnd, counted, fed_bytes, start_bytes};
+ghost use Rattle.mos_reader.specs.Answers.{Answers, failed_with, fed};
+ghost use Rattle.mos_reader.specs.declared.found.ReadFault.{ReadFault as ReadFaultOf};
+ghost use Rattle.mos_reader.specs.declared.found.ReadFault.TheVariants.{Rejected};
+ghost use Rattle.mos_decoder.specs.Bytes.{AnswersEnd, HandsValue, HasHanded, IsKept, OnFound, Tells, TellsEnd, counted, fed_bytes, start_bytes};
 
 use crate::units::units_behind;
 use mos_fields::NoMemory;
@@ -105,6 +108,8 @@ impl EventDecoder {
         ensures tells { (bytes : List ℕ) (found : List FoundOf) → HasHanded self.old bytes found → Tells bytes found result self.new }
         ensures shorter { OnFound result (length (self.new).stream.held < length (self.old).stream.held) }
         ensures value { HandsValue result }
+        ensures kept { IsKept result (self.new).stream.fault }
+        ensures same { (k : ReadFaultOf) → (self.old).stream.fault ≡ Some k → (result ≡ Err k) × (self.new ≡ self.old) }
     {
         match self.reader.next() {
             Ok(Some(found)) => {
@@ -121,8 +126,12 @@ impl EventDecoder {
     ///
     /// # Errors
     /// `Rejected` with the number of whole code units that were fed and the kind `End` where a message was begun and
-    /// isn't complete, or an odd byte is left; else as `next`.
+    /// isn't complete, or an odd byte is left; else as `next`. Either is answered from then on, by `next` too.
     pub fn end(&mut self) -> Result<Option<Found>, ReadFault>
+        ensures answer { AnswersEnd (self.old).odd (self.old).stream.fault (self.old).stream result (self.new).stream }
+        ensures odd { (self.new).odd ≡ (self.old).odd }
+        ensures kept { IsKept result (self.new).stream.fault }
+        ensures same { (k : ReadFaultOf) → (self.old).stream.fault ≡ Some k → (result ≡ Err k) × (self.new ≡ self.old) }
         ensures count { (self.new).count ≡ counted result (self.old).count }
         ensures tells { (bytes : List ℕ) (found : List FoundOf) → HasHanded self.old bytes found → TellsEnd bytes found result self.new }
         ensures shorter { OnFound result (length (self.new).stream.held < length (self.old).stream.held) }
@@ -137,6 +146,8 @@ impl EventDecoder {
     /// The input ends behind whole code units.
     fn end_with_a_unit(&mut self) -> Result<Option<Found>, ReadFault>
         requires { (self.old).odd ≡ None }
+        ensures answer { AnswersEnd (self.old).odd (self.old).stream.fault (self.old).stream result (self.new).stream }
+        ensures odd { (self.new).odd ≡ (self.old).odd }
         ensures count { (self.new).count ≡ counted result (self.old).count }
         ensures tells { (bytes : List ℕ) (found : List FoundOf) → HasHanded self.old bytes found → TellsEnd bytes found result self.new }
         ensures shorter { OnFound result (length (self.new).stream.held < length (self.old).stream.held) }
@@ -155,6 +166,8 @@ impl EventDecoder {
     /// The input ends behind an odd byte.
     fn end_in_a_unit(&mut self) -> Result<Option<Found>, ReadFault>
         requires { IsSome (self.old).odd }
+        ensures answer { AnswersEnd (self.old).odd (self.old).stream.fault (self.old).stream result (self.new).stream }
+        ensures odd { (self.new).odd ≡ (self.old).odd }
         ensures count { (self.new).count ≡ counted result (self.old).count }
         ensures tells { (bytes : List ℕ) (found : List FoundOf) → HasHanded self.old bytes found → TellsEnd bytes found result self.new }
         ensures shorter { OnFound result (length (self.new).stream.held < length (self.old).stream.held) }
@@ -162,8 +175,20 @@ impl EventDecoder {
     {
         match self.next() {
             Ok(Some(found)) => Ok(Some(found)),
-            Ok(None) => Err(ReadFault::Rejected(self.place(), Kind::End)),
+            Ok(None) => Err(self.cut_off()),
             Err(fault) => Err(fault),
         }
+    }
+
+    /// The input is cut off inside a code unit: the stream is read no further.
+    fn cut_off(&mut self) -> ReadFault
+        ensures fault { result ≡ Rejected (fed (self.old).stream) ending }
+        ensures stream { (self.new).stream ≡ failed_with result (self.old).stream }
+        ensures odd { (self.new).odd ≡ (self.old).odd }
+        ensures count { (self.new).count ≡ (self.old).count }
+    {
+        let fault = ReadFault::Rejected(self.place(), Kind::End);
+        self.reader.stop(fault);
+        fault
     }
 }

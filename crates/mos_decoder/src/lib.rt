@@ -8,6 +8,3 @@ mod decoder;
 mod units;
 
 pub use decoder::EventDecoder;
-
-#[cfg(test)]
-mod tests;

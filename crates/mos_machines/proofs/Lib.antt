@@ -1,8 +1,9 @@
-pub mod Least
-pub mod Extend
-pub mod Views
-pub mod Growing
-pub mod ServerAnswers
 pub mod DeviceAnswers
-pub mod Written
+pub mod Extend
+pub mod Growing
+pub mod Least
 pub mod RowTables
+pub mod ServerAnswers
+pub mod SizeLemmas
+pub mod Views
+pub mod Written

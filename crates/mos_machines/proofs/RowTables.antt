@@ -10,7 +10,7 @@ use Rattle.mos_machines.specs.Device.{GateOut, Confirmation, crossed, gate_accep
 use Rattle.mos_machines.specs.Device.GateOut.{NotAsking}
 use Rattle.mos_machines.specs.Device.Confirmation.{NotDue}
 use Rattle.mos_machines.specs.Device.Phase.{OutOfStep}
-use Rattle.mos_machines.specs.Tables.{look, put_row, row_ids, map_rows, KnownOrder, unknown_order, GateTables, gate_of, with_row, PeerTables, peer_of}
+use Rattle.mos_machines.specs.Tables.{look, put_row, row_ids, map_rows, KnownOrder, unknown_order, crossed_order, dropped_order, GateTables, gate_of, with_row, PeerTables, peer_of}
 
 look-put-at : {X : Type 0} (d : X) (rows : List (Text × X)) (r : Text) (v : X) (q : Text) → look d (put_row r v rows) q ≡ set_order (look d rows) r v q
 look-put-at d [] r v q = refl
@@ -105,9 +105,6 @@ pub peer-cut : (p : PeerTables) → peer_of (record { upper = Down; note = false
 peer-cut p = refl
 
 -- a new connection of the server
-abbrev pub crossed_order : KnownOrder → KnownOrder
-crossed_order k = record { held = k.held; phase = crossed k.phase; wanted = k.wanted }
-
 pub gate-accepted : (c : ℕ) (g : GateTables) → gate_of (record { upper = Some c; link = g.link; out = g.out; want_all = true; confirm = NotDue; note = g.note; orders = map_rows (λ r. crossed_order) g.orders }) ≡ gate_accepted c (gate_of g)
 gate-accepted c g =
     let m = look-map (λ r. crossed_order) unknown_order unknown_order g.orders (λ r. refl) in
@@ -125,8 +122,6 @@ gate-accepted c g =
     }
 
 -- the device's own connection dropped: an order that it asks for is one that it knows
-abbrev pub dropped_order : GateOut → Confirmation → Text → KnownOrder → KnownOrder
-dropped_order out confirm r k = record { held = k.held; phase = dropped_phase (is_for r out) (is_confirmed r confirm) k.phase; wanted = k.wanted || (is_in k.phase || is_for r out) }
 
 -- whether a row has that roID
 abbrev pub has_row : List (Text × KnownOrder) → Text → Bool

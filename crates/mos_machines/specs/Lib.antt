@@ -1,7 +1,8 @@
+pub mod Device
 pub mod Messages
 pub mod Server
-pub mod Device
+pub mod Small
 pub mod Steps
-pub mod Views
-pub mod Values
 pub mod Tables
+pub mod Values
+pub mod Views

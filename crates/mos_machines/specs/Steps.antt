@@ -1,5 +1,5 @@
 -- The two machines as the calls of the code make them. A call for a link that isn't the current one is answered Stale
--- and changes nothing.
+-- and changes nothing; only where a device is asked what it sends next, it is answered Nothing.
 use Rattle.std.specs.Prelude.{◌≡◌, ℕ, ◌≤◌, List, [], ◌∷◌, ◌++◌, Bool, true, false, Option, Some, None}
 use Rattle.mos_edits.specs.Texts.{Text, set_number}
 use Rattle.mos_edits.specs.Orders.{Order}
@@ -116,6 +116,11 @@ abbrev pub gate_sent : GateState × Option Message → StepAnswer × GateState
 gate_sent (g, None) = (Nothing, g)
 gate_sent (g, Some m) = (Sent (untagged m), g)
 
+-- what is asked on a connection: on one that isn't the device's own, nothing is
+abbrev pub asked_on : Bool → GateState → GateState × Option Message → GateState × Option Message
+asked_on true g x = x
+asked_on false g x = (g, None)
+
 abbrev pub gate_stepped : GateState × Step → StepAnswer × GateState
 gate_stepped (g, step) = (Stepped step, g)
 
@@ -126,7 +131,7 @@ device_step g (UpperLeft c) = unless_stale (is_link g.upper c) g (Stepped Taken,
 device_step g (ReadUpper c m decks) = unless_stale (is_link g.upper c) g (gate_says (gate_read g decks m))
 device_step g (DeviceOpened c) = (Silent, gate_opened c g)
 device_step g (GateDropped c) = unless_stale (is_link g.link c) g (Stepped Taken, gate_dropped g)
-device_step g (NextAsk c now) = unless_stale (is_link g.link c) g (gate_sent (gate_next now g))
+device_step g (NextAsk c now) = gate_sent (asked_on (is_link g.link c) g (gate_next now g))
 device_step g (ReadAnswer c m) = unless_stale (is_link g.link c) g (gate_stepped (gate_got g m))
 device_step g (Want r) = (Silent, gate_want r g)
 device_step g GateBeat = (Silent, gate_beat g)

@@ -1,12 +1,12 @@
 -- The machines' states as contracts see them in code: a table by roID is a list of rows, ascending, and stands for a function
 -- with a default.
-use Rattle.std.specs.Prelude.{ℕ, List, [], ◌∷◌, map, get_or, Bool, false, Option, None, if◌then◌else◌}
+use Rattle.std.specs.Prelude.{ℕ, List, [], ◌∷◌, map, get_or, Bool, false, Option, None, if◌then◌else◌, ◌||◌}
 use Rattle.mos_edits.specs.Texts.{Text, same_id, set_order}
 use Rattle.mos_edits.specs.Orders.{Order}
 use Rattle.mos_edits.specs.Entries.{Entry, is_before, insert_id}
 use Rattle.mos_machines.specs.Server.{Upper, View, PeerState}
 use Rattle.mos_machines.specs.Server.View.{Out}
-use Rattle.mos_machines.specs.Device.{GateOut, Phase, Confirmation, GateState}
+use Rattle.mos_machines.specs.Device.{GateOut, Phase, Confirmation, GateState, crossed, dropped_phase, is_for, is_confirmed, is_in}
 use Rattle.mos_machines.specs.Device.Phase.{OutOfStep}
 use Rattle.mos_machines.specs.Steps.{ServerState}
 
@@ -38,6 +38,14 @@ pub record KnownOrder : Type 0 where
 
 abbrev pub unknown_order : KnownOrder
 unknown_order = record { held = None; phase = OutOfStep; wanted = false }
+
+-- what is known of an order once the server is connected anew
+abbrev pub crossed_order : KnownOrder → KnownOrder
+crossed_order k = record { held = k.held; phase = crossed k.phase; wanted = k.wanted }
+
+-- the same of order `r` once the gateway's own connection is dropped, on which this was asked for and that was to be confirmed
+abbrev pub dropped_order : GateOut → Confirmation → Text → KnownOrder → KnownOrder
+dropped_order out confirm r k = record { held = k.held; phase = dropped_phase (is_for r out) (is_confirmed r confirm) k.phase; wanted = k.wanted || (is_in k.phase || is_for r out) }
 
 pub record GateTables : Type 0 where
   pub upper : Option ℕ

@@ -24,11 +24,12 @@ pub fn unfit_actions_leave_the_order()
     ensures out_of_step { (g : GateState) (c : ℕ) (e : Entry) (decks : Decks) → is_link g.upper c ≡ true → g.phase e.ro ≡ Phase.OutOfStep → kind e.edit ≡ Kind.IsAction → ReadsTo g c e decks Status.NotInStep (g.held e.ro) Phase.OutOfStep }
 {}
 
-/// A message or an end on a connection that isn't the device's current one is answered Stale and changes nothing.
+/// A message or an end on a connection that isn't the device's current one is answered Stale and changes nothing. On such
+/// a connection nothing is asked, and that changes nothing either.
 pub fn stale_links_leave_the_device()
     ensures left { (g : GateState) (c : ℕ) → is_link g.upper c ≡ false → device_step g (DeviceEvent.UpperLeft c) ≡ (StepAnswer.Stale, g) }
     ensures read { (g : GateState) (c : ℕ) (m : Message) (decks : Decks) → is_link g.upper c ≡ false → device_step g (DeviceEvent.ReadUpper c m decks) ≡ (StepAnswer.Stale, g) }
     ensures dropped { (g : GateState) (c : ℕ) → is_link g.link c ≡ false → device_step g (DeviceEvent.GateDropped c) ≡ (StepAnswer.Stale, g) }
-    ensures next { (g : GateState) (c : ℕ) (now : MosTime) → is_link g.link c ≡ false → device_step g (DeviceEvent.NextAsk c now) ≡ (StepAnswer.Stale, g) }
+    ensures next { (g : GateState) (c : ℕ) (now : MosTime) → is_link g.link c ≡ false → device_step g (DeviceEvent.NextAsk c now) ≡ (StepAnswer.Nothing, g) }
     ensures answered { (g : GateState) (c : ℕ) (m : Message) → is_link g.link c ≡ false → device_step g (DeviceEvent.ReadAnswer c m) ≡ (StepAnswer.Stale, g) }
 {}

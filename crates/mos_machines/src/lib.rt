@@ -18,3 +18,7 @@ pub use server::{
     server_stays_within_its_journal, stale_links_leave_the_server,
 };
 pub use tables::written_rows_are_looked_up;
+
+mod sizes;
+
+pub use sizes::limits_count_canonical_encodings;

@@ -8,12 +8,10 @@ ghost use Rattle.mos_values.specs.MessageViews.{message_events};
 ghost use Rattle.mos_values.specs.Parts.{attribute, element, element_with};
 ghost use Rattle.mos_cursor.specs.Accepted.{IsAccepted};
 
-use mos_ack_reading::ack_of;
 use mos_action_reading::action_of;
-use mos_answer_reading::stat_of;
 use mos_cursor::Cursor;
 use mos_fields::{Level, NoMemory, Operation};
-use mos_order_reading::{release_of, send_of};
+use mos_order_reading::{ack_of, release_of, send_of, stat_of};
 use mos_values::{Boxed, Message};
 use std::alloc::Global;
 

@@ -11,8 +11,8 @@ ghost use Rattle.mos_values.specs.Pieces.{pieces_events};
 ghost use Rattle.mos_writer.specs.Encoded.{encoded};
 
 use mos_fields::{Field, NoMemory};
-use mos_object_msgs::write_object;
-use mos_order_msgs::write_order;
+use mos_object_msgs::append_object;
+use mos_order_msgs::append_order;
 use mos_values::{Envelope, Message, Piece};
 use mos_writer::{push_end, push_start, write_pieces, write_raw};
 use std::alloc::Global;
@@ -30,8 +30,8 @@ fn write_other(out: &mut Vec<u8>, m: &Message) -> Result<(), NoMemory>
 fn write_message(out: &mut Vec<u8>, m: &Message) -> Result<(), NoMemory>
     ensures { OnOk result (out.new.items ≡ out.old.items ++ encoded (message_events m.now)) }
 {
-    let _ = write_order(m, out)?;
-    let _ = write_object(m, out)?;
+    let _ = append_order(m, out)?;
+    let _ = append_object(m, out)?;
     write_other(out, m)?;
     Ok(())
 }

@@ -4,4 +4,4 @@
 mod machines;
 mod messages;
 
-pub use messages::write_object;
+pub use messages::{append_object, write_object};

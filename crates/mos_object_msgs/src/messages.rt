@@ -1,5 +1,5 @@
 //! Messages about machines and media objects as elements.
-ghost use Rattle.std.specs.Prelude.{◌≡◌, [], ◌++◌, OnOk, IfOk, codes};
+ghost use Rattle.std.specs.Prelude.{◌≡◌, [], ◌++◌, OnErr, OnOk, IfOk, codes};
 ghost use Rattle.std.specs.Fmt.{decimal};
 ghost use Rattle.mos_fields.specs.Characters.{units_of};
 ghost use Rattle.mos_fields.specs.Fields.{name_of};
@@ -98,9 +98,9 @@ fn write_list_all(out: &mut Vec<u8>, objects: &MosObjs) -> Result<(), NoMemory>
 
 /// Appends the canonical element of a message about machines or media objects. The answer is true exactly where the
 /// message is one of these, and with false nothing is appended. The only error is that memory runs out; then a part of
-/// the element may stand at the end.
+/// the element may stand at the end, for a caller that lets `out` go. `write_object` leaves none.
 #[tactic(auto, using(mos_writer::proofs::EncodedLemmas::appends_nothing), unfolding(mos_values::specs::MessageViews::message_events))]
-pub fn write_object(m: &Message, out: &mut Vec<u8>) -> Result<bool, NoMemory>
+pub fn append_object(m: &Message, out: &mut Vec<u8>) -> Result<bool, NoMemory>
     ensures answer { IfOk result (λ b. b ≡ is_object m.now) }
     ensures written { OnOk result (out.new.items ≡ out.old.items ++ encoded (object_events m.now)) }
 {
@@ -116,4 +116,16 @@ pub fn write_object(m: &Message, out: &mut Vec<u8>) -> Result<bool, NoMemory>
         _ => return Ok(false),
     }
     Ok(true)
+}
+
+/// The same, but without memory nothing is appended. The element is copied once more for it.
+pub fn write_object(m: &Message, out: &mut Vec<u8>) -> Result<bool, NoMemory>
+    ensures answer { IfOk result (λ b. b ≡ is_object m.now) }
+    ensures written { OnOk result (out.new.items ≡ out.old.items ++ encoded (object_events m.now)) }
+    ensures unchanged { OnErr result (out.new.items ≡ out.old.items) }
+{
+    let mut element = Vec::new(*out.allocator());
+    let answer = append_object(m, &mut element)?;
+    out.extend_from_slice(element.as_slice())?;
+    Ok(answer)
 }

@@ -8,7 +8,7 @@ ghost use Rattle.mos_cursor.specs.Accepted.{AllFit, IsAccepted};
 ghost use Rattle.mos_cursor.specs.Parts.{parts_events, places};
 ghost use Rattle.mos_cursor.specs.Slots.{parts_of};
 
-use crate::words::{ack_status, optional_rev};
+use crate::words::ack_status;
 use mos_cursor::{Cursor, Slot, record_slots};
 use mos_fields::NoMemory;
 use mos_tables::Table;
@@ -27,7 +27,7 @@ fn mos_ack_with(
     requires { AllFit tables.MosAck (places (columns tables.MosAck)) (parts_of (obj ∷ rev ∷ status ∷ description ∷ [])) }
     ensures { IfOk result (λ a. mos_ack_events a ≡ parts_events (places (columns tables.MosAck)) (parts_of (obj ∷ rev ∷ status ∷ description ∷ []))) }
 {
-    let rev = optional_rev(alloc, rev)?;
+    let rev = rev.optional_rev(alloc)?;
     Ok(MosAck {
         obj: obj.opt_id(),
         rev,

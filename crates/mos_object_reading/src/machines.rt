@@ -12,15 +12,15 @@ ghost use Rattle.mos_cursor.specs.Parts.{parts_events, places};
 ghost use Rattle.mos_cursor.specs.Slots.{parts_of};
 
 use crate::profiles::optional_supported;
-use crate::words::optional_time;
 use mos_cursor::{Cursor, Slot};
-use mos_fields::{MosTime, NoMemory, Text};
+use mos_fields::{MosTime, NoMemory, Text, pair_ok, triple_ok};
 use mos_story_reading::halves_of;
 use mos_tables::Table;
 use mos_values::{MachInfo, SupportedProfiles, Unreads};
 use std::alloc::Global;
 
 /// What a machine is.
+#[derive(Drop)]
 struct Front {
     manufacturer: Option<Text>,
     model: Option<Text>,
@@ -32,6 +32,7 @@ struct Front {
 }
 
 /// How a machine runs, what it supports, and its raw elements.
+#[derive(Drop)]
 struct Back {
     time: Option<MosTime>,
     op_time: Option<Text>,
@@ -89,15 +90,23 @@ fn machine_back_with(
     requires { AllFit tables.ListMachInfo (drop 7 (places (columns tables.ListMachInfo))) (parts_of (time ∷ op_time ∷ mos_rev ∷ supported_profiles ∷ default_active_x ∷ metadata ∷ others ∷ [])) }
     ensures { IfOk result (λ v. joined (maybe_as time_text fields.TimeTag v.time ∷ maybe fields.OpTime v.op_time ∷ maybe fields.MosRev v.mos_rev ∷ supported_events v.supported_profiles ∷ raws fields.DefaultActiveX v.default_active_x ∷ raws fields.Metadata v.metadata ∷ raws fields.Kept v.others ∷ []) ≡ parts_events (drop 7 (places (columns tables.ListMachInfo))) (parts_of (time ∷ op_time ∷ mos_rev ∷ supported_profiles ∷ default_active_x ∷ metadata ∷ others ∷ []))) }
 {
-    let time = optional_time(alloc, time)?;
-    let supported_profiles = optional_supported(alloc, supported_profiles)?;
-    let default_active_x = default_active_x.raws(alloc)?;
-    let metadata = metadata.raws(alloc)?;
-    let others = others.raws(alloc)?;
+    let ((time, op_time, mos_rev), (supported_profiles, default_active_x), (metadata, others)) =
+        triple_ok(
+            triple_ok(
+                time.optional_time(alloc),
+                Ok(op_time.optional_text()),
+                Ok(mos_rev.optional_text()),
+            ),
+            pair_ok(
+                optional_supported(alloc, supported_profiles),
+                default_active_x.raws(alloc),
+            ),
+            pair_ok(metadata.raws(alloc), others.raws(alloc)),
+        )?;
     Ok(Back {
         time,
-        op_time: op_time.optional_text(),
-        mos_rev: mos_rev.optional_text(),
+        op_time,
+        mos_rev,
         supported_profiles,
         default_active_x,
         metadata,
@@ -178,7 +187,6 @@ pub fn mach_info_of(alloc: Global, cursor: Cursor) -> Result<MachInfo, NoMemory>
 {
     let halves = halves_of::<14, 7, 7>(alloc, Table::ListMachInfo, cursor)?;
     let (front, back) = halves;
-    let back = machine_back(alloc, back)?;
-    let front = machine_front(front);
+    let (front, back) = pair_ok(Ok(machine_front(front)), machine_back(alloc, back))?;
     Ok(machine_with(front, back))
 }

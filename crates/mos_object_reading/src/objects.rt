@@ -11,9 +11,10 @@ ghost use Rattle.mos_cursor.specs.Accepted.{AllFit, IsAccepted};
 ghost use Rattle.mos_cursor.specs.Parts.{parts_events, places};
 ghost use Rattle.mos_cursor.specs.Slots.{parts_of};
 
-use crate::words::{optional_air, optional_obj_type, optional_rev};
 use mos_cursor::{Cursor, Slot};
-use mos_fields::{Air, Id, NoMemory, ObjType, Rev, Samples, Slug, Text, Unread};
+use mos_fields::{
+    Air, Id, NoMemory, ObjType, Rev, Samples, Slug, Text, Unread, pair_ok, triple_ok,
+};
 use mos_story_reading::halves_of;
 use mos_tables::Table;
 use mos_values::{MosObj, Unreads};
@@ -47,6 +48,7 @@ struct FrontSlots {
 }
 
 /// How an object may be used, where it comes from, and its raw elements.
+#[derive(Drop)]
 struct Back {
     air: Option<Air>,
     obj_paths: Option<Unread>,
@@ -75,20 +77,33 @@ fn object_front_with(
     requires { AllFit tables.MosObj (take 9 (places (columns tables.MosObj))) (parts_of (id ∷ slug ∷ mos_abstract ∷ group ∷ obj_type ∷ time_base ∷ rev ∷ dur ∷ status ∷ [])) }
     ensures { IfOk result (λ v. joined (must fields.ObjID v.id ∷ maybe fields.ObjSlug v.slug ∷ maybe_raw fields.MosAbstract v.mos_abstract ∷ maybe fields.ObjGroup v.group ∷ maybe_as obj_type_text fields.ObjType v.obj_type ∷ maybe_as samples_text fields.ObjTB v.time_base ∷ maybe_as rev_text fields.ObjRev v.rev ∷ maybe_as samples_text fields.ObjDur v.dur ∷ maybe fields.Status v.status ∷ []) ≡ parts_events (take 9 (places (columns tables.MosObj))) (parts_of (id ∷ slug ∷ mos_abstract ∷ group ∷ obj_type ∷ time_base ∷ rev ∷ dur ∷ status ∷ []))) }
 {
-    let obj_type = optional_obj_type(alloc, obj_type)?;
-    let time_base = time_base.optional_samples(alloc)?;
-    let rev = optional_rev(alloc, rev)?;
-    let dur = dur.optional_samples(alloc)?;
+    let ((id, slug, mos_abstract), (group, obj_type, time_base), (rev, dur, status)) = triple_ok(
+        triple_ok(
+            Ok(id.id()),
+            Ok(slug.optional_slug()),
+            Ok(mos_abstract.optional_raw()),
+        ),
+        triple_ok(
+            Ok(group.optional_text()),
+            obj_type.optional_obj_type(alloc),
+            time_base.optional_samples(alloc),
+        ),
+        triple_ok(
+            rev.optional_rev(alloc),
+            dur.optional_samples(alloc),
+            Ok(status.optional_text()),
+        ),
+    )?;
     Ok(Front {
-        id: id.id(),
-        slug: slug.optional_slug(),
-        mos_abstract: mos_abstract.optional_raw(),
-        group: group.optional_text(),
+        id,
+        slug,
+        mos_abstract,
+        group,
         obj_type,
         time_base,
         rev,
         dur,
-        status: status.optional_text(),
+        status,
     })
 }
 
@@ -168,17 +183,35 @@ fn object_back_with(
     requires { AllFit tables.MosObj (drop 9 (places (columns tables.MosObj))) (parts_of (air ∷ obj_paths ∷ created_by ∷ created ∷ changed_by ∷ changed ∷ description ∷ metadata ∷ others ∷ [])) }
     ensures { IfOk result (λ v. joined (maybe_as air_text fields.ObjAir v.air ∷ maybe_raw fields.ObjPaths v.obj_paths ∷ maybe fields.CreatedBy v.created_by ∷ maybe fields.Created v.created ∷ maybe fields.ChangedBy v.changed_by ∷ maybe fields.Changed v.changed ∷ maybe_raw fields.Description v.description ∷ raws fields.Metadata v.metadata ∷ raws fields.Kept v.others ∷ []) ≡ parts_events (drop 9 (places (columns tables.MosObj))) (parts_of (air ∷ obj_paths ∷ created_by ∷ created ∷ changed_by ∷ changed ∷ description ∷ metadata ∷ others ∷ []))) }
 {
-    let air = optional_air(alloc, air)?;
-    let metadata = metadata.raws(alloc)?;
-    let others = others.raws(alloc)?;
+    let (
+        (air, obj_paths, created_by),
+        (created, changed_by, changed),
+        (description, metadata, others),
+    ) = triple_ok(
+        triple_ok(
+            air.optional_air(alloc),
+            Ok(obj_paths.optional_raw()),
+            Ok(created_by.optional_text()),
+        ),
+        triple_ok(
+            Ok(created.optional_text()),
+            Ok(changed_by.optional_text()),
+            Ok(changed.optional_text()),
+        ),
+        triple_ok(
+            Ok(description.optional_raw()),
+            metadata.raws(alloc),
+            others.raws(alloc),
+        ),
+    )?;
     Ok(Back {
         air,
-        obj_paths: obj_paths.optional_raw(),
-        created_by: created_by.optional_text(),
-        created: created.optional_text(),
-        changed_by: changed_by.optional_text(),
-        changed: changed.optional_text(),
-        description: description.optional_raw(),
+        obj_paths,
+        created_by,
+        created,
+        changed_by,
+        changed,
+        description,
         metadata,
         others,
     })
@@ -269,7 +302,6 @@ pub fn object_of(alloc: Global, cursor: Cursor) -> Result<MosObj, NoMemory>
 {
     let halves = halves_of::<18, 9, 9>(alloc, Table::MosObj, cursor)?;
     let (front, back) = halves;
-    let front = object_front(alloc, front)?;
-    let back = object_back(alloc, back)?;
+    let (front, back) = pair_ok(object_front(alloc, front), object_back(alloc, back))?;
     Ok(object_with(front, back))
 }

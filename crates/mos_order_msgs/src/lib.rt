@@ -5,4 +5,4 @@ mod action;
 mod messages;
 mod records;
 
-pub use messages::write_order;
+pub use messages::{append_order, write_order};

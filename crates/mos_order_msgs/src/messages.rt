@@ -1,5 +1,5 @@
 //! Messages about running orders as elements.
-ghost use Rattle.std.specs.Prelude.{◌≡◌, [], ◌∷◌, ◌++◌, OnOk, IfOk, codes, if◌then◌else◌};
+ghost use Rattle.std.specs.Prelude.{◌≡◌, [], ◌∷◌, ◌++◌, OnErr, OnOk, IfOk, codes, if◌then◌else◌};
 ghost use Rattle.mos_fields.specs.Characters.{units_of};
 ghost use Rattle.mos_fields.specs.Values.{air_text, level_text, operation_text};
 ghost use Rattle.mos_fields.specs.declared.field.Field.TheVariants as fields;
@@ -140,9 +140,9 @@ fn write_story_send(out: &mut Vec<u8>, story: &StorySend) -> Result<(), NoMemory
 
 /// Appends the canonical element of a message about running orders. The answer is true exactly where the message is
 /// one of these, and with false nothing is appended. The only error is that memory runs out; then a part of the element
-/// may stand at the end.
+/// may stand at the end, for a caller that lets `out` go. `write_order` leaves none.
 #[tactic(auto, using(mos_writer::proofs::EncodedLemmas::appends_nothing), unfolding(mos_values::specs::MessageViews::message_events))]
-pub fn write_order(m: &Message, out: &mut Vec<u8>) -> Result<bool, NoMemory>
+pub fn append_order(m: &Message, out: &mut Vec<u8>) -> Result<bool, NoMemory>
     ensures answer { IfOk result (λ b. b ≡ is_order m.now) }
     ensures written { OnOk result (out.new.items ≡ out.old.items ++ encoded (order_events m.now)) }
 {
@@ -163,4 +163,16 @@ pub fn write_order(m: &Message, out: &mut Vec<u8>) -> Result<bool, NoMemory>
         _ => return Ok(false),
     }
     Ok(true)
+}
+
+/// The same, but without memory nothing is appended. The element is copied once more for it.
+pub fn write_order(m: &Message, out: &mut Vec<u8>) -> Result<bool, NoMemory>
+    ensures answer { IfOk result (λ b. b ≡ is_order m.now) }
+    ensures written { OnOk result (out.new.items ≡ out.old.items ++ encoded (order_events m.now)) }
+    ensures unchanged { OnErr result (out.new.items ≡ out.old.items) }
+{
+    let mut element = Vec::new(*out.allocator());
+    let answer = append_order(m, &mut element)?;
+    out.extend_from_slice(element.as_slice())?;
+    Ok(answer)
 }

@@ -6,10 +6,10 @@ use Rattle.mos_grammar.specs.Streams.{Position, message_step}
 use Rattle.mos_lexer.specs.LexMachine.{LexState, begin, in_tail}
 use Rattle.mos_lexer.specs.Units.{reads_on, lex_at, at_token, rests}
 use Rattle.mos_lexer.specs.Units.{Reader as ReaderOf}
-use Rattle.mos_frames.specs.Standing.{Standing, reads, TakesStep, Takes}
-use Rattle.mos_frames.specs.Ahead.{stands_in_raw}
-use Rattle.mos_frames.specs.declared.progress.Progress.{Progress}
-use Rattle.mos_frames.specs.declared.progress.Progress.TheVariants.{More}
+use Rattle.mos_elements.specs.Standing.{Standing, reads, TakesStep, Takes}
+use Rattle.mos_elements.specs.Ahead.{stands_in_raw}
+use Rattle.mos_elements.specs.declared.progress.Progress.{Progress}
+use Rattle.mos_elements.specs.declared.progress.Progress.TheVariants.{More}
 use Rattle.mos_scanner.specs.ScannerView.{kind_token, tag_name, lex_of, IsWhole}
 use Rattle.mos_scanner.specs.declared.scanner.Scanner.{Scanner}
 use Rattle.mos_scanner.specs.declared.scanned.Kind.{Kind as TokenKind}

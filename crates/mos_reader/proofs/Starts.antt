@@ -6,7 +6,7 @@ use Rattle.mos_grammar.specs.Streams.{Position, before_message, before_prolog}
 use Rattle.mos_lexer.specs.LexMachine.{LexState, begin}
 use Rattle.mos_lexer.specs.Units.{start_reader, still_reads, unit_run}
 use Rattle.mos_lexer.specs.Units.{Reader as ReaderOf}
-use Rattle.mos_frames.specs.Standing.{reads}
+use Rattle.mos_elements.specs.Standing.{reads}
 use Rattle.mos_scanner.specs.ScannerView.{lex_of, IsSound}
 use Rattle.mos_reader.specs.declared.reading.Reading.{Reading}
 use Rattle.mos_reader.specs.Places.{position_of, HasRead}

@@ -7,11 +7,11 @@ use Rattle.mos_grammar.specs.RecordMachine.{at, complete, between, in_field, beh
 use Rattle.mos_grammar.specs.Streams.{Position, before_message, inside, before_prolog, message_step}
 use Rattle.mos_lexer.specs.LexMachine.{LexState, begin, in_tail}
 use Rattle.mos_lexer.specs.Units.{UnitStep, reads_on, completes, rejects, lex_at, behind, at_token, kind_of, is_outside}
-use Rattle.mos_frames.specs.Standing.{Standing, reads, failed, progress_of, standing_of, value_of, taken_of, TakesStep, Takes}
-use Rattle.mos_frames.specs.Ahead.{stands_outside, stands_in_raw}
-use Rattle.mos_frames.specs.declared.fault.FrameFault.{FrameFault}
-use Rattle.mos_frames.specs.declared.progress.Progress.{Progress}
-use Rattle.mos_frames.specs.declared.progress.Progress.TheVariants.{More, Whole}
+use Rattle.mos_elements.specs.Standing.{Standing, reads, failed, progress_of, standing_of, value_of, taken_of, TakesStep, Takes}
+use Rattle.mos_elements.specs.Ahead.{stands_outside, stands_in_raw}
+use Rattle.mos_elements.specs.declared.fault.FrameFault.{FrameFault}
+use Rattle.mos_elements.specs.declared.progress.Progress.{Progress}
+use Rattle.mos_elements.specs.declared.progress.Progress.TheVariants.{More, Whole}
 use Rattle.mos_scanner.specs.ScannerView.{kind_token, tag_name, IsWhole}
 use Rattle.mos_scanner.specs.declared.scanner.Scanner.{Scanner}
 use Rattle.mos_scanner.specs.declared.scanned.Kind.{Kind as TokenKind}

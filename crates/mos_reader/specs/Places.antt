@@ -2,7 +2,7 @@
 use Rattle.std.specs.Prelude.{◌≡◌, ◌≤◌, ◌<◌, ℕ, Bool, List, [], length, take, drop, Option, Some, None, ⊤, nat_le, ◌&&◌}
 use Rattle.mos_grammar.specs.RecordMachine.{at, complete}
 use Rattle.mos_grammar.specs.Streams.{Position, before_message, before_prolog, inside}
-use Rattle.mos_frames.specs.Standing.{Standing, reads, failed}
+use Rattle.mos_elements.specs.Standing.{Standing, reads, failed}
 use Rattle.mos_tables.specs.Events.{Event}
 use Rattle.mos_lexer.specs.declared.kind.Kind.{Kind}
 use Rattle.mos_lexer.specs.declared.kind.Kind.TheVariants as kinds

@@ -12,6 +12,3 @@ mod units;
 
 pub use found::{Found, ReadFault};
 pub use reader::Reader;
-
-#[cfg(test)]
-mod tests;

@@ -1,6 +1,6 @@
 //! Reading a stream.
 ghost use Rattle.std.specs.Prelude.{◌≡◌, ◌+◌, ◌<◌, ◌≤◌, ◌^◌, None, false, true, OnErr, OnOk, drop, length, IfOk};
-ghost use Rattle.mos_reader.specs.Answers.{Answers, ComesTo, fed, fed_on, run_of, start_stream};
+ghost use Rattle.mos_reader.specs.Answers.{Answers, ComesTo, failed_with, fed, fed_on, run_of, start_stream};
 ghost use Rattle.mos_reader.specs.Places.{Ended, HasRead, rests_at};
 
 use crate::found::{Found, ReadFault};
@@ -166,6 +166,13 @@ impl Reader {
             Some(fault) => Err(fault),
             None => self.read(true),
         }
+    }
+
+    /// Reads the stream no further: `next` and `end` answer this fault from then on.
+    pub fn stop(&mut self, fault: ReadFault)
+        ensures { self.new ≡ failed_with fault self.old }
+    {
+        self.fault = Some(fault);
     }
 
     fn read(&mut self, at_end: bool) -> Result<Option<Found>, ReadFault>

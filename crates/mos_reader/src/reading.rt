@@ -7,13 +7,13 @@ ghost use Rattle.mos_lexer.specs.Units.{at_token, is_outside as is_outside_of, k
 ghost use Rattle.mos_scanner.specs.Parts.{IsCharacter};
 ghost use Rattle.mos_scanner.specs.ScannerView.{IsSound, IsTextBefore, IsWhole, IsWholeText, kind_token, lex_of, tag_name};
 ghost use Rattle.mos_scanner.specs.declared.scanned.Kind.TheVariants.{OpenTag};
-ghost use Rattle.mos_frames.specs.Ahead.{stands_in_raw, stands_outside};
+ghost use Rattle.mos_elements.specs.Ahead.{stands_in_raw, stands_outside};
 ghost use Rattle.mos_reader.specs.Places.{HasRead, IsAt, IsComplete, IsPlaced, IsSoundBehind, before_mark, before_tag, outcome_of, position_of, reader_of, rests_at, value_at};
 
 use crate::outcome::Outcome;
+use mos_elements::{FrameFault, Frames, Progress};
 use mos_events::Events;
 use mos_fields::NoMemory;
-use mos_frames::{FrameFault, Frames, Progress};
 use mos_grammar::Fault;
 use mos_lexer::Kind;
 use mos_scanner::{Kind as TokenKind, Scanned, Scanner};

@@ -3,36 +3,33 @@
 //! deliveries, cuts and restarts, and `mos_replay make N` plays one that it makes.
 #![tactic(auto)]
 
-mod help;
-mod run;
-mod words;
-
-use help::{USAGE, about};
 use mos_io::{Capped, StdSink, StdSource};
-use run::mos_run;
-use std::alloc::AllocError;
+use replay_commands::{USAGE, about};
 use std::env;
-use std::io::Lock;
+use std::io::{ErrorKind, Lock};
 use std::process::ExitCode;
 use stream_commands::Status;
-use world_stage::WorldStage;
+use world_commands::run_in_memory;
 
 /// The most bytes that a run reads. It ends with a fault of reading where there are as many.
 const MOST: u64 = 1_073_741_824;
 
-/// A run with the words behind the program's name, on the standard streams.
+/// A run with the words behind the program's name, on the standard streams and a new stage.
 fn run_with(rt: &HostRuntime, words: &[String]) -> Status {
     let mut source = Capped::new(StdSource::new(rt.stdin().lock()), MOST);
     let mut sink = StdSink::new(rt.stdout().lock());
-    let mut stage = WorldStage::new(rt.alloc());
-    mos_run(rt.alloc(), words, &mut source, &mut sink, &mut stage)
+    run_in_memory(rt.alloc(), words, &mut source, &mut sink)
 }
 
-/// The words behind the program's name.
-fn arguments(rt: &HostRuntime) -> Result<Vec<String>, AllocError> {
+/// The words behind the program's name. One that isn't UTF-8 is no word of a command.
+fn arguments(rt: &HostRuntime) -> Result<Vec<String>, Status> {
     match env::args(rt) {
-        Ok(args) => args.skip(1).collect(rt.alloc()),
-        Err(_) => Err(AllocError),
+        Ok(args) => match args.skip(1).collect(rt.alloc()) {
+            Ok(words) => Ok(words),
+            Err(_) => Err(Status::NoMemory),
+        },
+        Err(fault) if fault.kind() == ErrorKind::InvalidData => Err(Status::Usage),
+        Err(_) => Err(Status::NoMemory),
     }
 }
 
@@ -50,13 +47,10 @@ fn main(rt: HostRuntime) -> ExitCode {
             Some(text) => print_text(&rt, text),
             None => run_with(&rt, words.as_slice()),
         },
-        Err(_) => Status::NoMemory,
+        Err(status) => status,
     };
     if status == Status::Usage {
         let _ = eprintln!(rt; "{USAGE}");
     }
     ExitCode::from(status.number())
 }
-
-#[cfg(test)]
-mod tests;

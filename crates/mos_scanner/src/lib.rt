@@ -25,6 +25,3 @@ mod value;
 pub use character::{Character, character_at};
 pub use scanned::{Kind, Scanned};
 pub use scanner::Scanner;
-
-#[cfg(test)]
-mod tests;

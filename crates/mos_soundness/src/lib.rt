@@ -16,6 +16,3 @@ mod orders;
 pub use edits::is_sound_edit;
 pub use messages::is_sound;
 pub use names::element_name;
-
-#[cfg(test)]
-mod tests;

@@ -13,7 +13,7 @@ ghost use Rattle.mos_story_reading.specs.Inner.{header_places};
 
 use crate::stories::stories_of;
 use mos_cursor::{Cursor, Slot, record_slots};
-use mos_fields::NoMemory;
+use mos_fields::{NoMemory, pair_ok, triple_ok};
 use mos_tables::Table;
 use mos_values::{Header, OrderBody, Stories};
 use std::alloc::Global;
@@ -48,17 +48,34 @@ fn header_with(
     requires { AllFit tables.Body header_places (parts_of (ro ∷ slug ∷ channel ∷ ed_start ∷ ed_dur ∷ trigger ∷ macro_in ∷ macro_out ∷ metadata ∷ others ∷ [])) }
     ensures { IfOk result (λ h. header_events h ≡ parts_events header_places (parts_of (ro ∷ slug ∷ channel ∷ ed_start ∷ ed_dur ∷ trigger ∷ macro_in ∷ macro_out ∷ metadata ∷ others ∷ []))) }
 {
+    let (
+        ((ro, slug, channel), (ed_start, ed_dur, trigger)),
+        ((macro_in, macro_out), (metadata, others)),
+    ) = pair_ok(
+        pair_ok(
+            triple_ok(Ok(ro.id()), Ok(slug.slug()), Ok(channel.optional_text())),
+            triple_ok(
+                Ok(ed_start.optional_text()),
+                Ok(ed_dur.optional_text()),
+                Ok(trigger.optional_text()),
+            ),
+        ),
+        pair_ok(
+            pair_ok(Ok(macro_in.optional_text()), Ok(macro_out.optional_text())),
+            pair_ok(metadata.raws(alloc), others.raws(alloc)),
+        ),
+    )?;
     Ok(Header {
-        ro: ro.id(),
-        slug: slug.slug(),
-        channel: channel.optional_text(),
-        ed_start: ed_start.optional_text(),
-        ed_dur: ed_dur.optional_text(),
-        trigger: trigger.optional_text(),
-        macro_in: macro_in.optional_text(),
-        macro_out: macro_out.optional_text(),
-        metadata: metadata.raws(alloc)?,
-        others: others.raws(alloc)?,
+        ro,
+        slug,
+        channel,
+        ed_start,
+        ed_dur,
+        trigger,
+        macro_in,
+        macro_out,
+        metadata,
+        others,
     })
 }
 

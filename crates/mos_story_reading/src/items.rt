@@ -18,12 +18,13 @@ ghost use Rattle.mos_story_reading.specs.Inner.{Holds, inner_events};
 
 use crate::slots::halves_of;
 use mos_cursor::{Cursor, Nested, Slot};
-use mos_fields::{Id, NoMemory, OptId, Samples, Slug, Text, Unread};
+use mos_fields::{Id, NoMemory, OptId, Samples, Slug, Text, Unread, pair_ok, triple_ok};
 use mos_tables::Table;
 use mos_values::{Item, Items, Sequence, Unreads};
 use std::alloc::Global;
 
 /// What an item is.
+#[derive(Drop)]
 struct Front {
     id: Id,
     slug: Option<Slug>,
@@ -35,6 +36,7 @@ struct Front {
 }
 
 /// How an item is played, and its raw elements.
+#[derive(Drop)]
 struct Back {
     ed_start: Option<Samples>,
     ed_dur: Option<Samples>,
@@ -94,18 +96,27 @@ fn item_back_with(
     requires { AllFit tables.Item (drop 7 (places (columns tables.Item))) (parts_of (ed_start ∷ ed_dur ∷ user_timing_dur ∷ trigger ∷ macro_in ∷ macro_out ∷ metadata ∷ others ∷ [])) }
     ensures { IfOk result (λ v. joined (maybe_as samples_text fields.ItemEdStart v.ed_start ∷ maybe_as samples_text fields.ItemEdDur v.ed_dur ∷ maybe_as samples_text fields.ItemUserTimingDur v.user_timing_dur ∷ maybe fields.ItemTrigger v.trigger ∷ maybe fields.MacroIn v.macro_in ∷ maybe fields.MacroOut v.macro_out ∷ raws fields.Metadata v.metadata ∷ raws fields.Kept v.others ∷ []) ≡ parts_events (drop 7 (places (columns tables.Item))) (parts_of (ed_start ∷ ed_dur ∷ user_timing_dur ∷ trigger ∷ macro_in ∷ macro_out ∷ metadata ∷ others ∷ []))) }
 {
-    let ed_start = ed_start.optional_samples(alloc)?;
-    let ed_dur = ed_dur.optional_samples(alloc)?;
-    let user_timing_dur = user_timing_dur.optional_samples(alloc)?;
-    let metadata = metadata.raws(alloc)?;
-    let others = others.raws(alloc)?;
+    let ((ed_start, ed_dur, user_timing_dur), (trigger, macro_in, macro_out), (metadata, others)) =
+        triple_ok(
+            triple_ok(
+                ed_start.optional_samples(alloc),
+                ed_dur.optional_samples(alloc),
+                user_timing_dur.optional_samples(alloc),
+            ),
+            triple_ok(
+                Ok(trigger.optional_text()),
+                Ok(macro_in.optional_text()),
+                Ok(macro_out.optional_text()),
+            ),
+            pair_ok(metadata.raws(alloc), others.raws(alloc)),
+        )?;
     Ok(Back {
         ed_start,
         ed_dur,
         user_timing_dur,
-        trigger: trigger.optional_text(),
-        macro_in: macro_in.optional_text(),
-        macro_out: macro_out.optional_text(),
+        trigger,
+        macro_in,
+        macro_out,
         metadata,
         others,
     })
@@ -188,8 +199,7 @@ pub fn item_of(alloc: Global, cursor: Cursor) -> Result<Item, NoMemory>
 {
     let halves = halves_of::<15, 7, 8>(alloc, Table::Item, cursor)?;
     let (front, back) = halves;
-    let back = item_back(alloc, back)?;
-    let front = item_front(front);
+    let (front, back) = pair_ok(Ok(item_front(front)), item_back(alloc, back))?;
     Ok(item_with(front, back))
 }
 

@@ -16,7 +16,7 @@ ghost use Rattle.mos_story_reading.specs.Inner.{Holds, inner_events};
 
 use crate::items::items_of;
 use mos_cursor::{Cursor, Nested, Slot, record_slots};
-use mos_fields::NoMemory;
+use mos_fields::{NoMemory, pair_ok, triple_ok};
 use mos_tables::Table;
 use mos_values::{Items, Sequence, Stories, Story};
 use std::alloc::Global;
@@ -47,13 +47,22 @@ fn story_with(
     requires { AllFit tables.Story (places (columns tables.Story)) (parts_of (id ∷ slug ∷ num ∷ metadata ∷ others ∷ items ∷ [])) }
     ensures { IfOk result (λ s. story_events s ≡ parts_events (places (columns tables.Story)) (parts_of (id ∷ slug ∷ num ∷ metadata ∷ others ∷ items ∷ []))) }
 {
-    let metadata = metadata.raws(alloc)?;
-    let others = others.raws(alloc)?;
-    let items = items_in(alloc, items)?;
+    let ((id, slug, num), (metadata, others, items)) = pair_ok(
+        triple_ok(
+            Ok(id.key()),
+            Ok(slug.optional_slug()),
+            Ok(num.optional_text()),
+        ),
+        triple_ok(
+            metadata.raws(alloc),
+            others.raws(alloc),
+            items_in(alloc, items),
+        ),
+    )?;
     Ok(Story {
-        id: id.key(),
-        slug: slug.optional_slug(),
-        num: num.optional_text(),
+        id,
+        slug,
+        num,
         metadata,
         others,
         items,

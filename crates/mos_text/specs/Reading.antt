@@ -1,5 +1,5 @@
 -- Reading bytes as characters, in any pieces.
-use Rattle.std.specs.Prelude.{◌≡◌, ℕ, Bool, true, false, ◌&&◌, cond, List, [], ◌∷◌, ◌++◌, Option, Some, None, Result, Ok, Err, ◌+◌, ◌-◌, ◌*◌}
+use Rattle.std.specs.Prelude.{◌≡◌, ℕ, Bool, true, cond, List, [], ◌∷◌, ◌++◌, Option, Some, None, Result, Ok, Err, ◌+◌, ◌-◌, ◌*◌}
 use Rattle.mos_fields.specs.Characters.{Text, is_allowed, is_high, is_low, pair_char}
 use Rattle.mos_text.specs.declared.fault.TextFault.{TextFault}
 use Rattle.mos_text.specs.declared.fault.TextFault.TheVariants.{BadUnit as bad_unit, BadChar as bad_char, NoMemory as out_of_memory}
@@ -14,15 +14,8 @@ abbrev pub waits_high : Option ℕ → Bool
 waits_high None = true
 waits_high (Some h) = is_high h
 
--- what is kept as a fault is one of the bytes
-abbrev pub is_of_bytes : Option TextFault → Bool
-is_of_bytes None = true
-is_of_bytes (Some out_of_memory) = false
-is_of_bytes (Some (bad_unit k)) = true
-is_of_bytes (Some (bad_char k)) = true
-
 abbrev pub is_reading : Reading → Bool
-is_reading r = waits_high r.high && is_of_bytes r.fault
+is_reading r = waits_high r.high
 
 -- A further code unit. It may be a character by itself, the first of a pair, which waits for the second, or that second
 -- one. A second one alone, and a first one behind which none comes, belong to no character. After a fault units are
@@ -87,14 +80,19 @@ pub record Went (r : Reading) (piece : List ℕ) (t : Reading) (old told : Text)
   pub chars : told ≡ old ++ gained r piece
   pub faulty : (after r piece).fault ≡ fault
 
--- nothing changed
-pub record Stayed (r t : Reading) (old told : Text) : Type 0 where
-  pub reading : t ≡ r
+-- the reading, of which it is known from now on that there was no memory
+abbrev pub without_memory : Reading → Reading
+without_memory r = record { place = r.place; odd = r.odd; high = r.high; fault = Some out_of_memory }
+
+-- there was no memory for the characters of the piece: its units are counted alone, and nothing was appended
+pub record Lacked (r : Reading) (piece : List ℕ) (t : Reading) (old told : Text) : Type 0 where
+  pub reading : t ≡ after (without_memory r) piece
   pub chars : told ≡ old
+  pub faulty : t.fault ≡ Some out_of_memory
 
 -- What a call answers that feeds a piece to a reading: the reading's fault where it has one, or that there was no memory.
 abbrev pub FeedAnswers : Reading → List ℕ → Reading → Text → Text → Result Unit TextFault → Type 0
 FeedAnswers r piece t old told (Ok u) = Went r piece t old told None
-FeedAnswers r piece t old told (Err out_of_memory) = Stayed r t old told × (r.fault ≡ None)
+FeedAnswers r piece t old told (Err out_of_memory) = Lacked r piece t old told
 FeedAnswers r piece t old told (Err (bad_unit k)) = Went r piece t old told (Some (bad_unit k))
 FeedAnswers r piece t old told (Err (bad_char k)) = Went r piece t old told (Some (bad_char k))

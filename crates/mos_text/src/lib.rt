@@ -14,6 +14,3 @@ pub use push::push_text;
 pub use reader::UnitReader;
 pub use reading::Reading;
 pub use units::units_of;
-
-#[cfg(test)]
-mod tests;

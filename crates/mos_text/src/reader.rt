@@ -1,6 +1,8 @@
 //! Reading characters as their bytes come.
-ghost use Rattle.std.specs.Prelude.{◌≡◌, ◌<◌, ◌^◌, ◌++◌, true, Err, None, IsOk, IfOk, OnOk, OnErr, MatchOption, take, length};
-ghost use Rattle.mos_text.specs.Reading.{FeedAnswers, after, byte_char, byte_step as behind_byte, gained, is_reading, joined, start};
+ghost use Rattle.std.specs.Prelude.{◌≡◌, ◌<◌, ◌^◌, ◌++◌, true, Err, None, Some, IsOk, IfOk, OnOk, OnErr, MatchOption, take, length};
+ghost use Rattle.mos_text.specs.Reading.{FeedAnswers, after, byte_char, byte_step as behind_byte, gained, is_reading, joined, start, without_memory};
+ghost use Rattle.mos_text.specs.declared.fault.TextFault.{TextFault as FaultOf};
+ghost use Rattle.mos_text.specs.declared.fault.TextFault.TheVariants.{NoMemory as out_of_memory};
 
 use crate::fault::{NoMemory, TextFault};
 use crate::reading::Reading;
@@ -50,11 +52,12 @@ impl UnitReader {
     /// Appends the characters that a further piece completes; the units fed stay below 2^64.
     ///
     /// `BadUnit` comes exactly at the first unit that belongs to no character, `BadChar` exactly at the first character
-    /// that XML 1.0 forbids; the characters before it are appended, and each later call answers the same. Without
-    /// memory nothing is fed and nothing appended.
+    /// that XML 1.0 forbids; the characters before it are appended. Without memory nothing of the piece is appended. Each
+    /// fault is answered by each later call, which counts units alone.
     pub fn feed(&mut self, piece: &[u8], out: &mut Vec<char>) -> Result<(), TextFault>
         requires { (after self.old piece.now).place < 2 ^ 64 }
-        ensures { FeedAnswers self.old piece.now self.new out.old.items out.new.items result }
+        ensures answer { FeedAnswers self.old piece.now self.new out.old.items out.new.items result }
+        ensures kept { (fault : FaultOf) → (self.old).fault ≡ Some fault → result ≡ Err fault }
     {
         let before = out.len();
         match read(self.reading, piece, out) {
@@ -64,6 +67,7 @@ impl UnitReader {
             }
             Err(_fault) => {
                 out.truncate(before);
+                self.reading = pass(self.reading, piece, out);
                 Err(TextFault::NoMemory)
             }
         }
@@ -104,6 +108,27 @@ fn read(reading: Reading, piece: &[u8], out: &mut Vec<char>) -> Result<Reading, 
         take_byte(&mut state, byte, out)?;
     }
     Ok(state)
+}
+
+/// Goes on by a piece for whose characters there was no memory.
+fn pass(reading: Reading, piece: &[u8], out: &mut Vec<char>) -> Reading
+    requires reading { is_reading reading ≡ true }
+    requires place { (after reading piece.now).place < 2 ^ 64 }
+    ensures after { result ≡ after (without_memory reading) piece.now }
+    ensures reading { is_reading result ≡ true }
+    ensures fault { result.fault ≡ Some out_of_memory }
+    ensures chars { out.new.items ≡ out.old.items }
+{
+    let lacking = Reading {
+        place: reading.place,
+        odd: reading.odd,
+        high: reading.high,
+        fault: Some(TextFault::NoMemory),
+    };
+    match read(lacking, piece, out) {
+        Ok(reading) => reading,
+        Err(_) => unreachable!(),
+    }
 }
 
 /// What a call answers where the reading has this fault.

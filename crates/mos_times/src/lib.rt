@@ -9,6 +9,3 @@ mod form;
 mod plain;
 
 pub use plain::plain_time;
-
-#[cfg(test)]
-mod tests;

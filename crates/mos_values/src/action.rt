@@ -1,6 +1,7 @@
 //! Actions on the stories and items of a running order.
 ghost use Rattle.std.specs.Prelude.{◌≡◌, IfOk};
 
+use crate::copies::{pair, triple};
 use crate::{Items, Stories};
 use mos_fields::{NoMemory, OptId, OptIds};
 
@@ -70,66 +71,79 @@ impl Action {
     pub fn try_clone(&self) -> Result<Self, NoMemory>
         ensures { IfOk result (λ t. t ≡ self.now) }
     {
-        Ok(match self {
-            Action::InsertStories { target, sources } => Action::InsertStories {
-                target: target.try_clone()?,
-                sources: sources.try_clone()?,
-            },
-            Action::ReplaceStory { target, sources } => Action::ReplaceStory {
-                target: target.try_clone()?,
-                sources: sources.try_clone()?,
-            },
+        match self {
+            Action::InsertStories { target, sources } => {
+                let (target, sources) = pair(target, sources)?;
+                Ok(Action::InsertStories { target, sources })
+            }
+            Action::ReplaceStory { target, sources } => {
+                let (target, sources) = pair(target, sources)?;
+                Ok(Action::ReplaceStory { target, sources })
+            }
             Action::InsertItems {
                 story,
                 target,
                 sources,
-            } => Action::InsertItems {
-                story: story.try_clone()?,
-                target: target.try_clone()?,
-                sources: sources.try_clone()?,
-            },
+            } => {
+                let (story, target, sources) = triple(story, target, sources)?;
+                Ok(Action::InsertItems {
+                    story,
+                    target,
+                    sources,
+                })
+            }
             Action::ReplaceItem {
                 story,
                 target,
                 sources,
-            } => Action::ReplaceItem {
-                story: story.try_clone()?,
-                target: target.try_clone()?,
-                sources: sources.try_clone()?,
-            },
-            Action::MoveStories { target, sources } => Action::MoveStories {
-                target: target.try_clone()?,
-                sources: sources.try_clone()?,
-            },
+            } => {
+                let (story, target, sources) = triple(story, target, sources)?;
+                Ok(Action::ReplaceItem {
+                    story,
+                    target,
+                    sources,
+                })
+            }
+            Action::MoveStories { target, sources } => {
+                let (target, sources) = pair(target, sources)?;
+                Ok(Action::MoveStories { target, sources })
+            }
             Action::MoveItems {
                 story,
                 target,
                 sources,
-            } => Action::MoveItems {
-                story: story.try_clone()?,
-                target: target.try_clone()?,
-                sources: sources.try_clone()?,
-            },
-            Action::DeleteStories { sources } => Action::DeleteStories {
-                sources: sources.try_clone()?,
-            },
-            Action::DeleteItems { story, sources } => Action::DeleteItems {
-                story: story.try_clone()?,
-                sources: sources.try_clone()?,
-            },
-            Action::SwapStories { first, second } => Action::SwapStories {
-                first: first.try_clone()?,
-                second: second.try_clone()?,
-            },
+            } => {
+                let (story, target, sources) = triple(story, target, sources)?;
+                Ok(Action::MoveItems {
+                    story,
+                    target,
+                    sources,
+                })
+            }
+            Action::DeleteStories { sources } => {
+                let sources = sources.try_clone()?;
+                Ok(Action::DeleteStories { sources })
+            }
+            Action::DeleteItems { story, sources } => {
+                let (story, sources) = pair(story, sources)?;
+                Ok(Action::DeleteItems { story, sources })
+            }
+            Action::SwapStories { first, second } => {
+                let (first, second) = pair(first, second)?;
+                Ok(Action::SwapStories { first, second })
+            }
             Action::SwapItems {
                 story,
                 first,
                 second,
-            } => Action::SwapItems {
-                story: story.try_clone()?,
-                first: first.try_clone()?,
-                second: second.try_clone()?,
-            },
-        })
+            } => {
+                let (story, first, second) = triple(story, first, second)?;
+                Ok(Action::SwapItems {
+                    story,
+                    first,
+                    second,
+                })
+            }
+        }
     }
 }

@@ -1,8 +1,8 @@
 //! Statuses of running orders, stories and items.
 ghost use Rattle.std.specs.Prelude.{◌≡◌, IfOk};
 
-use crate::try_clone::copied;
-use mos_fields::{Id, Level, MosTime, NoMemory, OptId, Text};
+use crate::copies::triple;
+use mos_fields::{Id, Level, MosTime, NoMemory, OptId, Text, pair_ok};
 
 /// The status of a running order, of a story or of an item, as roElementStat carries it.
 #[derive(Drop)]
@@ -30,14 +30,18 @@ impl ElementStat {
     pub fn try_clone(&self) -> Result<Self, NoMemory>
         ensures { IfOk result (λ t. t ≡ self.now) }
     {
+        let ((ro, story, item), (obj, channel, status)) = pair_ok(
+            triple(&self.ro, &self.story, &self.item),
+            triple(&self.obj, &self.channel, &self.status),
+        )?;
         Ok(ElementStat {
+            ro,
+            story,
+            item,
+            obj,
+            channel,
+            status,
             level: self.level,
-            ro: self.ro.try_clone()?,
-            story: copied(&self.story)?,
-            item: copied(&self.item)?,
-            obj: copied(&self.obj)?,
-            channel: copied(&self.channel)?,
-            status: self.status.try_clone()?,
             time: self.time,
         })
     }

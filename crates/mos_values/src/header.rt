@@ -3,8 +3,8 @@ ghost use Rattle.std.specs.Prelude.{◌≡◌, Some, IfOk};
 ghost use Rattle.mos_values.specs.Headers.{patch_of};
 
 use crate::Unreads;
-use crate::try_clone::copied;
-use mos_fields::{Id, NoMemory, Slug, Text};
+use crate::copies::{pair, triple};
+use mos_fields::{Id, NoMemory, Slug, Text, pair_ok};
 
 /// What a running order says of itself, before its stories: the fields of roCreate, roReplace and roList.
 #[derive(Drop)]
@@ -36,17 +36,30 @@ impl Header {
     pub fn try_clone(&self) -> Result<Self, NoMemory>
         ensures { IfOk result (λ t. t ≡ self.now) }
     {
+        let (
+            ((ro, slug, channel), (ed_start, ed_dur)),
+            ((trigger, macro_in, macro_out), (metadata, others)),
+        ) = pair_ok(
+            pair_ok(
+                triple(&self.ro, &self.slug, &self.channel),
+                pair(&self.ed_start, &self.ed_dur),
+            ),
+            pair_ok(
+                triple(&self.trigger, &self.macro_in, &self.macro_out),
+                pair(&self.metadata, &self.others),
+            ),
+        )?;
         Ok(Header {
-            ro: self.ro.try_clone()?,
-            slug: self.slug.try_clone()?,
-            channel: copied(&self.channel)?,
-            ed_start: copied(&self.ed_start)?,
-            ed_dur: copied(&self.ed_dur)?,
-            trigger: copied(&self.trigger)?,
-            macro_in: copied(&self.macro_in)?,
-            macro_out: copied(&self.macro_out)?,
-            metadata: self.metadata.try_clone()?,
-            others: self.others.try_clone()?,
+            ro,
+            slug,
+            channel,
+            ed_start,
+            ed_dur,
+            trigger,
+            macro_in,
+            macro_out,
+            metadata,
+            others,
         })
     }
 
@@ -99,17 +112,30 @@ impl HeaderPatch {
     pub fn try_clone(&self) -> Result<Self, NoMemory>
         ensures { IfOk result (λ t. t ≡ self.now) }
     {
+        let (
+            ((ro, slug, channel), (ed_start, ed_dur)),
+            ((trigger, macro_in, macro_out), (metadata, others)),
+        ) = pair_ok(
+            pair_ok(
+                triple(&self.ro, &self.slug, &self.channel),
+                pair(&self.ed_start, &self.ed_dur),
+            ),
+            pair_ok(
+                triple(&self.trigger, &self.macro_in, &self.macro_out),
+                pair(&self.metadata, &self.others),
+            ),
+        )?;
         Ok(HeaderPatch {
-            ro: self.ro.try_clone()?,
-            slug: copied(&self.slug)?,
-            channel: copied(&self.channel)?,
-            ed_start: copied(&self.ed_start)?,
-            ed_dur: copied(&self.ed_dur)?,
-            trigger: copied(&self.trigger)?,
-            macro_in: copied(&self.macro_in)?,
-            macro_out: copied(&self.macro_out)?,
-            metadata: self.metadata.try_clone()?,
-            others: self.others.try_clone()?,
+            ro,
+            slug,
+            channel,
+            ed_start,
+            ed_dur,
+            trigger,
+            macro_in,
+            macro_out,
+            metadata,
+            others,
         })
     }
 }

@@ -2,8 +2,8 @@
 ghost use Rattle.std.specs.Prelude.{◌≡◌, IfOk};
 
 use crate::Unreads;
-use crate::try_clone::copied;
-use mos_fields::{Id, NoMemory, OptId, Samples, Slug, Text, Unread};
+use crate::copies::triple;
+use mos_fields::{Id, NoMemory, OptId, Samples, Slug, Text, Unread, pair_ok};
 
 /// An item of a story: an object, and where and how it is played.
 #[derive(Drop)]
@@ -45,22 +45,35 @@ impl Item {
     pub fn try_clone(&self) -> Result<Self, NoMemory>
         ensures { IfOk result (λ t. t ≡ self.now) }
     {
+        let (
+            ((id, slug, obj), (mos, mos_abstract, obj_paths)),
+            ((channel, trigger, macro_in), (macro_out, metadata, others)),
+        ) = pair_ok(
+            pair_ok(
+                triple(&self.id, &self.slug, &self.obj),
+                triple(&self.mos, &self.mos_abstract, &self.obj_paths),
+            ),
+            pair_ok(
+                triple(&self.channel, &self.trigger, &self.macro_in),
+                triple(&self.macro_out, &self.metadata, &self.others),
+            ),
+        )?;
         Ok(Item {
-            id: self.id.try_clone()?,
-            slug: copied(&self.slug)?,
-            obj: self.obj.try_clone()?,
-            mos: self.mos.try_clone()?,
-            mos_abstract: copied(&self.mos_abstract)?,
-            obj_paths: copied(&self.obj_paths)?,
-            channel: copied(&self.channel)?,
+            id,
+            slug,
+            obj,
+            mos,
+            mos_abstract,
+            obj_paths,
+            channel,
+            trigger,
+            macro_in,
+            macro_out,
+            metadata,
+            others,
             ed_start: self.ed_start,
             ed_dur: self.ed_dur,
             user_timing_dur: self.user_timing_dur,
-            trigger: copied(&self.trigger)?,
-            macro_in: copied(&self.macro_in)?,
-            macro_out: copied(&self.macro_out)?,
-            metadata: self.metadata.try_clone()?,
-            others: self.others.try_clone()?,
         })
     }
 }

@@ -8,6 +8,7 @@
 mod ack_group;
 mod action;
 mod boxed;
+mod copies;
 mod edit;
 mod element_stat;
 mod header;

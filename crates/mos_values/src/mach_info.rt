@@ -2,9 +2,10 @@
 ghost use Rattle.std.specs.Prelude.{◌≡◌, IfOk};
 
 use crate::Unreads;
+use crate::copies::triple;
 use crate::profile::SupportedProfiles;
 use crate::try_clone::copied;
-use mos_fields::{MosTime, NoMemory, Text};
+use mos_fields::{MosTime, NoMemory, Text, pair_ok};
 
 /// What a machine says of itself, as listMachInfo carries it.
 #[derive(Drop)]
@@ -44,21 +45,35 @@ impl MachInfo {
     pub fn try_clone(&self) -> Result<Self, NoMemory>
         ensures { IfOk result (λ t. t ≡ self.now) }
     {
+        let manufacturer = copied(&self.manufacturer)?;
+        let (
+            ((model, hw_rev, sw_rev), (dom, serial_number, id)),
+            ((op_time, mos_rev, supported_profiles), (default_active_x, metadata, others)),
+        ) = pair_ok(
+            pair_ok(
+                triple(&self.model, &self.hw_rev, &self.sw_rev),
+                triple(&self.dom, &self.serial_number, &self.id),
+            ),
+            pair_ok(
+                triple(&self.op_time, &self.mos_rev, &self.supported_profiles),
+                triple(&self.default_active_x, &self.metadata, &self.others),
+            ),
+        )?;
         Ok(MachInfo {
-            manufacturer: copied(&self.manufacturer)?,
-            model: copied(&self.model)?,
-            hw_rev: copied(&self.hw_rev)?,
-            sw_rev: copied(&self.sw_rev)?,
-            dom: copied(&self.dom)?,
-            serial_number: copied(&self.serial_number)?,
-            id: copied(&self.id)?,
+            manufacturer,
+            model,
+            hw_rev,
+            sw_rev,
+            dom,
+            serial_number,
+            id,
+            op_time,
+            mos_rev,
+            supported_profiles,
+            default_active_x,
+            metadata,
+            others,
             time: self.time,
-            op_time: copied(&self.op_time)?,
-            mos_rev: copied(&self.mos_rev)?,
-            supported_profiles: copied(&self.supported_profiles)?,
-            default_active_x: self.default_active_x.try_clone()?,
-            metadata: self.metadata.try_clone()?,
-            others: self.others.try_clone()?,
         })
     }
 }

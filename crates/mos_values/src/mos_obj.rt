@@ -2,8 +2,8 @@
 ghost use Rattle.std.specs.Prelude.{◌≡◌, IfOk};
 
 use crate::Unreads;
-use crate::try_clone::copied;
-use mos_fields::{Air, Id, NoMemory, ObjType, Rev, Samples, Slug, Text, Unread};
+use crate::copies::triple;
+use mos_fields::{Air, Id, NoMemory, ObjType, Rev, Samples, Slug, Text, Unread, pair_ok};
 
 /// A media object, as mosObj describes it.
 #[derive(Drop)]
@@ -51,25 +51,44 @@ impl MosObj {
     pub fn try_clone(&self) -> Result<Self, NoMemory>
         ensures { IfOk result (λ t. t ≡ self.now) }
     {
+        let (
+            id,
+            (
+                ((slug, mos_abstract, group), (status, obj_paths, created_by)),
+                ((created, changed_by, changed), (description, metadata, others)),
+            ),
+        ) = pair_ok(
+            self.id.try_clone(),
+            pair_ok(
+                pair_ok(
+                    triple(&self.slug, &self.mos_abstract, &self.group),
+                    triple(&self.status, &self.obj_paths, &self.created_by),
+                ),
+                pair_ok(
+                    triple(&self.created, &self.changed_by, &self.changed),
+                    triple(&self.description, &self.metadata, &self.others),
+                ),
+            ),
+        )?;
         Ok(MosObj {
-            id: self.id.try_clone()?,
-            slug: copied(&self.slug)?,
-            mos_abstract: copied(&self.mos_abstract)?,
-            group: copied(&self.group)?,
+            id,
+            slug,
+            mos_abstract,
+            group,
+            status,
+            obj_paths,
+            created_by,
+            created,
+            changed_by,
+            changed,
+            description,
+            metadata,
+            others,
             obj_type: self.obj_type,
             time_base: self.time_base,
             rev: self.rev,
             dur: self.dur,
-            status: copied(&self.status)?,
             air: self.air,
-            obj_paths: copied(&self.obj_paths)?,
-            created_by: copied(&self.created_by)?,
-            created: copied(&self.created)?,
-            changed_by: copied(&self.changed_by)?,
-            changed: copied(&self.changed)?,
-            description: copied(&self.description)?,
-            metadata: self.metadata.try_clone()?,
-            others: self.others.try_clone()?,
         })
     }
 }

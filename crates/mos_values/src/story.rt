@@ -2,12 +2,12 @@
 ghost use Rattle.std.specs.Prelude.{◌≡◌, ◌↔◌, [], ◌∷◌, ◌++◌, None, IfOk, OnOk, OnErr, Err, Contains, IsTrue};
 ghost use Rattle.mos_values.specs.Distinct.{AreDistinct, item_ids};
 
+use crate::copies::triple;
 use crate::ids::{is_item_among, repeats_item};
 use crate::item::Item;
 use crate::push_fault::PushFault;
-use crate::try_clone::copied;
 use crate::{Items, Unreads};
-use mos_fields::{Id, NoMemory, Slug, Text};
+use mos_fields::{Id, NoMemory, Slug, Text, pair_ok};
 use std::alloc::Global;
 use std::marker::Model;
 
@@ -86,13 +86,17 @@ impl Story {
     pub fn try_clone(&self) -> Result<Self, NoMemory>
         ensures { IfOk result (λ t. t ≡ self.now) }
     {
+        let ((id, slug, num), (metadata, others, items)) = pair_ok(
+            triple(&self.id, &self.slug, &self.num),
+            triple(&self.metadata, &self.others, &self.items),
+        )?;
         Ok(Story {
-            id: self.id.try_clone()?,
-            slug: copied(&self.slug)?,
-            num: copied(&self.num)?,
-            metadata: self.metadata.try_clone()?,
-            others: self.others.try_clone()?,
-            items: self.items.try_clone()?,
+            id,
+            slug,
+            num,
+            metadata,
+            others,
+            items,
         })
     }
 }

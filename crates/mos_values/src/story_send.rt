@@ -2,8 +2,8 @@
 ghost use Rattle.std.specs.Prelude.{◌≡◌, IfOk};
 
 use crate::Unreads;
-use crate::try_clone::copied;
-use mos_fields::{Id, NoMemory, Slug, Text, Unread};
+use crate::copies::{pair, triple};
+use mos_fields::{Id, NoMemory, Slug, Text, Unread, triple_ok};
 
 /// A story with its text, as roStorySend carries it.
 #[derive(Drop)]
@@ -29,14 +29,19 @@ impl StorySend {
     pub fn try_clone(&self) -> Result<Self, NoMemory>
         ensures { IfOk result (λ t. t ≡ self.now) }
     {
+        let ((ro, story, slug), (num, body), (metadata, others)) = triple_ok(
+            triple(&self.ro, &self.story, &self.slug),
+            pair(&self.num, &self.body),
+            pair(&self.metadata, &self.others),
+        )?;
         Ok(StorySend {
-            ro: self.ro.try_clone()?,
-            story: self.story.try_clone()?,
-            slug: copied(&self.slug)?,
-            num: copied(&self.num)?,
-            body: self.body.try_clone()?,
-            metadata: self.metadata.try_clone()?,
-            others: self.others.try_clone()?,
+            ro,
+            story,
+            slug,
+            num,
+            body,
+            metadata,
+            others,
         })
     }
 }

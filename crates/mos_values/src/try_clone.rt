@@ -9,9 +9,10 @@ use crate::mach_info::MachInfo;
 use crate::mos_obj::MosObj;
 use crate::order_body::OrderBody;
 use crate::profile::{Profile, SupportedProfiles};
+use crate::sequence::Sequence;
 use crate::story::Story;
 use crate::story_send::StorySend;
-use mos_fields::{NoMemory, OptId, Slug, Text, Unread};
+use mos_fields::{Id, NoMemory, OptId, OptIds, Slug, Text, Unread};
 
 /// A value that stands in lists and in optional fields, and that can be copied where there is memory for it.
 pub trait TryClone: Drop {
@@ -115,6 +116,30 @@ impl TryClone for ElementStat {
 }
 
 impl TryClone for StorySend {
+    fn try_clone(&self) -> Result<Self, NoMemory> {
+        self.try_clone()
+    }
+}
+
+impl TryClone for Id {
+    fn try_clone(&self) -> Result<Self, NoMemory> {
+        self.try_clone()
+    }
+}
+
+impl TryClone for OptIds {
+    fn try_clone(&self) -> Result<Self, NoMemory> {
+        self.try_clone()
+    }
+}
+
+impl<T: TryClone> TryClone for Option<T> {
+    fn try_clone(&self) -> Result<Self, NoMemory> {
+        copied(self)
+    }
+}
+
+impl<T: TryClone> TryClone for Sequence<T> {
     fn try_clone(&self) -> Result<Self, NoMemory> {
         self.try_clone()
     }

@@ -5,7 +5,6 @@ use Rattle.mos_edits.specs.KeyedLists.{ActFault}
 use Rattle.mos_edits.specs.Entries.{Entry, Refusal, acceptance, IsAccepted}
 use Rattle.ncs_core.specs.Accepting.{IsRefusal}
 use Rattle.ncs_core.specs.Starting.{IsRefused, IsFirstRefused, IsEntryCause, entry_cause_of}
-use Rattle.ncs_core.specs.State.{NcsTables, with_journal}
 use Rattle.ncs_core.specs.declared.fault.CommandFault.{CommandFault}
 use Rattle.ncs_core.specs.declared.fault.CommandFault.TheVariants.{Stopped, Missing, AlreadyThere, Full, StoreFault, NoMemory}
 use Rattle.ncs_core.proofs.AcceptedRows.{accepted-more}
@@ -55,36 +54,28 @@ cause front rest all x n f whole number a w = by f w
     by StoreFault w = absurd w
     by NoMemory w = tt
 
-module _ {K : Type 0} where
-  pub none-added : (s : NcsTables K) (es : List Entry) → s ≡ with_journal s (s.server.journal ++ take 0 es)
-  none-added s es = λ i. with_journal s (sym (append-nil s.server.journal) i)
+pub none-added : (j es : List Entry) → j ≡ j ++ take 0 es
+none-added j es = sym (append-nil j)
 
-  pub none-accepted : (s : NcsTables K) (es : List Entry) → IsAccepted [] s.server.journal → IsAccepted [] (s.server.journal ++ take 0 es)
-  none-accepted s es a = subst (λ (xs : List Entry). IsAccepted [] xs) (sym (append-nil s.server.journal)) a
+pub none-accepted : (j es : List Entry) → IsAccepted [] j → IsAccepted [] (j ++ take 0 es)
+none-accepted j es a = subst (λ (xs : List Entry). IsAccepted [] xs) (sym (append-nil j)) a
 
-  journal-is : (first s : NcsTables K) (xs : List Entry) → s ≡ with_journal first xs → s.server.journal ≡ xs
-  journal-is first s xs h = ap (λ (n : NcsTables K). n.server.journal) h
+-- `j` is the journal before, `s` that before this entry, which is entry `n` of those that are added
+module _ (j s es : List Entry) (n : ℕ) where
+  pub one-added : (t : List Entry) (x : Entry) → n < length es → x ≡ get_or es n x → s ≡ j ++ take n es → t ≡ s ++ x ∷ [] → t ≡ j ++ take (n + 1) es
+  one-added t x h e b c = c ∙ (ap (λ (xs : List Entry). xs ++ x ∷ []) b ∙ more-behind j es n x h e)
 
-  pub one-added : (first s t : NcsTables K) (es : List Entry) (n : ℕ) (x : Entry) → n < length es → x ≡ get_or es n x → s ≡ with_journal first (first.server.journal ++ take n es) → t ≡ with_journal s (s.server.journal ++ x ∷ [])
-      → t ≡ with_journal first (first.server.journal ++ take (n + 1) es)
-  one-added first s t es n x h e b c = c ∙ (ap (λ (n : NcsTables K). with_journal n (n.server.journal ++ x ∷ [])) b ∙ ap (with_journal first) (more-behind first.server.journal es n x h e))
+  pub all-added : length es ≤ n → s ≡ j ++ take n es → s ≡ j ++ es
+  all-added h b = b ∙ ap (λ (xs : List Entry). j ++ xs) (take_all n es h)
 
-  pub all-added : (first s : NcsTables K) (es : List Entry) (n : ℕ) → length es ≤ n → s ≡ with_journal first (first.server.journal ++ take n es) → s ≡ with_journal first (first.server.journal ++ es)
-  all-added first s es n h b = b ∙ ap (λ (xs : List Entry). with_journal first (first.server.journal ++ xs)) (take_all n es h)
+  pub one-accepted : (x : Entry) → n < length es → x ≡ get_or es n x → s ≡ j ++ take n es → IsAccepted [] (j ++ take n es) → acceptance s x ≡ None → IsAccepted [] (j ++ take (n + 1) es)
+  one-accepted x h e b a c =
+      subst (λ (xs : List Entry). IsAccepted [] xs) (more-behind j es n x h e) (accepted-more [] (j ++ take n es) x a (subst (λ (xs : List Entry). acceptance xs x ≡ None) b c))
 
-  pub one-accepted : (first s : NcsTables K) (es : List Entry) (n : ℕ) (x : Entry) → n < length es → x ≡ get_or es n x → s ≡ with_journal first (first.server.journal ++ take n es) → IsAccepted [] (first.server.journal ++ take n es) → acceptance s.server.journal x ≡ None
-      → IsAccepted [] (first.server.journal ++ take (n + 1) es)
-  one-accepted first s es n x h e b a c =
-      subst (λ (xs : List Entry). IsAccepted [] xs) (more-behind first.server.journal es n x h e)
-      (accepted-more [] (first.server.journal ++ take n es) x a (subst (λ (j : List Entry). acceptance j x ≡ None) (journal-is first s (first.server.journal ++ take n es) b) c))
-
-  pub first-refused : (first s : NcsTables K) (es : List Entry) (n number : ℕ) (x : Entry) (f : CommandFault) → n < length es → x ≡ get_or es n x → s ≡ with_journal first (first.server.journal ++ take n es) → number ≡ length s.server.journal
-      → IsAccepted [] (first.server.journal ++ take n es) → IsRefusal (acceptance s.server.journal x) f → IsEntryCause (first.server.journal ++ es) (entry_cause_of number f)
-  first-refused first s es n number x f h e b k a c =
-      let j = first.server.journal in
-      let is = journal-is first s (j ++ take n es) b in
-      let s = split es n x h e in
-      cause (j ++ take n es) s.0 (j ++ es) x number f (ap (λ (xs : List Entry). j ++ xs) s.1 ∙ sym (append_assoc j (take n es) (x ∷ s.0))) (k ∙ ap length is) a (subst (λ (xs : List Entry). IsRefusal (acceptance xs x) f) is c)
+  pub first-refused : (number : ℕ) (x : Entry) (f : CommandFault) → n < length es → x ≡ get_or es n x → s ≡ j ++ take n es → number ≡ length s → IsAccepted [] (j ++ take n es) → IsRefusal (acceptance s x) f → IsEntryCause (j ++ es) (entry_cause_of number f)
+  first-refused number x f h e b k a c =
+      let r = split es n x h e in
+      cause (j ++ take n es) r.0 (j ++ es) x number f (ap (λ (xs : List Entry). j ++ xs) r.1 ∙ sym (append_assoc j (take n es) (x ∷ r.0))) (k ∙ ap length b) a (subst (λ (xs : List Entry). IsRefusal (acceptance xs x) f) b c)
 
 pub accepted-all : (j es : List Entry) (n : ℕ) → length es ≤ n → IsAccepted [] (j ++ take n es) → IsAccepted [] (j ++ es)
 accepted-all j es n h a = subst (λ (xs : List Entry). IsAccepted [] (j ++ xs)) (take_all n es h) a

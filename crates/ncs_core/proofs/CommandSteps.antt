@@ -1,5 +1,5 @@
 -- What a command answers and leaves, by its step of the server.
-use Rattle.std.proofs.Common.{◌≡◌, ℕ, ◌≤◌, ◌++◌, ◌∷◌, [], List, Bool, true, false, Option, Some, None, Result, Ok, Err, ◌⊎◌, refl, sym, ap, ◌∙◌, subst, arith}
+use Rattle.std.proofs.Common.{◌≡◌, ℕ, ◌≤◌, ◌++◌, ◌∷◌, [], List, Bool, true, false, Option, Some, None, Result, Ok, Err, ◌⊎◌, inl, refl, sym, ap, ◌∙◌, subst, arith}
 use Rattle.mos_edits.specs.KeyedLists.{ActFault}
 use Rattle.mos_edits.specs.Entries.{Entry, Refusal, acceptance, entry_count}
 use Rattle.mos_io.specs.Counts.{Rose}
@@ -7,11 +7,11 @@ use Rattle.mos_machines.specs.Messages.{Status}
 use Rattle.mos_machines.specs.Server.{Verdict, verdict, refusal_status, peer_given}
 use Rattle.mos_machines.specs.Server.Verdict.{Takes, Fails, Refuses}
 use Rattle.mos_machines.specs.Steps.{ServerState, ServerEvent, StepAnswer, ServerStep, server_told}
-use Rattle.rundown_log.specs.Keeping.{Appends, Keeps}
+use Rattle.rundown_log.specs.Keeping.{Appends, Keeps, LeavesSo}
 use Rattle.rundown_log.specs.declared.keeper.KeepFault.{KeepFault}
 use Rattle.rundown_log.specs.declared.keeper.KeepFault.TheVariants as keeping
 use Rattle.ncs_core.specs.Accepting.{IsRefusal}
-use Rattle.ncs_core.specs.Commands.{IsCommandStep, HasCause, LeavesAfter, is_failed, command_fault_of}
+use Rattle.ncs_core.specs.Commands.{IsCommandStep, HasCause, LeavesAfter, LeavesKeeper, is_failed, command_fault_of}
 use Rattle.ncs_core.specs.State.{NcsTables, ncs_of, states}
 use Rattle.ncs_core.specs.declared.fault.CommandFault.{CommandFault}
 use Rattle.ncs_core.specs.declared.fault.CommandFault.TheVariants.{Stopped, Missing, AlreadyThere, Full, StoreFault, NoMemory}
@@ -86,6 +86,23 @@ taken-command s t kept kept_now e n a h c k = record {
   cause = (n, a);
   leaves = k;
 }
+
+-- what they leave of the keeper, by its own account
+module _ {K : Type 0} (appended : K → Entry → Result (Unit {0}) KeepFault → K → Type 0) (k m : K) (e : Entry) where
+  pub refused-keeper : (why : Option Refusal) (f : CommandFault) → IsRefusal why f → m ≡ k → LeavesKeeper appended k m e (Err f)
+  refused-keeper why Stopped a h = absurd a
+  refused-keeper why (Missing id) a h = h
+  refused-keeper why (AlreadyThere id) a h = h
+  refused-keeper why (Full units) a h = h
+  refused-keeper why StoreFault a h = absurd a
+  refused-keeper why NoMemory a h = inl h
+
+  pub unkept-keeper : (f : KeepFault) (r : CommandFault) → r ≡ command_fault_of f → LeavesSo appended k m e (Err f) → LeavesKeeper appended k m e (Err r)
+  unkept-keeper f r q h = subst (λ (x : CommandFault). LeavesKeeper appended k m e (Err x)) (sym q) (by f h)
+    where
+      by : (f : KeepFault) → LeavesSo appended k m e (Err f) → LeavesKeeper appended k m e (Err (command_fault_of f))
+      by keeping.Failed h = h
+      by keeping.NoMemory h = h
 
 -- The same by the tables: `t` is the server before the command, `b` the same as it is opened up, and `u` the server after it.
 module _ {K : Type 0} (t b : NcsTables K) (e : Entry) where

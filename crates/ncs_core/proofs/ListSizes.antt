@@ -1,7 +1,7 @@
 -- Stories whose items have numbers of samples that fit, one story after the other.
 use Rattle.std.proofs.Common.{◌≡◌, ℕ, zero, suc, ◌+◌, List, [], ◌∷◌, drop, slice_get, Some, subst, arith}
 use Rattle.mos_edits.specs.Orders.{Story}
-use Rattle.size_laws.specs.Small.{AreSmallItems, AreSmallStories}
+use Rattle.mos_machines.specs.Small.{AreSmallItems, AreSmallStories}
 
 pub stories-more : (stories : List Story) (n : ℕ) (x : Story) → slice_get stories n ≡ Some x → AreSmallItems x.items → AreSmallStories (drop (n + 1) stories) → AreSmallStories (drop n stories)
 stories-more [] n x e s m = absurd (cc)

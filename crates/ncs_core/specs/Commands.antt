@@ -47,12 +47,12 @@ LeavesAfter s t kept kept_now e (Ok done) = Keeps kept kept_now e
 LeavesAfter s t kept kept_now e (Err StoreFault) = (t ≡ record s { stopped = true; faults = t.faults }) × ((kept_now ≡ kept) ⊎ Keeps kept kept_now e)
 LeavesAfter s t kept kept_now e (Err fault) = (t ≡ s) × (kept_now ≡ kept)
 
--- What the keeper makes of the append, by its own account; where none was made it is as it was. Of a command for which memory
--- ran out nothing is said.
+-- What the keeper makes of the append, by its own account; where none was made it is as it was. A command for which memory
+-- ran out may have asked the keeper or not.
 abbrev pub LeavesKeeper : {K : Type 0} → (K → Entry → Result (Unit {0}) KeepFault → K → Type 0) → K → K → Entry → Result (Unit {0}) CommandFault → Type 0
 LeavesKeeper appended k m e (Ok done) = appended k e (Ok done) m
 LeavesKeeper appended k m e (Err StoreFault) = appended k e (Err keeping.Failed) m
-LeavesKeeper appended k m e (Err NoMemory) = Unit {0}
+LeavesKeeper appended k m e (Err NoMemory) = (m ≡ k) ⊎ appended k e (Err keeping.NoMemory) m
 LeavesKeeper appended k m e (Err fault) = m ≡ k
 
 -- what becomes of a keeper's fault

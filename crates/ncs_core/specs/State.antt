@@ -73,7 +73,3 @@ HaveRoomFor whole r peers = (d : ℕ) → d < length peers → IsRoomFor whole r
 -- entry `n` of an order was accepted, which is a whole-order edit or isn't
 abbrev pub given_by : Text → Bool → ℕ → PeerState → PeerState
 given_by r whole n s = record s { views = set_order s.views r (view_given (is_open s.upper && whole) n (s.views r)) }
-
--- the server with other entries
-abbrev pub with_journal : {K : Type 0} → NcsTables K → List Entry → NcsTables K
-with_journal n journal = record n { server = record n.server { journal = journal } }

@@ -15,16 +15,13 @@ use crate::fault::CommandFault;
 use crate::limits::{exchanged_units, overrun, units_alone};
 use crate::orders::{NO_ORDERS, Orders, Table, order_in};
 use element_action::{ActFault, applied, apply};
-use mos_fields::{Id, NoMemory};
+use mos_fields::{Id, NoMemory, let_go};
 use mos_values::Edit;
 use order_table::OrderTable;
 use rundown_log::edit_ro;
 use running_order::Order;
 use std::alloc::Global;
 use std::mem::replace;
-
-// Lets a value go. What is let go here is dropped by a function of its type, and not variant by variant on each path.
-pub fn let_go<T: Drop>(_value: T) {}
 
 // A fault of an edit, as a command tells it.
 fn told(fault: ActFault) -> CommandFault
@@ -141,11 +138,33 @@ fn put_within(
     ensures fault { IfErr result (λ f. IsRefusal (refusal (Done order) (rows_over (put_row ro.now order orders.old) ro.now)) f) }
     ensures err { OnErr result (look None orders.new ≡ look None orders.old) }
 {
-    know(&mut orders.table, ro)?;
     let mut held = order;
-    let units = exchange_within(alloc, &mut orders.table, orders.units, ro, &mut held)?;
+    match exchange_in(alloc, orders, ro, &mut held) {
+        Ok(()) => Ok(held),
+        Err(fault) => {
+            let_go(held);
+            Err(fault)
+        }
+    }
+}
+
+// Exchanges an order for what is in its row, which it gets where it has none, where the orders then pass no limit.
+fn exchange_in(
+    alloc: Global,
+    orders: &mut Orders,
+    ro: &Id,
+    order: &mut Option<Order>,
+) -> Result<(), CommandFault>
+    ensures order { OnOk result (order.new ≡ look None orders.old ro.now) }
+    ensures rows { OnOk result (orders.new ≡ put_row ro.now order.old orders.old) }
+    ensures within { OnOk result (rows_over (put_row ro.now order.old orders.old) ro.now ≡ None) }
+    ensures fault { IfErr result (λ f. IsRefusal (refusal (Done order.old) (rows_over (put_row ro.now order.old orders.old) ro.now)) f) }
+    ensures err { OnErr result (look None orders.new ≡ look None orders.old) }
+{
+    know(&mut orders.table, ro)?;
+    let units = exchange_within(alloc, &mut orders.table, orders.units, ro, order)?;
     orders.units = units;
-    Ok(held)
+    Ok(())
 }
 
 // What an edit makes of its order, in place, where it is accepted; and how many code units the list of all orders has then.
@@ -208,4 +227,5 @@ pub fn undo(orders: &mut Orders, ro: &Id, order: Option<Order>, units: u64)
     let mut held = order;
     orders.table.exchange(ro, &mut held);
     orders.units = units;
+    let_go(held);
 }

@@ -4,14 +4,15 @@ ghost use Rattle.mos_edits.specs.Entries.{entry_of, entry_count};
 ghost use Rattle.mos_machines.specs.Server.{peer_given};
 ghost use Rattle.mos_machines.specs.Values.{edit_message};
 ghost use Rattle.mos_values.specs.Sound.{IsSound};
-ghost use Rattle.rundown_log.specs.Keeping.{Appends, LeavesSo};
+ghost use Rattle.rundown_log.specs.Keeping.{Appends, LeavesCertain, LeavesSo};
 ghost use Rattle.ncs_core.specs.Commands.{IsCommandStep, HasCause, LeavesAfter, LeavesKeeper, is_failed as is_failed_of, command_fault_of};
 ghost use Rattle.ncs_core.specs.State.{ncs_of, devices_of, states};
 
-use crate::accepting::{accept_edit, let_go, undo};
+use crate::accepting::{accept_edit, undo};
 use crate::fault::CommandFault;
 use crate::giving::{give_all, is_whole, reserve_all};
 use crate::ncs::Ncs;
+use mos_fields::let_go;
 use mos_values::Edit;
 use rundown_log::{Journal, KeepFault, Keeper, edit_ro};
 use server_peer::Peer;
@@ -25,6 +26,7 @@ fn keep_and_give<K: Keeper>(
 ) -> Result<(), KeepFault>
     requires { IsSound (edit_message edit.now) }
     ensures appends { Appends (K.kept keeper.old) (K.kept keeper.new) (K.faults keeper.old) (K.faults keeper.new) (entry_of edit.now) result }
+    ensures certainty { LeavesCertain (K.kept keeper.old) (K.kept keeper.new) (K.certainty keeper.old) (K.certainty keeper.new) (entry_of edit.now) result }
     ensures leaves { LeavesSo K.appended keeper.old keeper.new (entry_of edit.now) result }
     ensures rises { K.faults keeper.old ≤ K.faults keeper.new }
     ensures journal { OnOk result (journal.new ≡ journal.old ++ entry_of edit.now ∷ []) }

@@ -17,7 +17,7 @@ ghost use Rattle.ncs_core.specs.State.{ncs_of, devices_of, LeavesRest};
 
 use crate::ncs::Ncs;
 use crate::orders::headers_in;
-use crate::reading::{ack, other_ack};
+use crate::reading::{ack_with, other_ack};
 use machine_answers::{Heard, Status};
 use mos_fields::{Id, NoMemory};
 use mos_values::{Boxed, Message};
@@ -31,7 +31,7 @@ fn said_list(alloc: Global, order: Option<&Order>, ro: &Id) -> Result<Heard, NoM
 {
     match order {
         Some(order) => Ok(Heard::Say(Message::RoList(Boxed::new(alloc, order.to_body()?)?))),
-        None => Ok(Heard::Say(Message::RoAck(ack(alloc, ro, &Status::NoRunningOrder)?))),
+        None => Ok(Heard::Say(Message::RoAck(ack_with(alloc, ro, Status::NoRunningOrder)?))),
     }
 }
 
@@ -58,7 +58,7 @@ impl<K: Keeper> Ncs<K> {
         ensures rest { LeavesRest self.old self.new }
         ensures err { OnErr result (ncs_of self.new ≡ ncs_of self.old) }
     {
-        let answer = ack(self.allocator(), ro, &Status::NotNow)?;
+        let answer = ack_with(self.allocator(), ro, Status::NotNow)?;
         self.peers[d as usize].settle(&self.journal, false);
         Ok(Heard::Say(Message::RoAck(answer)))
     }

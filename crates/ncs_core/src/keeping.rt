@@ -1,9 +1,8 @@
 //! A server over a keeper in memory, whose appends fail at will.
-ghost use Rattle.std.specs.Prelude.{◌≡◌, true, Some, OnOk, OnErr};
-ghost use Rattle.rundown_log.specs.Memory.{settled};
+ghost use Rattle.std.specs.Prelude.{◌≡◌, true, Some};
+ghost use Rattle.rundown_log.specs.Memory.{kept as kept_of, settled};
 
 use crate::ncs::Ncs;
-use mos_fields::NoMemory;
 use rundown_log::MemKeeper;
 
 impl Ncs<MemKeeper> {
@@ -14,15 +13,12 @@ impl Ncs<MemKeeper> {
         self.keeper.fail_next();
     }
 
-    /// The entry whose append failed last is kept from now on, or isn't, as `MemKeeper::settle` says. The server takes no
-    /// command all the same until it is started again. Without memory for the entry all stays as it was.
-    pub fn settle(&mut self, keeps: bool) -> Result<(), NoMemory>
-        ensures ok { OnOk result (self.new ≡ record self.old { keeper = settled self.old.keeper keeps; kept = Some (settled self.old.keeper keeps).kept }) }
-        ensures err { OnErr result (self.new ≡ self.old) }
+    /// The entry whose append failed in this run is kept from now on, or isn't, as `MemKeeper::settle` says. Nothing else
+    /// changes, and nothing at all where no append failed: the server takes no command all the same until it is started
+    /// again. It takes no memory.
+    pub fn settle(&mut self, keeps: bool)
+        ensures { self.new ≡ record self.old { keeper = settled self.old.keeper keeps; kept = Some (kept_of (settled self.old.keeper keeps)) } }
     {
-        if keeps && !self.stopped {
-            self.is_known = false;
-        }
-        self.keeper.settle(keeps)
+        self.keeper.settle(keeps);
     }
 }

@@ -3,15 +3,15 @@ ghost use Rattle.std.specs.Prelude.{◌≡◌, ◌+◌, ◌-◌, ◌<◌, ◌≤
 ghost use Rattle.std.specs.Option.{option_copied};
 ghost use Rattle.mos_edits.specs.Entries.{over as over_of, over_list};
 ghost use Rattle.mos_edits.specs.Sizes.{list_units, list_all_units as list_all_units_of, at_most_64_bits};
-ghost use Rattle.size_laws.specs.Small.{IsSmall, IsSmallItem, AreSmallItems, IsSmallOrder};
+ghost use Rattle.mos_machines.specs.Small.{IsSmall, IsSmallItem, AreSmallItems, IsSmallOrder};
 ghost use Rattle.ncs_core.specs.Accepting.{rows_over};
 ghost use Rattle.ncs_core.specs.State.{all_units, one_header};
 
 use crate::orders::{Table, header_of, order_in};
 use mos_fields::{Id, NoMemory, Samples};
+use mos_machines::limits_count_canonical_encodings;
 use mos_values::{Item, Story, list_all_units};
 use running_order::Order;
-use size_laws::limits_count_canonical_encodings;
 use std::alloc::Global;
 
 // The limits, in code units: of the list of one order, and of that of all.

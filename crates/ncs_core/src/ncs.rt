@@ -24,20 +24,18 @@ pub struct Ncs<K: Keeper> {
     pub(crate) orders: Orders,
     pub(crate) peers: Vec<Peer>,
     pub(crate) stopped: bool,
-    /// whether the journal is known to be the front of what the keeper keeps
-    pub(crate) is_known: bool,
 }
 
 impl<K: Keeper> Model for Ncs<K> {
     ghost use Rattle.std.specs.Prelude.{◌≤◌, length};
     ghost use Rattle.ncs_core.specs.State.{NcsTables, AreOrders};
-    ghost use Rattle.ncs_core.specs.Starting.{IsKnown};
+    ghost use Rattle.ncs_core.specs.Starting.{IsKept};
 
     ghost Value = { NcsTables K };
 
     ghost view = { λ n. record { server = record { journal = n.journal; stopped = n.stopped; faults = K.faults n.keeper; peers = n.peers.items }; keeper = n.keeper; kept = K.kept n.keeper } };
 
-    ghost invariant = { λ n. AreOrders n.journal n.orders × (length n.peers.items ≤ 64) × IsKnown n.is_known n.stopped (K.kept n.keeper) n.journal };
+    ghost invariant = { λ n. AreOrders n.journal n.orders × (length n.peers.items ≤ 64) × (1 ≤ length n.peers.items) × IsKept n.stopped (K.kept n.keeper) (K.certainty n.keeper) n.journal };
 }
 
 impl<K: Keeper> Ncs<K> {
@@ -58,6 +56,7 @@ impl<K: Keeper> Ncs<K> {
     /// How many devices there are, 1 to 64. It takes no memory.
     pub fn devices(&self) -> u32
         ensures number { result ≡ devices_of self.now }
+        ensures least { 1 ≤ result }
         ensures most { result ≤ 64 }
     {
         self.peers.len() as u32

@@ -6,7 +6,7 @@ ghost use Rattle.machine_answers.specs.Answers.{status_of};
 ghost use Rattle.ncs_core.specs.Answers.{acked, other_status};
 
 use machine_answers::{Status, acknowledgement};
-use mos_fields::{Id, NoMemory, OptId};
+use mos_fields::{Id, NoMemory, OptId, let_go};
 use mos_values::{Message, RoAck};
 use std::alloc::Global;
 
@@ -17,11 +17,20 @@ pub fn ack(alloc: Global, ro: &Id, status: &Status) -> Result<RoAck, NoMemory>
     acknowledgement(alloc, OptId::from_id(ro.try_clone()?), status)
 }
 
+// The same with a status that is let go then.
+pub fn ack_with(alloc: Global, ro: &Id, status: Status) -> Result<RoAck, NoMemory>
+    ensures { IfOk result (λ a. a ≡ acked ro.now (status_of status)) }
+{
+    let answer = ack(alloc, ro, &status);
+    let_go(status);
+    answer
+}
+
 // A message that the server doesn't act on, with its roID.
 fn unsupported(alloc: Global, ro: &Id) -> Result<RoAck, NoMemory>
     ensures { IfOk result (λ a. a ≡ acked ro.now MachineStatus.NotSupported) }
 {
-    ack(alloc, ro, &Status::NotSupported)
+    ack_with(alloc, ro, Status::NotSupported)
 }
 
 // A roAck that the server doesn't act on, with its roID or an empty one.
@@ -46,7 +55,7 @@ pub fn other_ack(alloc: Global, m: &Message) -> Result<RoAck, NoMemory>
     ensures { IfOk result (λ a. a ≡ acked (message_ro (seen m.now)) (other_status (seen m.now))) }
 {
     match m {
-        Message::RoElementStat(status) => ack(alloc, &status.as_ref().ro, &Status::Okay),
+        Message::RoElementStat(status) => ack_with(alloc, &status.as_ref().ro, Status::Okay),
         Message::RoCreate(body) => unsupported(alloc, &body.as_ref().header.ro),
         Message::RoReplace(body) => unsupported(alloc, &body.as_ref().header.ro),
         Message::RoDelete(ro) => unsupported(alloc, ro),

@@ -3,7 +3,7 @@ use Rattle.std.proofs.Common.{◌≡◌, ℕ, Bool, true, false, Option, Some, N
 use Rattle.mos_machines.specs.Messages.{Message, Step, is_link}
 use Rattle.mos_machines.specs.Messages.Step.{Taken, Unasked}
 use Rattle.mos_machines.specs.Device.{GateState, Decks, gate_dropped, gate_got, gate_left, gate_next, gate_read}
-use Rattle.mos_machines.specs.Steps.{DeviceEvent, DeviceStep, StepAnswer, device_step, gate_says, gate_sent, gate_stepped, unless_stale}
+use Rattle.mos_machines.specs.Steps.{DeviceEvent, DeviceStep, StepAnswer, device_step, asked_on, gate_says, gate_sent, gate_stepped, unless_stale}
 use Rattle.mos_machines.specs.Steps.DeviceEvent.{UpperLeft, ReadUpper, GateDropped, NextAsk, ReadAnswer}
 use Rattle.mos_machines.specs.Steps.StepAnswer.{Stepped}
 use Rattle.mos_machines.specs.Tables.{GateTables, gate_of}
@@ -44,16 +44,12 @@ heard-unless false g x = refl
 pub heard-is-said : (g : GateState) (c : ℕ) (m : Message) (decks : Decks) → heard_said (heard_of (device_step g (ReadUpper c m decks)).0) ≡ said (device_step g (ReadUpper c m decks)).0
 heard-is-said g c m decks = heard-unless (is_link g.upper c) g (gate_read g decks m)
 
-asked-unless : (b : Bool) (g h : GateState) (m : Option Message) → sent_said (asked_of (unless_stale b g (gate_sent (h, m))).0) ≡ said (unless_stale b g (gate_sent (h, m))).0
-asked-unless true g h None = refl
-asked-unless true g h (Some m) = refl
-asked-unless false g h m = refl
+sent-is-said : (x : GateState × Option Message) → sent_said (asked_of (gate_sent x).0) ≡ said (gate_sent x).0
+sent-is-said (g, None) = refl
+sent-is-said (g, Some m) = refl
 
 pub asked-said : (g : GateState) (c : ℕ) (now : MosTime) → sent_said (asked_of (device_step g (NextAsk c now)).0) ≡ said (device_step g (NextAsk c now)).0
-asked-said g c now = by (gate_next now g)
-  where
-    by : (x : GateState × Option Message) → sent_said (asked_of (unless_stale (is_link g.link c) g (gate_sent x)).0) ≡ said (unless_stale (is_link g.link c) g (gate_sent x)).0
-    by x = asked-unless (is_link g.link c) g x.0 x.1
+asked-said g c now = sent-is-said (asked_on (is_link g.link c) g (gate_next now g))
 
 -- an answer that came
 pub answered-comes : (inside g h : GateTables) (c : ℕ) (lent m : values.Message) (st : CallStep) (a : PortAnswer) → inside ≡ g → lent ≡ m → st ≡ step_of (device_step (gate_of inside) (ReadAnswer c (seen lent))).0 → gate_of h ≡ (device_step (gate_of inside) (ReadAnswer c (seen lent))).1

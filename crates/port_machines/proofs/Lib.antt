@@ -4,5 +4,4 @@ pub mod Commanded
 pub mod EditorSaid
 pub mod ListedOrders
 pub mod MessageEdits
-pub mod PlainOrders
 pub mod PortSteps

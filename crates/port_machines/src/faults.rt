@@ -6,9 +6,8 @@ ghost use Rattle.ncs_core.specs.Commands.{fault_status};
 ghost use Rattle.port_machines.specs.Saying.{acked, IsLeft, IsStatusFor, IsTold, IsToldFor, is_store_fault as is_store_fault_of};
 
 use crate::replies::answer_for;
-use crate::saying::let_go;
 use machine_answers::Status;
-use mos_fields::{Id, NoMemory};
+use mos_fields::{Id, NoMemory, let_go};
 use ncs_core::CommandFault;
 use port_events::PortAnswer;
 use std::alloc::Global;

@@ -14,8 +14,6 @@ mod listing;
 mod replies;
 mod saying;
 mod server;
-#[cfg(test)]
-mod tests;
 
 pub use gateway::GatewayMachine;
 pub use server::ServerMachine;

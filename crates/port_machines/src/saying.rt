@@ -3,10 +3,8 @@ ghost use Rattle.std.specs.Prelude.{◌≡◌};
 ghost use Rattle.port_machines.specs.Saying.{heard_said, sent_said, step_said};
 
 use machine_answers::{Heard, Sent, Step};
+use mos_fields::let_go;
 use port_events::PortAnswer;
-
-// Lets a value go. What is let go here is dropped by a function of its type, and not variant by variant on each path.
-pub fn let_go<T: Drop>(_value: T) {}
 
 // To what became of an answer, or of an end.
 pub fn step_answer(step: Step) -> PortAnswer

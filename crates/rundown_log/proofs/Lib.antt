@@ -1,2 +1,3 @@
 pub mod PositionLemmas
 pub mod PlaceRows
+pub mod HeldLists

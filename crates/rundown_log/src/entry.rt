@@ -35,9 +35,6 @@ pub fn edit_ro(edit: &Edit) -> &Id
     }
 }
 
-// Lets a value go. What is let go here is dropped by a function of its type, and not variant by variant on each path.
-pub fn let_go<T: Drop>(_value: T) {}
-
 impl Entry {
     /// The entry of an edit. It takes no memory.
     pub fn new(edit: Edit) -> Self

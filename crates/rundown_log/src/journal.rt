@@ -5,13 +5,13 @@ ghost use Rattle.std.specs.Vec.{vec_capacity};
 ghost use Rattle.mos_edits.specs.Entries.{entry_of, entry_count as entry_count_of};
 ghost use Rattle.mos_machines.specs.Values.{edit_message};
 ghost use Rattle.mos_values.specs.Sound.{IsSound};
-ghost use Rattle.rundown_log.specs.Keeping.{Appends, LeavesSo};
+ghost use Rattle.rundown_log.specs.Keeping.{Appends, LeavesCertain, LeavesSo};
 ghost use Rattle.rundown_log.specs.Positions.{positions};
 
-use crate::entry::{Entry, edit_ro, let_go};
+use crate::entry::{Entry, edit_ro};
 use crate::keeper::{KeepFault, Keeper};
 use crate::places::{Places, count_in, find_in, know};
-use mos_fields::{Id, NoMemory};
+use mos_fields::{Id, NoMemory, let_go};
 use mos_values::Edit;
 use order_table::OrderTable;
 use std::alloc::Global;
@@ -70,6 +70,7 @@ fn append_in<K: Keeper>(
     requires entry_room { vec_len entries.old < vec_capacity entries.old }
     requires place_room { vec_len places.old < vec_capacity places.old }
     ensures appends { Appends (K.kept keeper.old) (K.kept keeper.new) (K.faults keeper.old) (K.faults keeper.new) entry result }
+    ensures certainty { LeavesCertain (K.kept keeper.old) (K.kept keeper.new) (K.certainty keeper.old) (K.certainty keeper.new) entry result }
     ensures leaves { K.appended keeper.old entry result keeper.new }
     ensures rises { K.faults keeper.old ≤ K.faults keeper.new }
     ensures entries { OnOk result (entries.new.items ≡ entries.old.items ++ entry ∷ []) }
@@ -119,6 +120,7 @@ fn keep_in<K: Keeper>(
 ) -> Result<(), KeepFault>
     requires { IsSound (edit_message edit.now) }
     ensures appends { Appends (K.kept keeper.old) (K.kept keeper.new) (K.faults keeper.old) (K.faults keeper.new) (entry_of edit.now) result }
+    ensures certainty { LeavesCertain (K.kept keeper.old) (K.kept keeper.new) (K.certainty keeper.old) (K.certainty keeper.new) (entry_of edit.now) result }
     ensures leaves { LeavesSo K.appended keeper.old keeper.new (entry_of edit.now) result }
     ensures rises { K.faults keeper.old ≤ K.faults keeper.new }
     ensures entries { OnOk result (entries.new.items ≡ entries.old.items ++ entry_of edit.now ∷ []) }
@@ -206,6 +208,7 @@ impl Journal {
     pub fn keep<K: Keeper>(&mut self, keeper: &mut K, edit: &Edit) -> Result<(), KeepFault>
         requires { IsSound (edit_message edit.now) }
         ensures appends { Appends (K.kept keeper.old) (K.kept keeper.new) (K.faults keeper.old) (K.faults keeper.new) (entry_of edit.now) result }
+        ensures certainty { LeavesCertain (K.kept keeper.old) (K.kept keeper.new) (K.certainty keeper.old) (K.certainty keeper.new) (entry_of edit.now) result }
         ensures leaves { LeavesSo K.appended keeper.old keeper.new (entry_of edit.now) result }
         ensures rises { K.faults keeper.old ≤ K.faults keeper.new }
         ensures ok { OnOk result (self.new ≡ self.old ++ entry_of edit.now ∷ []) }

@@ -4,12 +4,11 @@
 #![tactic(auto)]
 
 mod entry;
+mod held;
 mod journal;
 mod keeper;
 mod mem_keeper;
 mod places;
-#[cfg(test)]
-mod tests;
 
 pub use entry::{Entry, edit_ro};
 pub use journal::Journal;

@@ -2,22 +2,21 @@
 ghost use Rattle.std.specs.Prelude.{◌≡◌, ◌↔◌, ◌≤◌, [], ◌∷◌, ◌++◌, ◌||◌, ◌==◌, true, false, Some, None, Ok, Err, OnOk, OnErr, IfOk, IsTrue, drop, length};
 ghost use Rattle.std.specs.List.{list_any};
 ghost use Rattle.mos_io.specs.Counts.{counted};
-ghost use Rattle.rundown_log.specs.Keeping.{Appends};
-ghost use Rattle.rundown_log.specs.Memory.{fails_next as fails_next_of, kept_if, doubtful_if, failed, appended, settled_by, settled, IsAppended, IsLoaded};
+ghost use Rattle.rundown_log.specs.Keeping.{Appends, LeavesCertain, all_certain};
+ghost use Rattle.rundown_log.specs.Memory.{fails_next as fails_next_of, failed, appended, settled, kept as kept_of, certainty as certainty_of, IsAppended, IsLoaded};
 
-use crate::entry::{Entry, let_go};
+use crate::entry::Entry;
+use crate::held::Held;
 use crate::keeper::{Entries, KeepFault, Keeper};
 use mos_fields::NoMemory;
 use mos_values::Sequence;
 use std::alloc::Global;
 use std::marker::Model;
-use std::mem::replace;
 
 /// Keeps entries in memory, and fails at chosen appends.
 #[derive(Drop)]
 pub struct MemKeeper {
-    kept: Entries,
-    doubtful: Option<Entry>,
+    held: Held,
     fails: Vec<u64>,
     stands: bool,
     failing: bool,
@@ -31,7 +30,7 @@ impl Model for MemKeeper {
 
     ghost Value = { MemoryKeeper };
 
-    ghost view = { λ k. record { kept = k.kept; doubtful = k.doubtful; fails = k.fails.items; stands = k.stands; failing = k.failing; call = k.call; faults = k.faults } };
+    ghost view = { λ k. record { certain = k.held.certain; doubtful = k.held.doubtful; fails = k.fails.items; stands = k.stands; failing = k.failing; call = k.call; faults = k.faults } };
 }
 
 // The same entries again.
@@ -45,17 +44,6 @@ fn copies(alloc: Global, kept: &[Entry]) -> Result<Entries, NoMemory>
     Ok(entries)
 }
 
-// A copy of an entry in doubt, at the end.
-fn copy_to(doubtful: &Option<Entry>, kept: &mut Entries) -> Result<(), NoMemory>
-    ensures ok { OnOk result (kept.new ≡ settled_by true doubtful.now kept.old) }
-    ensures err { OnErr result (kept.new ≡ kept.old) }
-{
-    match doubtful {
-        Some(entry) => kept.push(entry.try_clone()?),
-        None => Ok(()),
-    }
-}
-
 // Whether a number is listed.
 fn is_listed(number: u64, list: &[u64]) -> bool
     ensures { result ≡ list_any (λ n. n == number) list.now }
@@ -65,13 +53,12 @@ fn is_listed(number: u64, list: &[u64]) -> bool
 
 impl MemKeeper {
     /// A keeper of no entries. Append number k, counted from 0 and staying at 2^64 - 1, fails where k is in `fails`. Then
-    /// its entry is kept exactly where `stands`; else it is in doubt, until it is settled.
+    /// its entry is kept exactly where `stands`, until it is settled.
     pub fn new(alloc: Global, fails: Vec<u64>, stands: bool) -> Self
-        ensures { result ≡ record { kept = []; doubtful = None; fails = fails.items; stands = stands; failing = false; call = 0; faults = 0 } }
+        ensures { result ≡ record { certain = []; doubtful = None; fails = fails.items; stands = stands; failing = false; call = 0; faults = 0 } }
     {
         MemKeeper {
-            kept: Sequence::new(alloc),
-            doubtful: None,
+            held: Held::new(alloc),
             fails,
             stands,
             failing: false,
@@ -88,24 +75,19 @@ impl MemKeeper {
         self.failing = true;
     }
 
-    /// An entry in doubt, whose append failed last, is kept from now on, or isn't. Without memory for it all stays as it
-    /// was.
-    pub fn settle(&mut self, stands: bool) -> Result<(), NoMemory>
-        ensures ok { OnOk result (self.new ≡ settled self.old stands) }
-        ensures err { OnErr result (self.new ≡ self.old) }
+    /// The entry of the last append, where it failed and no load came since, is kept from now on or isn't. Else nothing
+    /// changes. It takes no memory.
+    pub fn settle(&mut self, stands: bool)
+        ensures { self.new ≡ settled self.old stands }
     {
-        if stands {
-            copy_to(&self.doubtful, &mut self.kept)?;
-        }
-        let_go(replace(&mut self.doubtful, None));
-        Ok(())
+        self.held.settle(stands);
     }
 
     /// The entries that are kept.
     pub fn entries(&self) -> &[Entry]
-        ensures { result.now ≡ self.now.kept }
+        ensures { result.now ≡ kept_of self.now }
     {
-        self.kept.as_slice()
+        self.held.entries()
     }
 
     // Whether the next append fails.
@@ -120,34 +102,11 @@ impl MemKeeper {
         ensures ok { OnOk result (self.new ≡ failed self.old entry) }
         ensures err { OnErr result (self.new ≡ self.old) }
     {
-        self.doubt(entry)?;
+        self.held.doubt(entry, self.stands)?;
         self.failing = false;
         self.call = self.call.saturating_add(1);
         self.faults = self.faults.saturating_add(1);
         Ok(())
-    }
-
-    // The entry of an append that fails.
-    fn doubt(&mut self, entry: Entry) -> Result<(), NoMemory>
-        ensures ok { OnOk result (self.new ≡ record (failed self.old entry) { failing = self.old.failing; call = self.old.call; faults = self.old.faults }) }
-        ensures err { OnErr result (self.new ≡ self.old) }
-    {
-        let doubtful = self.keep_or_doubt(entry)?;
-        let_go(replace(&mut self.doubtful, doubtful));
-        Ok(())
-    }
-
-    // An entry that is kept at once, or is in doubt.
-    fn keep_or_doubt(&mut self, entry: Entry) -> Result<Option<Entry>, NoMemory>
-        ensures doubtful { IfOk result (λ d. d ≡ doubtful_if self.old.stands entry) }
-        ensures ok { OnOk result (self.new ≡ record self.old { kept = kept_if self.old.stands self.old.kept entry }) }
-        ensures err { OnErr result (self.new ≡ self.old) }
-    {
-        if !self.stands {
-            return Ok(Some(entry));
-        }
-        self.kept.push(entry)?;
-        Ok(None)
     }
 
     // An append that doesn't.
@@ -155,25 +114,28 @@ impl MemKeeper {
         ensures ok { OnOk result (self.new ≡ appended self.old entry) }
         ensures err { OnErr result (self.new ≡ self.old) }
     {
-        self.kept.push(entry)?;
+        self.held.put(entry)?;
         self.call = self.call.saturating_add(1);
         Ok(())
     }
 }
 
 impl Keeper for MemKeeper {
-    ghost use Rattle.rundown_log.specs.Memory.{IsAppended, IsLoaded};
+    ghost use Rattle.rundown_log.specs.Memory.{IsAppended, IsLoaded, kept as kept_of, certainty as certainty_of};
 
-    ghost kept = { λ k. Some k.kept };
+    ghost kept = { λ k. Some (kept_of k) };
 
     ghost faults = { λ k. k.faults };
+
+    ghost certainty = { certainty_of };
 
     ghost appended = { IsAppended };
 
     ghost loaded = { IsLoaded };
 
     fn append(&mut self, e: &Entry) -> Result<(), KeepFault>
-        ensures appends { Appends (Some self.old.kept) (Some self.new.kept) self.old.faults self.new.faults e.now result }
+        ensures appends { Appends (Some (kept_of self.old)) (Some (kept_of self.new)) self.old.faults self.new.faults e.now result }
+        ensures certainty { LeavesCertain (Some (kept_of self.old)) (Some (kept_of self.new)) (certainty_of self.old) (certainty_of self.new) e.now result }
         ensures rises { self.old.faults ≤ self.new.faults }
         ensures leaves { IsAppended self.old e.now result self.new }
     {
@@ -187,23 +149,27 @@ impl Keeper for MemKeeper {
     }
 
     fn load(&mut self) -> Result<Entries, KeepFault>
-        ensures loads { IfOk result (λ entries. entries ≡ self.old.kept) }
+        ensures loads { IfOk result (λ entries. entries ≡ kept_of self.old) }
         ensures fault { result ≡ Err KeepFault.Failed → ⊥ }
-        ensures stay { self.new ≡ self.old }
+        ensures stay { kept_of self.new ≡ kept_of self.old }
+        ensures certainty { certainty_of self.new ≡ all_certain (Some (kept_of self.old)) }
         ensures leaves { IsLoaded self.old self.new }
     {
-        let entries = copies(self.alloc, self.kept.as_slice())?;
+        self.held.close();
+        let entries = copies(self.alloc, self.held.entries())?;
         Ok(entries)
     }
 
     fn load_behind(&mut self, known: usize) -> Result<Entries, KeepFault>
-        requires { known ≤ length self.old.kept }
-        ensures loads { IfOk result (λ entries. entries ≡ drop known self.old.kept) }
+        requires { known ≤ length (kept_of self.old) }
+        ensures loads { IfOk result (λ entries. entries ≡ drop known (kept_of self.old)) }
         ensures fault { result ≡ Err KeepFault.Failed → ⊥ }
-        ensures stay { self.new ≡ self.old }
+        ensures stay { kept_of self.new ≡ kept_of self.old }
+        ensures certainty { certainty_of self.new ≡ all_certain (Some (kept_of self.old)) }
         ensures leaves { IsLoaded self.old self.new }
     {
-        let entries = copies(self.alloc, &self.kept.as_slice()[known..])?;
+        self.held.close();
+        let entries = copies(self.alloc, &self.held.entries()[known..])?;
         Ok(entries)
     }
 }

@@ -3,3 +3,4 @@ pub mod Keys
 pub mod Ids
 pub mod Entries
 pub mod SizeLemmas
+mod Turns

@@ -140,8 +140,59 @@ impl IdTable {
     }
 }
 
+// So many keys are moved one by one; more of them at once.
+const FEW: usize = 8;
+
 // Moves the keys from `was` on to `at`, in their order.
 fn move_last(set: &mut IndexSet<Vec<u16>>, was: usize, at: usize)
+    requires end { was ≤ index_set_len set.old }
+    requires within { at ≤ was }
+    ensures { set.new.keys ≡ put_in (take was set.old.keys) at (drop was set.old.keys) }
+{
+    if set.len() - was <= FEW {
+        move_each(set, was, at);
+    } else {
+        move_many(set, was, at);
+    }
+}
+
+// The same of many keys: at once, or one by one where there is no memory for that.
+fn move_many(set: &mut IndexSet<Vec<u16>>, was: usize, at: usize)
+    requires end { was ≤ index_set_len set.old }
+    requires within { at ≤ was }
+    ensures { set.new.keys ≡ put_in (take was set.old.keys) at (drop was set.old.keys) }
+{
+    match move_at_once(set, was, at) {
+        Ok(()) => {}
+        Err(_) => move_each(set, was, at),
+    }
+}
+
+// The same by taking out what is to stand behind, and putting it back at the end, so that each key is moved twice at most.
+// Where memory runs out, the set stays as it was.
+fn move_at_once(set: &mut IndexSet<Vec<u16>>, was: usize, at: usize) -> Result<(), NoMemory>
+    requires end { was ≤ index_set_len set.old }
+    requires within { at ≤ was }
+    ensures ok { OnOk result (set.new.keys ≡ put_in (take was set.old.keys) at (drop was set.old.keys)) }
+    ensures err { OnErr result (set.new.keys ≡ set.old.keys) }
+{
+    set.reserve(set.len() - at)?;
+    let mut last = set.split_off(was)?;
+    match set.split_off(at) {
+        Ok(mut middle) => {
+            set.append(&mut last).unwrap();
+            set.append(&mut middle).unwrap();
+            Ok(())
+        }
+        Err(fault) => {
+            set.append(&mut last).unwrap();
+            Err(NoMemory::from(fault))
+        }
+    }
+}
+
+// The same one by one.
+fn move_each(set: &mut IndexSet<Vec<u16>>, was: usize, at: usize)
     requires end { was ≤ index_set_len set.old }
     requires within { at ≤ was }
     ensures { set.new.keys ≡ put_in (take was set.old.keys) at (drop was set.old.keys) }

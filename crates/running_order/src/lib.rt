@@ -11,4 +11,5 @@ mod splice;
 mod story_entry;
 mod story_table;
 
+pub use id_table::IdTable;
 pub use order::Order;

@@ -11,7 +11,7 @@ ghost use Rattle.running_order.specs.Places.{place_of, put_in, put_over, items_a
 use crate::header::put_patch;
 use crate::sizes::{list_size, plus, size_after};
 use crate::story_table::{StoryTable, table_of};
-use mos_fields::{NoMemory, OptId};
+use mos_fields::{NoMemory, OptId, pair_ok};
 use mos_values::{
     Header, HeaderPatch, Items, OrderBody, Stories, Story, header_units, items_units,
 };
@@ -51,8 +51,7 @@ impl Order {
         ensures { IfOk result (λ o. o ≡ b.now) }
     {
         b.has_distinct_stories();
-        let stories = table_of(alloc, &b.stories)?;
-        let header = b.header.try_clone()?;
+        let (header, stories) = pair_ok(b.header.try_clone(), table_of(alloc, &b.stories))?;
         let header_units = header_units(&header);
         let stories_units = stories.units();
         Ok(Order {
@@ -67,8 +66,7 @@ impl Order {
     pub fn to_body(&self) -> Result<OrderBody, NoMemory>
         ensures { IfOk result (λ b. b ≡ self.now) }
     {
-        let header = self.header.try_clone()?;
-        let stories = self.stories.to_stories()?;
+        let (header, stories) = pair_ok(self.header.try_clone(), self.stories.to_stories())?;
         self.stories.has_distinct_ids();
         Ok(OrderBody { header, stories })
     }
@@ -78,8 +76,7 @@ impl Order {
     pub fn try_clone(&self) -> Result<Order, NoMemory>
         ensures { IfOk result (λ o. o ≡ self.now) }
     {
-        let header = self.header.try_clone()?;
-        let stories = self.stories.try_clone()?;
+        let (header, stories) = pair_ok(self.header.try_clone(), self.stories.try_clone())?;
         Ok(Order {
             header,
             stories,

@@ -8,7 +8,7 @@ ghost use Rattle.running_order.specs.Sizes.{item_size, size_at};
 
 use crate::id_table::IdTable;
 use crate::splice::put_in_room;
-use mos_fields::{NoMemory, OptId, Text};
+use mos_fields::{NoMemory, OptId, Text, let_go, pair_ok};
 use mos_values::{Item, Items, Story, item_units};
 use std::alloc::Global;
 use std::marker::Model;
@@ -39,7 +39,8 @@ impl StoryEntry {
         ensures { IfOk result (λ e. e ≡ story) }
     {
         story.has_distinct_items();
-        let places = table_of(alloc, &story.items)?;
+        let places = table_of(alloc, &story.items);
+        let (story, places) = pair_ok(Ok(story), places)?;
         Ok(StoryEntry { story, places })
     }
 
@@ -116,7 +117,7 @@ impl StoryEntry {
     {
         let alloc = self.places.allocator();
         let mut list = take_items(&mut self.story, alloc);
-        let _removed = list.remove(at);
+        let_go(list.remove(at));
         self.places.remove(at);
         self.places.has_distinct_ids();
         put_items(&mut self.story, list);
@@ -219,7 +220,7 @@ fn replace_both(
 {
     list.reserve(new.len())?;
     places.replace(at, ids)?;
-    let _replaced = list.remove(at);
+    let_go(list.remove(at));
     put_in_room(list, at, new);
     Ok(())
 }

@@ -11,7 +11,7 @@ ghost use Rattle.running_order.specs.Sizes.{item_size, size_at, story_size};
 use crate::sizes::plus;
 use crate::story_entry::StoryEntry;
 use indexmap::IndexMap;
-use mos_fields::{NoMemory, Text};
+use mos_fields::{NoMemory, Text, let_go};
 use mos_values::{Items, Stories, Story, story_units};
 use std::alloc::Global;
 use std::marker::Model;
@@ -61,7 +61,7 @@ impl StoryTable {
         let alloc = self.allocator();
         let mut copy = StoryTable::with_room(alloc, self.table.len())?;
         for i in 0..self.table.len() {
-            copy.push(alloc, self.table[i].story().try_clone()?)?;
+            push_copy(&mut copy, alloc, self.table[i].story())?;
         }
         Ok(copy)
     }
@@ -135,7 +135,7 @@ impl StoryTable {
     {
         let mut list = Stories::new(self.allocator());
         for i in 0..self.table.len() {
-            list.push(self.table[i].story().try_clone()?)?;
+            add_copy(&mut list, self.table[i].story())?;
         }
         Ok(list)
     }
@@ -145,7 +145,7 @@ impl StoryTable {
         requires { at < length self.old }
         ensures { self.new ≡ remove self.old at }
     {
-        self.table.shift_remove_index(at);
+        let_go(self.table.shift_remove_index(at));
     }
 
     /// Takes out the story at `from`, and puts it back so that it stands at `to`.
@@ -174,7 +174,7 @@ impl StoryTable {
     {
         let key = Vec::from_slice(alloc, story.id.text().units())?;
         let entry = StoryEntry::new(alloc, story)?;
-        self.table.insert(key, entry)?;
+        let_go(self.table.insert(key, entry)?);
         Ok(())
     }
 
@@ -199,7 +199,7 @@ impl StoryTable {
         ensures err { OnErr result (self.new ≡ self.old) }
     {
         self.table.reserve(new.table.len())?;
-        self.table.shift_remove_index(at);
+        let_go(self.table.shift_remove_index(at));
         let was = self.table.len();
         self.table.append(&mut new.table).unwrap();
         move_last(&mut self.table, was, at);
@@ -263,6 +263,21 @@ impl StoryTable {
     }
 }
 
+// Puts a copy of a story at the end, whose storyID isn't there yet.
+fn push_copy(table: &mut StoryTable, alloc: Global, story: &Story) -> Result<(), NoMemory>
+    requires { AreDistinct (story_ids table.old ++ story.now.id ∷ []) }
+    ensures { OnOk result (table.new ≡ table.old ++ story.now ∷ []) }
+{
+    table.push(alloc, story.try_clone()?)
+}
+
+// Puts a copy of a story at the end.
+fn add_copy(list: &mut Stories, story: &Story) -> Result<(), NoMemory>
+    ensures { OnOk result (list.new ≡ list.old ++ story.now ∷ []) }
+{
+    list.push(story.try_clone()?)
+}
+
 /// The table of copies of a list's stories.
 pub fn table_of(alloc: Global, stories: &Stories) -> Result<StoryTable, NoMemory>
     requires { AreDistinct (story_ids stories.now) }
@@ -270,13 +285,68 @@ pub fn table_of(alloc: Global, stories: &Stories) -> Result<StoryTable, NoMemory
 {
     let mut table = StoryTable::new(alloc);
     for story in stories.as_slice() {
-        table.push(alloc, story.try_clone()?)?;
+        push_copy(&mut table, alloc, story)?;
     }
     Ok(table)
 }
 
+// So many entries are moved one by one; more of them at once.
+const FEW: usize = 8;
+
 // Moves the entries from `was` on to `at`, in their order.
 fn move_last(map: &mut IndexMap<Vec<u16>, StoryEntry>, was: usize, at: usize)
+    requires end { was ≤ index_map_len map.old }
+    requires within { at ≤ was }
+    ensures { map.new.entries ≡ put_in (take was map.old.entries) at (drop was map.old.entries) }
+{
+    if map.len() - was <= FEW {
+        move_each(map, was, at);
+    } else {
+        move_many(map, was, at);
+    }
+}
+
+// The same of many entries: at once, or one by one where there is no memory for that.
+fn move_many(map: &mut IndexMap<Vec<u16>, StoryEntry>, was: usize, at: usize)
+    requires end { was ≤ index_map_len map.old }
+    requires within { at ≤ was }
+    ensures { map.new.entries ≡ put_in (take was map.old.entries) at (drop was map.old.entries) }
+{
+    match move_at_once(map, was, at) {
+        Ok(()) => {}
+        Err(_) => move_each(map, was, at),
+    }
+}
+
+// The same by taking out what is to stand behind, and putting it back at the end, so that each entry is moved twice at most.
+// Where memory runs out, the map stays as it was.
+fn move_at_once(
+    map: &mut IndexMap<Vec<u16>, StoryEntry>,
+    was: usize,
+    at: usize,
+) -> Result<(), NoMemory>
+    requires end { was ≤ index_map_len map.old }
+    requires within { at ≤ was }
+    ensures ok { OnOk result (map.new.entries ≡ put_in (take was map.old.entries) at (drop was map.old.entries)) }
+    ensures err { OnErr result (map.new.entries ≡ map.old.entries) }
+{
+    map.reserve(map.len() - at)?;
+    let mut last = map.split_off(was)?;
+    match map.split_off(at) {
+        Ok(mut middle) => {
+            map.append(&mut last).unwrap();
+            map.append(&mut middle).unwrap();
+            Ok(())
+        }
+        Err(fault) => {
+            map.append(&mut last).unwrap();
+            Err(NoMemory::from(fault))
+        }
+    }
+}
+
+// The same one by one.
+fn move_each(map: &mut IndexMap<Vec<u16>, StoryEntry>, was: usize, at: usize)
     requires end { was ≤ index_map_len map.old }
     requires within { at ≤ was }
     ensures { map.new.entries ≡ put_in (take was map.old.entries) at (drop was map.old.entries) }

@@ -129,16 +129,13 @@ fn story(alloc: Global, word: &[u8]) -> Result<Option<Story>, NoMemory>
 fn push_stories(alloc: Global, words: &[&[u8]], stories: &mut Stories) -> Result<bool, NoMemory>
     ensures { IfOk result (λ whole. (if whole then Some stories.new else None) ≡ option_map (λ more. stories.old ++ more) (stories_of (words_in words.now))) }
 {
-    match words {
-        [] => Ok(true),
-        [word, more @ ..] => match story(alloc, word)? {
-            None => Ok(false),
-            Some(story) => {
-                stories.push(story)?;
-                push_stories(alloc, more, stories)
-            }
-        },
+    for word in words {
+        match story(alloc, word)? {
+            None => return Ok(false),
+            Some(story) => stories.push(story)?,
+        }
     }
+    Ok(true)
 }
 
 /// The stories that words are, if each is one.
@@ -175,10 +172,14 @@ fn has_id(story: &Story, id: &Id) -> bool
 fn is_among(id: &Id, stories: &[Story]) -> bool
     ensures { result ≡ stands_in_of id.now (story_ids stories.now) }
 {
-    match stories {
-        [] => false,
-        [story, more @ ..] => has_id(story, id) || is_among(id, more),
+    let mut rest = stories;
+    while let [story, more @ ..] = rest {
+        if has_id(story, id) {
+            return true;
+        }
+        rest = more;
     }
+    false
 }
 
 /// Whether a story has the ID of one of these.
@@ -192,10 +193,14 @@ fn repeats(story: &Story, stories: &[Story]) -> bool
 fn have_distinct_ids(stories: &[Story]) -> bool
     ensures { result ≡ are_distinct_of (story_ids stories.now) }
 {
-    match stories {
-        [] => true,
-        [story, more @ ..] => !repeats(story, more) && have_distinct_ids(more),
+    let mut rest = stories;
+    while let [story, more @ ..] = rest {
+        if repeats(story, more) {
+            return false;
+        }
+        rest = more;
     }
+    true
 }
 
 /// The stories that words are, if each is one and no two have one ID.

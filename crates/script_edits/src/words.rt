@@ -65,10 +65,14 @@ pub fn is_name(word: &[u8]) -> bool
 pub fn are_names(words: &[&[u8]]) -> bool
     ensures { result ≡ are_names_of (words_in words.now) }
 {
-    match words {
-        [] => true,
-        [w, more @ ..] => is_name(w) && are_names(more),
+    let mut rest = words;
+    while let [w, more @ ..] = rest {
+        if !is_name(w) {
+            return false;
+        }
+        rest = more;
     }
+    true
 }
 
 /// Whether a word is the first of two.
@@ -82,18 +86,26 @@ fn is_same(a: &[u8], b: &[u8]) -> bool
 fn stands_in(word: &[u8], words: &[&[u8]]) -> bool
     ensures { result ≡ stands_in_of word.now (words_in words.now) }
 {
-    match words {
-        [] => false,
-        [w, more @ ..] => is_same(word, w) || stands_in(word, more),
+    let mut rest = words;
+    while let [w, more @ ..] = rest {
+        if is_same(word, w) {
+            return true;
+        }
+        rest = more;
     }
+    false
 }
 
 /// Whether no word stands twice.
 pub fn are_distinct(words: &[&[u8]]) -> bool
     ensures { result ≡ are_distinct_of (words_in words.now) }
 {
-    match words {
-        [] => true,
-        [w, more @ ..] => !stands_in(w, more) && are_distinct(more),
+    let mut rest = words;
+    while let [w, more @ ..] = rest {
+        if stands_in(w, more) {
+            return false;
+        }
+        rest = more;
     }
+    true
 }

@@ -2,8 +2,8 @@
 use Rattle.std.proofs.Common.{◌≡◌, ℕ, zero, suc, ◌+◌, ◌<◌, ◌≤◌, ◌^◌, List, [], ◌∷◌, ◌++◌, length, take, get_or, slice_get, Bool, true, false, if◌then◌else◌, Some, None, refl, sym, ap, ◌∙◌, subst, arith}
 use Rattle.std.proofs.lemmas.List.{append_assoc, append-nil, length-append}
 use Rattle.std.specs.List.{AllByRecursion}
-use Rattle.world_events.specs.Events.{HasSoundEdit, event_of, events_of}
-use Rattle.world_events.specs.declared.world_event.WorldEvent.{WorldEvent as HeldEvent}
+use Rattle.world_scripts.specs.WorldEvents.{HasSoundEdit, event_of, events_of}
+use Rattle.world_scripts.specs.declared.world_event.WorldEvent.{WorldEvent as HeldEvent}
 use Rattle.world_laws.specs.Outcomes.{Outcome}
 use Rattle.world_laws.specs.World.{WorldEvent}
 use Rattle.world_scripts.specs.declared.making.Making.{Making}
@@ -128,11 +128,12 @@ pub record AreTold (told : Telling) (devices : ℕ) (all left : List WorldEvent)
   pub events : List WorldEvent
   pub outcomes : List Outcome
   pub tells : told devices events outcomes
+  pub count : length outcomes ≡ length events
   pub counts : CountsOf c outcomes
   pub whole : events ++ left ≡ all
 
 pub told-none : (told : Telling) (devices : ℕ) (all left : List WorldEvent) (c : Counts) → left ≡ all → c ≡ record { events = 0; accepted = 0; refused = 0; impossible = 0 } → told devices [] [] → AreTold told devices all left c
-told-none told devices all left c e z h = record { events = []; outcomes = []; tells = h; counts = subst (λ (x : Counts). CountsOf x []) (sym z) counts-none; whole = e }
+told-none told devices all left c e z h = record { events = []; outcomes = []; tells = h; count = refl; counts = subst (λ (x : Counts). CountsOf x []) (sym z) counts-none; whole = e }
 
 -- the first of those that were to come was played
 first-of : (left : List WorldEvent) (e : WorldEvent) (rest : List WorldEvent) → HandsNext left (Some e) rest → left ≡ e ∷ rest
@@ -154,6 +155,7 @@ told-next old new devices all left rest e c d hands h step =
       events = h.events ++ e ∷ [];
       outcomes = h.outcomes ++ played.0 ∷ [];
       tells = played.1;
+      count = length-append h.outcomes (played.0 ∷ []) ∙ (ap (λ (k : ℕ). k + 1) h.count ∙ sym (length-append h.events (e ∷ [])));
       counts = counts-next c d h.outcomes played.0 h.counts played.2;
       whole = append_assoc h.events (e ∷ []) rest ∙ (ap (λ (xs : List WorldEvent). h.events ++ xs) (sym (first-of left e rest hands)) ∙ h.whole);
     }
@@ -169,11 +171,14 @@ counted-next c d left rest o h l e =
     })
 
 pub told-all : (told : Telling) (devices : ℕ) (all left rest : List WorldEvent) (c : Counts) → HandsNext left None rest → AreTold told devices all left c → HasCounts told devices all c
-told-all told devices all left rest c hands h = record {
-  outcomes = h.outcomes;
-  tells = subst (λ (es : List WorldEvent). told devices es h.outcomes) (sym (append-nil h.events) ∙ (ap (λ (xs : List WorldEvent). h.events ++ xs) (sym (nothing-left left rest hands)) ∙ h.whole)) h.tells;
-  counts = h.counts;
-}
+told-all told devices all left rest c hands h =
+    let whole = sym (append-nil h.events) ∙ (ap (λ (xs : List WorldEvent). h.events ++ xs) (sym (nothing-left left rest hands)) ∙ h.whole) in
+    record {
+      outcomes = h.outcomes;
+      tells = subst (λ (es : List WorldEvent). told devices es h.outcomes) whole h.tells;
+      count = h.count ∙ ap length whole;
+      counts = h.counts;
+    }
 
 -- so many are made
 length-made : (n : ℕ) (m : Making) → length (made_from n m) ≡ n

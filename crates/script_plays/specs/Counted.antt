@@ -21,10 +21,11 @@ more_if false n = n
 abbrev pub counted : Counts → Outcome → Counts
 counted c o = record { events = c.events + 1; accepted = more_if (is_accepted o) c.accepted; refused = more_if (is_refused o) c.refused; impossible = more_if (is_impossible o) c.impossible }
 
--- Events were played, and what was told of them was counted.
+-- Events were played, one outcome was told of each, and what was told was counted.
 pub record HasCounts (told : Telling) (devices : ℕ) (events : List WorldEvent) (c : Counts) : Type 0 where
   pub outcomes : List Outcome
   pub tells : told devices events outcomes
+  pub count : length outcomes ≡ length events
   pub counts : CountsOf c outcomes
 
 -- so few were counted that one more has a number

@@ -10,7 +10,7 @@ use Rattle.world_scripts.specs.Made.{made_events}
 use Rattle.world_scripts.specs.Results.{event_lines, listing, summary}
 use Rattle.world_scripts.specs.Scripts.{script_of}
 use Rattle.world_scripts.specs.Scripts.Script.{RefusedAt}
-use Rattle.world_stage.specs.Stages.{ShowsStage}
+use Rattle.world_stage.specs.Stages.{ShowsStage, ShowsWorld}
 use Rattle.world_stage.specs.declared.play.Play.{Play}
 use Rattle.script_reader.specs.Reading.{IsScriptRead, Reads, ReadsAll}
 
@@ -22,8 +22,8 @@ Telling = ℕ → List WorldEvent → List Outcome → Type 0
 abbrev pub HasState : Option (Option Play) → List ℕ → Type 0
 HasState shown state = (w : World) → ShowsStage shown w → AreStateLines w state
 
--- The input was read to its end and is a script; its events were played, and what was told of each was written, then the state
--- lines of the world that is shown, and nothing else. The script's run is safe.
+-- The input was read to its end and is a script; its events were played, one outcome was told of each, and what was told was
+-- written, then the state lines of the world that is shown, and nothing else. A world is shown. The script's run is safe.
 pub record IsReplayed (told : Telling) (shown : Option (Option Play)) (left_before left_after written_before written_after : Option (List ℕ)) : Type 0 where
   pub devices : ℕ
   pub events : List WorldEvent
@@ -31,7 +31,9 @@ pub record IsReplayed (told : Telling) (shown : Option (Option Play)) (left_befo
   pub state : List ℕ
   pub script : IsScriptRead left_before left_after devices events
   pub tells : told devices events outcomes
+  pub count : length outcomes ≡ length events
   pub shows : HasState shown state
+  pub world : ShowsWorld shown
   pub writes : Appends written_before written_after (listing outcomes state)
   pub safe : IsSafe (opening devices) events
 
@@ -50,13 +52,15 @@ pub record IsScriptRefused (left_before left_after written_before written_after 
   pub refused : IsRefusedAt left_before left_after line
   pub writes : Appends written_before written_after (refused_line line)
 
--- The events of `make N` were played, and what was told of them was counted and written, then the state lines of the world that
--- is shown, and nothing else. Their run is safe.
+-- The events of `make N` were played, one outcome was told of each, and what was told was counted and written, then the state
+-- lines of the world that is shown, and nothing else. A world is shown. Their run is safe.
 pub record IsMade (told : Telling) (shown : Option (Option Play)) (n : ℕ) (written_before written_after : Option (List ℕ)) : Type 0 where
   pub outcomes : List Outcome
   pub state : List ℕ
   pub tells : told 2 (made_events n) outcomes
+  pub count : length outcomes ≡ length (made_events n)
   pub shows : HasState shown state
+  pub world : ShowsWorld shown
   pub writes : Appends written_before written_after (summary outcomes state)
   pub safe : IsSafe (opening 2) (made_events n)
 
@@ -88,12 +92,14 @@ pub record HasLines (told : Telling) (devices : ℕ) (events : List WorldEvent) 
   pub count : length outcomes ≡ length events
   pub lines : text ≡ event_lines 1 outcomes
 
--- the text is the listing of events that were told, with the state lines of the world that is shown
+-- the text is the listing of events of which one outcome each was told, with the state lines of the world that is shown
 pub record IsListingOf (told : Telling) (shown : Option (Option Play)) (devices : ℕ) (events : List WorldEvent) (text : List ℕ) : Type 0 where
   pub outcomes : List Outcome
   pub state : List ℕ
   pub tells : told devices events outcomes
+  pub count : length outcomes ≡ length events
   pub shows : HasState shown state
+  pub world : ShowsWorld shown
   pub text_is : text ≡ listing outcomes state
 
 -- the same of a summary
@@ -101,5 +107,7 @@ pub record IsSummaryOf (told : Telling) (shown : Option (Option Play)) (devices 
   pub outcomes : List Outcome
   pub state : List ℕ
   pub tells : told devices events outcomes
+  pub count : length outcomes ≡ length events
   pub shows : HasState shown state
+  pub world : ShowsWorld shown
   pub text_is : text ≡ summary outcomes state

@@ -3,10 +3,11 @@ ghost use Rattle.std.specs.Prelude.{◌≡◌, ◌≢◌, ◌≤◌, ◌++◌, �
 ghost use Rattle.mos_io.specs.Bytes.{Appends};
 ghost use Rattle.mos_io.specs.Counts.{Rose};
 ghost use Rattle.script_reader.specs.Reading.{IsBounded};
-ghost use Rattle.world_events.specs.Events.{events_of};
+ghost use Rattle.world_scripts.specs.WorldEvents.{events_of};
 ghost use Rattle.world_laws.specs.Outcomes.{Outcome as Told};
 ghost use Rattle.world_scripts.specs.Made.{made_events};
 ghost use Rattle.world_scripts.specs.Results.{summary as summary_of};
+ghost use Rattle.world_stage.specs.Stages.{ShowsWorld};
 ghost use Rattle.world_stage.specs.Worlds.{HaveSoundEdits};
 ghost use Rattle.script_plays.specs.Counted.{CountsOf};
 ghost use Rattle.script_plays.specs.Endings.{IsWriteEnding};
@@ -20,8 +21,8 @@ use mos_fields::NoMemory;
 use mos_io::{Sink, SinkFault, Source};
 use script_reader::{ScriptFault, read_script};
 use std::alloc::Global;
-use world_events::WorldEvent;
 use world_laws::prefix_consistency;
+use world_scripts::WorldEvent;
 use world_stage::Stage;
 
 /// How a run of a script ends.
@@ -54,7 +55,8 @@ fn write<K: Sink>(sink: &mut K, text: &[u8]) -> Result<(), Ending>
 /// Appends the state lines of the world that a stage shows.
 fn push_shown<T: Stage>(alloc: Global, out: &mut Vec<u8>, stage: &T) -> Result<(), NoMemory>
     requires { IsSome (T.shown stage.now) }
-    ensures { OnOk result ((state : List ℕ) × (out.new.items ≡ out.old.items ++ state) × HasState (T.shown stage.now) state) }
+    ensures state { OnOk result ((state : List ℕ) × (out.new.items ≡ out.old.items ++ state) × HasState (T.shown stage.now) state) }
+    ensures world { OnOk result (ShowsWorld (T.shown stage.now)) }
 {
     match stage.world() {
         Some(world) => push_state(alloc, out, world),

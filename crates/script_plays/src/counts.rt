@@ -1,11 +1,11 @@
 //! Counts of outcomes.
 ghost use Rattle.std.specs.Prelude.{◌≡◌, ◌<◌, ◌^◌, ◌-◌, bytes_eq, codes};
-ghost use Rattle.world_events.specs.Outcomes.{outcome_of};
+ghost use Rattle.world_scripts.specs.Outcomes.{outcome_of};
 ghost use Rattle.world_scripts.specs.Results.{is_accepted as is_accepted_of, is_impossible as is_impossible_of, is_refused as is_refused_of};
 ghost use Rattle.script_plays.specs.Counted.{counted, more_if as more_if_of};
 
 use mos_fields::Text;
-use world_events::Outcome;
+use world_scripts::Outcome;
 
 /// How many events were played, how many commands were answered `OK`, how many otherwise, and how many events weren't
 /// possible.

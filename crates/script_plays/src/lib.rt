@@ -10,6 +10,3 @@ mod state;
 
 pub use commands::{Ending, make, replay};
 pub use laws::honest_stages_write_the_run;
-
-#[cfg(test)]
-mod tests;

@@ -1,13 +1,13 @@
 //! The lines that are written.
 ghost use Rattle.std.specs.Prelude.{◌≡◌, ◌++◌, ◌∷◌, [], OnOk, IfOk, codes};
 ghost use Rattle.std.specs.Fmt.{decimal};
-ghost use Rattle.world_events.specs.Outcomes.{outcome_of};
+ghost use Rattle.world_scripts.specs.Outcomes.{outcome_of};
 ghost use Rattle.world_scripts.specs.Results.{counted as counted_of, event_line};
 ghost use Rattle.script_plays.specs.Played.{refused_line as refused_line_of};
 
 use mos_fields::NoMemory;
 use std::alloc::Global;
-use world_events::Outcome;
+use world_scripts::Outcome;
 
 /// Appends the decimal digits of a number.
 fn push_digits(alloc: Global, out: &mut Vec<u8>, number: u64) -> Result<(), NoMemory>

@@ -1,6 +1,6 @@
 //! Playing events on a stage.
 ghost use Rattle.std.specs.Prelude.{◌≡◌, ◌++◌, ◌∷◌, ◌<◌, ℕ, [], List, IsSome, OnOk, IfOk};
-ghost use Rattle.world_events.specs.Events.{HasSoundEdit, event_of, events_of};
+ghost use Rattle.world_scripts.specs.WorldEvents.{HasSoundEdit, event_of, events_of};
 ghost use Rattle.world_laws.specs.Outcomes.{Outcome as Told};
 ghost use Rattle.world_laws.specs.World.{WorldEvent as Event};
 ghost use Rattle.world_scripts.specs.Made.{made_events};
@@ -11,11 +11,9 @@ ghost use Rattle.script_plays.specs.Played.{HasLines};
 
 use crate::counts::Counts;
 use crate::lines::push_event_line;
-use mos_fields::NoMemory;
+use mos_fields::{NoMemory, let_go};
 use std::alloc::Global;
-use world_events::WorldEvent;
-use world_parts::let_go;
-use world_scripts::Generator;
+use world_scripts::{Generator, WorldEvent};
 use world_stage::Stage;
 
 /// Plays an event, and appends its line.

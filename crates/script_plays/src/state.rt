@@ -1,6 +1,7 @@
 //! The state lines of a world.
 ghost use Rattle.std.specs.Prelude.{◌≡◌, ◌++◌, ◌<◌, List, ℕ, OnOk, Some};
 ghost use Rattle.ncs_core.specs.State.{devices_of};
+ghost use Rattle.world_stage.specs.Stages.{ShowsWorld};
 ghost use Rattle.world_stage.specs.Worlds.{ncs_shown};
 ghost use Rattle.script_plays.specs.Played.{HasState};
 ghost use Rattle.script_plays.specs.States.{AreDevicesShown, IsDeviceShown};
@@ -52,7 +53,8 @@ fn push_shown_devices(
 /// Appends the state lines of a world. The only error is that memory runs out, or ran out for the world; some of the lines may
 /// be there then.
 pub fn push_state(alloc: Global, out: &mut Vec<u8>, world: &World) -> Result<(), NoMemory>
-    ensures { OnOk result ((state : List ℕ) × (out.new.items ≡ out.old.items ++ state) × HasState (Some world.now) state) }
+    ensures state { OnOk result ((state : List ℕ) × (out.new.items ≡ out.old.items ++ state) × HasState (Some world.now) state) }
+    ensures world { OnOk result (ShowsWorld (Some world.now)) }
 {
     match world.ncs() {
         Some(ncs) => {

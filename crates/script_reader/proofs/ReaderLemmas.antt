@@ -5,8 +5,8 @@ use Rattle.std.specs.List.{AllByRecursion}
 use Rattle.std.proofs.lemmas.Bool.Decides.{nat_tests}
 use Rattle.std.proofs.lemmas.List.{append_assoc, append-nil, length-append}
 use Rattle.world_laws.specs.World.{WorldEvent}
-use Rattle.world_events.specs.Events.{event_of, events_of}
-use Rattle.world_events.specs.declared.world_event.WorldEvent.{WorldEvent as HeldEvent}
+use Rattle.world_scripts.specs.WorldEvents.{event_of, events_of}
+use Rattle.world_scripts.specs.declared.world_event.WorldEvent.{WorldEvent as HeldEvent}
 use Rattle.world_scripts.specs.Events.{event_in, line_limit}
 use Rattle.world_scripts.specs.Scripts.{Plays, RefusedAt, Rest, StopsAt, devices_in, then_rest, with_event, rest_of, with_devices, parts_script, script_of}
 use Rattle.script_reader.specs.declared.fault.ScriptFault.{ScriptFault}

@@ -9,7 +9,7 @@ use Rattle.script_reader.specs.declared.fault.ScriptFault.TheVariants as faults
 use Rattle.script_reader.specs.declared.script.Script.{Script as Held}
 use Rattle.script_reader.specs.Reading.{IsBounded, Reads, ReadsAll, IsScriptRead, IsFault}
 use Rattle.script_reader.specs.Readers.{Reader, HasRead, Feeds, Ends, IsFed}
-use Rattle.world_events.specs.Events.{events_of}
+use Rattle.world_scripts.specs.WorldEvents.{events_of}
 
 pub rose_after : (a b c : ℕ) → a ≤ b → Rose b c → Rose a c
 rose_after a b c h (inl r) = inl (omega (arith, h, r))

@@ -2,8 +2,8 @@
 use Rattle.std.specs.Prelude.{◌≡◌, ℕ, ◌+◌, ◌≤◌, ◌<◌, false, ◌==◌, List, [], ◌∷◌, ◌++◌, length, take, drop, Option, Some, None, Result, Ok, Err}
 use Rattle.std.specs.Borrow.{Bor}
 use Rattle.std.specs.List.{AllByRecursion, slice_split}
-use Rattle.world_events.specs.Events.{HasSoundEdit, event_of, events_of}
-use Rattle.world_events.specs.declared.world_event.WorldEvent.{WorldEvent as HeldEvent}
+use Rattle.world_scripts.specs.WorldEvents.{HasSoundEdit, event_of, events_of}
+use Rattle.world_scripts.specs.declared.world_event.WorldEvent.{WorldEvent as HeldEvent}
 use Rattle.world_laws.specs.World.{WorldEvent}
 use Rattle.world_scripts.specs.Events.{event_in, line_limit}
 use Rattle.world_scripts.specs.Scripts.{Script, Plays, RefusedAt, Rest, StopsAt, device_limit, devices_in, lines_limit, then_rest, with_event, rest_of, with_devices, parts_script, script_of}

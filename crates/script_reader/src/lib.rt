@@ -12,7 +12,4 @@ mod script;
 
 pub use fault::ScriptFault;
 pub use read::read_script;
-pub use script::Script;
-
-#[cfg(test)]
-mod tests;
+pub use script::{Script, close_event, close_script};

@@ -1,12 +1,11 @@
 //! Lines of a script.
 ghost use Rattle.std.specs.Prelude.{◌≡◌, IfOk};
-ghost use Rattle.world_events.specs.Events.{HasSoundEdit, event_of as event_seen};
+ghost use Rattle.world_scripts.specs.WorldEvents.{HasSoundEdit, event_of as event_seen};
 ghost use Rattle.script_reader.specs.Readers.{IsCut, IsEnd, IsEventLine, IsFirstLine};
 
 use crate::fault::ScriptFault;
 use std::alloc::Global;
-use world_events::WorldEvent;
-use world_scripts::{read_devices, read_event};
+use world_scripts::{WorldEvent, read_devices, read_event};
 
 /// The most lines of a script.
 const LINES_LIMIT: u64 = 200_000;

@@ -1,7 +1,7 @@
 //! Reading a script from a source.
 ghost use Rattle.std.specs.Prelude.{◌≡◌, ◌≤◌, ◌<◌, ℕ, [], IfErr, IfOk, List, length, vec_len};
 ghost use Rattle.std.specs.List.{AllByRecursion};
-ghost use Rattle.world_events.specs.Events.{HasSoundEdit, events_of};
+ghost use Rattle.world_scripts.specs.WorldEvents.{HasSoundEdit, events_of};
 ghost use Rattle.world_scripts.specs.Scripts.{device_limit};
 ghost use Rattle.script_reader.specs.Reading.{IsBounded, IsFault, IsScriptRead, ReadsAll};
 ghost use Rattle.script_reader.specs.Readers.{HasRead, IsFed};

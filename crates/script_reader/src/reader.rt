@@ -1,7 +1,7 @@
 //! A reader of a script that comes in pieces.
 ghost use Rattle.std.specs.Prelude.{◌≡◌, ℕ, ◌+◌, ◌≤◌, None, [], ◌∷◌, ◌++◌, List, IfOk, IsSome};
 ghost use Rattle.std.specs.List.{AllByRecursion};
-ghost use Rattle.world_events.specs.Events.{HasSoundEdit, events_of};
+ghost use Rattle.world_scripts.specs.WorldEvents.{HasSoundEdit, events_of};
 ghost use Rattle.world_scripts.specs.Scripts.{device_limit};
 ghost use Rattle.script_reader.specs.Readers.{Ends, Feeds, HasNoEnd, HasRead, line_number};
 
@@ -10,7 +10,7 @@ use crate::lines::{cut_line, event_line, first_line};
 use crate::script::Script;
 use std::alloc::Global;
 use std::marker::Model;
-use world_events::WorldEvents;
+use world_scripts::WorldEvents;
 
 /// The most bytes of a line, without its line feed.
 const LINE_LIMIT: usize = 1000;
@@ -24,7 +24,7 @@ pub struct ScriptReader {
 }
 
 impl Model for ScriptReader {
-    ghost use Rattle.world_events.specs.Events.{events_of};
+    ghost use Rattle.world_scripts.specs.WorldEvents.{events_of};
     ghost use Rattle.script_reader.specs.Readers.{IsReader, Reader};
 
     ghost Value = { Reader };

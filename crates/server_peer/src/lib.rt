@@ -12,8 +12,6 @@ mod known;
 mod peer;
 mod sends;
 mod statuses;
-#[cfg(test)]
-mod tests;
 mod upper;
 mod view;
 mod views;

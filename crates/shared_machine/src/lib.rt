@@ -11,8 +11,6 @@ mod seat_view;
 mod slot_value;
 mod steps;
 mod table;
-#[cfg(test)]
-mod tests;
 mod ticket;
 mod turn;
 mod turn_state;

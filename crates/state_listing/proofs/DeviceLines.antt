@@ -9,7 +9,7 @@ use Rattle.mos_machines.specs.Server.{PeerState}
 use Rattle.mos_machines.specs.Device.{GateState}
 use Rattle.ncs_core.specs.Listed.{is_viewed, IsListOf}
 use Rattle.world_laws.specs.World.{Pairing}
-use Rattle.world_events.specs.Lines.{utf8}
+use Rattle.world_scripts.specs.Lines.{utf8}
 use Rattle.world_scripts.specs.Listing.{line, upper_words, view_words, connection_word, asked_words, phase_word, order_words, device_lines}
 use Rattle.state_listing.specs.Told.{AreDeviceLines}
 use Rattle.state_listing.proofs.ToldOrders.{views-listed}

@@ -5,7 +5,7 @@ ghost use Rattle.std.specs.List.{flat_map};
 ghost use Rattle.mos_fields.specs.Characters.{Text};
 ghost use Rattle.mos_machines.specs.Tables.{look, gate_of};
 ghost use Rattle.gateway_core.specs.Parts.{asking_of, phase_of};
-ghost use Rattle.world_events.specs.Lines.{utf8};
+ghost use Rattle.world_scripts.specs.Lines.{utf8};
 ghost use Rattle.world_scripts.specs.Listing.{line as line_of, asked_words, phase_word, connection_word, order_words};
 ghost use Rattle.state_listing.specs.Words.{behind};
 

@@ -3,7 +3,7 @@ ghost use Rattle.std.specs.Prelude.{◌≡◌, [], ◌∷◌, ◌++◌, ◌+◌,
 ghost use Rattle.std.specs.List.{flat_map};
 ghost use Rattle.std.specs.Option.{option_copied};
 ghost use Rattle.mos_edits.specs.Orders.{Item};
-ghost use Rattle.world_events.specs.Lines.{utf8};
+ghost use Rattle.world_scripts.specs.Lines.{utf8};
 ghost use Rattle.world_scripts.specs.Listing.{items_word, story_word, order_words, order_line};
 ghost use Rattle.state_listing.specs.Words.{behind};
 

@@ -6,7 +6,7 @@ ghost use Rattle.mos_fields.specs.Characters.{Text};
 ghost use Rattle.mos_machines.specs.Server.{View as ServerView};
 ghost use Rattle.ncs_core.specs.State.{ncs_of, devices_of};
 ghost use Rattle.server_peer.specs.Parts.{out_of, upper_of, view_of};
-ghost use Rattle.world_events.specs.Lines.{utf8};
+ghost use Rattle.world_scripts.specs.Lines.{utf8};
 ghost use Rattle.world_scripts.specs.Listing.{line as line_of, sent_words, upper_words, view_words};
 ghost use Rattle.state_listing.specs.Words.{behind};
 

@@ -1,7 +1,7 @@
 //! Words of a line.
 ghost use Rattle.std.specs.Prelude.{◌≡◌, [], ◌∷◌, ◌++◌, ◌+◌, OnOk, string_bytes};
 ghost use Rattle.std.specs.Fmt.{decimal};
-ghost use Rattle.world_events.specs.Lines.{utf8};
+ghost use Rattle.world_scripts.specs.Lines.{utf8};
 ghost use Rattle.world_scripts.specs.Listing.{connection_word};
 ghost use Rattle.state_listing.specs.Words.{behind};
 
@@ -20,13 +20,10 @@ pub fn push_word(line: &mut String, word: &str) -> Result<(), NoMemory>
 fn push_chars(line: &mut String, chars: &[char]) -> Result<(), NoMemory>
     ensures { OnOk result (string_bytes line.new ≡ string_bytes line.old ++ utf8 chars.now) }
 {
-    match chars {
-        [] => Ok(()),
-        [c, more @ ..] => {
-            line.push(*c)?;
-            push_chars(line, more)
-        }
+    for c in chars {
+        line.push(*c)?;
     }
+    Ok(())
 }
 
 /// Appends an identifier.

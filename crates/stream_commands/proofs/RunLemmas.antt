@@ -3,10 +3,10 @@ use Rattle.std.proofs.Common.{◌≡◌, ℕ, ◌<◌, ◌≤◌, ◌+◌, ◌^�
 use Rattle.std.specs.Prelude.{Option, Some, None, ⊤}
 use Rattle.std.proofs.lemmas.List.{append_assoc, append-nil, length-append}
 use Rattle.mos_fields.specs.Characters.{units_in}
-use Rattle.mos_io.specs.Bytes.{Appends, Falls, IsAtEnd, Takes}
+use Rattle.mos_io.specs.Bytes.{Appends, AppendsFront, Falls, IsAtEnd, Takes}
 use Rattle.mos_io.specs.Counts.{Rose, last_count}
 use Rattle.mos_lexer.specs.declared.kind.Kind.{Kind}
-use Rattle.mos_lexer.specs.Units.{Found, StreamReader, start_stream, stream_units, rejects_stream}
+use Rattle.mos_lexer.specs.Units.{Found, StreamReader, start_reader, start_stream, stream_units, rejects_stream}
 use Rattle.mos_reader.specs.declared.found.Found.{Found as Read}
 use Rattle.mos_reader.specs.declared.found.ReadFault.{ReadFault}
 use Rattle.mos_reader.specs.declared.found.ReadFault.TheVariants.{Rejected, NoMemory}
@@ -17,7 +17,7 @@ use Rattle.mos_decoder.proofs.TellingLemmas.{told_rejected}
 use Rattle.mos_decoder.proofs.PairLemmas.{few_units}
 use Rattle.stream_commands.specs.declared.status.Status.{Status}
 use Rattle.stream_commands.specs.declared.status.Status.TheVariants as statuses
-use Rattle.stream_commands.specs.Running.{IsBounded, Reads, ReadsAll, Telling, IsDone, IsRefused, IsShown, ShowsAt, HasHeard, HasHeardAll, HasRefused, TellsAt, HeardAt, Hears, TellsMore, WritesText, Refuses, Stops, EndsSo}
+use Rattle.stream_commands.specs.Running.{IsBounded, Reads, ReadsAll, Telling, IsDone, IsRefused, IsShown, ShowsAt, HasHeard, HasHeardAll, HasRefused, TellsAt, HeardAt, Hears, TellsMore, TellsPart, StopsPart, WritesText, Refuses, Stops, EndsSo, IsBegun, IsCutOff, AreFirst, IsNext, ToldBySome, IsPartWritten, IsBrokenOff}
 
 -- ---- what was written
 
@@ -97,7 +97,7 @@ module _ (told : Telling) (refusal : ℕ → Kind → List ℕ) where
 
   pub heard_all : (at_end : Bool) (bytes : List ℕ) (s t : ByteStream) (start a : Option (List ℕ))
       → ((found : List Found) → HasHanded s bytes found → TellsAt at_end bytes found (Ok None) t) → HasHeard told bytes s start a → HeardAt at_end told bytes t start a
-  heard_all false bytes s t start a tells h = record { found = h.found; text = h.text; handed = (tells h.found h.handed).0; tells = h.tells; writes = h.writes }
+  heard_all false bytes s t start a tells h = let r = tells h.found h.handed in record { heard = record { found = h.found; text = h.text; handed = r.0; tells = h.tells; writes = h.writes }; whole = r.1 }
   heard_all true bytes s t start a tells h = let r = tells h.found h.handed in record { heard = record { found = h.found; text = h.text; handed = r.0; tells = h.tells; writes = h.writes }; input = r.1 }
 
   -- ---- a rejection
@@ -194,6 +194,99 @@ module _ (told : Telling) (refusal : ℕ → Kind → List ℕ) (bytes : List �
 
   pub heard_write_fault : (i : ℕ) → i ≤ f → k ≡ statuses.WriteFault → Rose i g
   heard_write_fault i l e = rose_after i f g l (heard_as statuses.WriteFault e)
+
+-- ---- the source fails
+
+pub begun_nothing : IsBegun [] []
+unfolding units_in stream_units
+begun_nothing = (0, start_reader, refl)
+
+pub cut_off : (told : Telling) (bytes : List ℕ) (s : ByteStream) (x y z start b : Option (List ℕ)) → Reads x y bytes → z ≡ y → (h : HasHeard told bytes s start b) → IsBegun bytes h.found → IsCutOff told x z start b
+cut_off told bytes s x y z start b r e h w = record { bytes = bytes; found = h.found; text = h.text; reads = subst (λ o. Reads x o bytes) (sym e) r; whole = w; tells = h.tells; writes = h.writes }
+
+-- ---- the sink fails
+
+pub first_of : (bytes : List ℕ) (s : ByteStream) (found : List Found) → HasHanded s bytes found → AreFirst bytes found
+first_of bytes s found h = (s, h)
+
+module _ {T : Type 0} (told : T → Telling) (last : ℕ → ℕ → List ℕ) (refusal : ℕ → Kind → List ℕ) (bytes : List ℕ) (s : ByteStream) (start a b : Option (List ℕ)) where
+  -- in the text of a message
+  pub message_part : (old new : T) (at_end : Bool) (t : ByteStream) (f : Read) → ((found : List Found) → HasHanded s bytes found → TellsAt at_end bytes found (Ok (Some f)) t) → HasHeard (told old) bytes s start a
+      → TellsPart (told old) (told new) (found_of f) a b → IsPartWritten (ToldBySome told) (told new) last refusal bytes start b
+  message_part old new at_end t f tells h p =
+      let m = p h.found h.text h.tells in
+      record {
+        found = h.found;
+        text = h.text;
+        next = m.0;
+        first = (s, h.handed);
+        tells = (old, h.tells);
+        tells_next = inl (found_of f, (t, handed_told at_end bytes h.found f t (tells h.found h.handed)), m.1);
+        between = a;
+        writes = h.writes;
+        writes_part = m.2;
+      }
+
+  -- in the text of a rejection
+  pub refusal_part : (teller : T) (at_end : Bool) (t : ByteStream) (fault : ReadFault) → ((found : List Found) → HasHanded s bytes found → TellsAt at_end bytes found (Err fault) t) → HasHeard (told teller) bytes s start a
+      → StopsPart refusal fault a b → IsPartWritten (ToldBySome told) (told teller) last refusal bytes start b
+  refusal_part teller at_end t NoMemory tells h p = absurd p
+  refusal_part teller at_end t (Rejected place kind) tells h p =
+      let q = has_refused at_end bytes h.found place kind t (tells h.found h.handed) in
+      record {
+        found = h.found;
+        text = h.text;
+        next = refusal place kind;
+        first = (s, h.handed);
+        tells = (teller, h.tells);
+        tells_next = inr (inr (place, kind, q.0, refl));
+        between = a;
+        writes = h.writes;
+        writes_part = p;
+      }
+
+  -- in the text behind the last message
+  pub last_part : (teller : T) → (h : HasHeardAll (told teller) bytes s start a) → AppendsFront a b (last (length h.heard.found) (length (units_in bytes))) → IsPartWritten (ToldBySome told) (told teller) last refusal bytes start b
+  last_part teller h p = record {
+    found = h.heard.found;
+    text = h.heard.text;
+    next = last (length h.heard.found) (length (units_in bytes));
+    first = (s, h.heard.handed);
+    tells = (teller, h.heard.tells);
+    tells_next = inr (inl (h.input, refl));
+    between = a;
+    writes = h.heard.writes;
+    writes_part = p;
+  }
+
+-- what is told of the messages may be said in other words
+pub broken_on : (before told other : Telling) (last : ℕ → ℕ → List ℕ) (refusal : ℕ → Kind → List ℕ) (x y a b : Option (List ℕ)) → ((found : List Found) (text : List ℕ) → before found text → other found text)
+    → ((found : List Found) (text : List ℕ) → told found text → other found text) → IsBrokenOff before told last refusal x y a b → IsBrokenOff other other last refusal x y a b
+broken_on before told other last refusal x y a b f g h =
+    let w = h.written in
+    record {
+      bytes = h.bytes;
+      reads = h.reads;
+      written = record {
+        found = w.found;
+        text = w.text;
+        next = w.next;
+        first = w.first;
+        tells = f w.found w.text w.tells;
+        tells_next = next_on w.found w.text w.next w.tells_next;
+        between = w.between;
+        writes = w.writes;
+        writes_part = w.writes_part;
+      };
+    }
+  where
+    next_on : (found : List Found) (text next : List ℕ) → IsNext told last refusal h.bytes found text next → IsNext other last refusal h.bytes found text next
+    next_on found text next (inl (m, p, t)) = inl (m, p, g (found ++ m ∷ []) (text ++ next) t)
+    next_on found text next (inr n) = inr n
+
+-- the input was read to its end
+pub reads_whole : (x y : Option (List ℕ)) (bytes : List ℕ) → ReadsAll x y bytes → Reads x y bytes
+reads_whole x y bytes r = λ left e. let p = r left e in ([], sym p.0 ∙ sym (append-nil bytes), p.1)
 
 -- ---- the source
 

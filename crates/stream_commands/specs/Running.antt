@@ -1,10 +1,10 @@
 -- What a run reads and writes, where its source and its sink are observable.
 use Rattle.std.specs.Prelude.{◌≡◌, ℕ, ◌<◌, ◌^◌, Bool, true, false, List, [], ◌∷◌, ◌++◌, length, Option, Some, None, Result, Ok, Err, ⊤, ◌⊎◌}
 use Rattle.mos_fields.specs.Characters.{units_in}
-use Rattle.mos_io.specs.Bytes.{Appends}
+use Rattle.mos_io.specs.Bytes.{Appends, AppendsFront}
 use Rattle.mos_io.specs.Counts.{Rose}
 use Rattle.mos_lexer.specs.declared.kind.Kind.{Kind}
-use Rattle.mos_lexer.specs.Units.{Found, StreamReader, start_stream, stream_units, rejects_stream}
+use Rattle.mos_lexer.specs.Units.{Found, Reader, StreamReader, start_stream, stream_units, reads_stream, rejects_stream}
 use Rattle.mos_reader.specs.declared.found.Found.{Found as Read}
 use Rattle.mos_reader.specs.declared.found.ReadFault.{ReadFault}
 use Rattle.mos_reader.specs.declared.found.ReadFault.TheVariants.{Rejected, NoMemory}
@@ -60,6 +60,53 @@ pub record IsRefused (told : Telling) (refusal : ℕ → Kind → List ℕ) (lef
   pub tells : told found text
   pub writes : Appends written_before written_after (text ++ refusal place kind)
 
+-- these messages are whole in the bytes, and more of the stream may come behind them
+abbrev pub IsBegun : List ℕ → List Found → Type 0
+IsBegun bytes found = (base : ℕ) × (r : Reader) × (stream_units start_stream (units_in bytes) ≡ reads_stream (record { ready = found; base = base; reader = r }))
+
+-- The source failed behind these bytes. What is told of the messages that are whole in them was written, and nothing else.
+pub record IsCutOff (told : Telling) (left_before left_after written_before written_after : Option (List ℕ)) : Type 0 where
+  pub bytes : List ℕ
+  pub found : List Found
+  pub text : List ℕ
+  pub reads : Reads left_before left_after bytes
+  pub whole : IsBegun bytes found
+  pub tells : told found text
+  pub writes : Appends written_before written_after text
+
+-- some teller may have told this
+abbrev pub ToldBySome : {T : Type 0} → (T → Telling) → Telling
+ToldBySome {T} told found text = (t : T) × told t found text
+
+-- these are the first messages of the stream of the bytes
+abbrev pub AreFirst : List ℕ → List Found → Type 0
+AreFirst bytes found = (s : ByteStream) × HasHanded s bytes found
+
+-- What is told next, behind what was told of these messages: of one more message, behind the last one, or of a rejection.
+abbrev pub IsNext : Telling → (ℕ → ℕ → List ℕ) → (ℕ → Kind → List ℕ) → List ℕ → List Found → List ℕ → List ℕ → Type 0
+IsNext told last refusal bytes found text next =
+    ((f : Found) × AreFirst bytes (found ++ f ∷ []) × told (found ++ f ∷ []) (text ++ next))
+    ⊎ (((input_of bytes ≡ whole found) × (next ≡ last (length found) (length (units_in bytes))))
+    ⊎ ((place : ℕ) × (kind : Kind) × (input_of bytes ≡ refused found place kind) × (next ≡ refusal place kind)))
+
+-- A write failed. What is told of these messages was written, then perhaps a part of what is told next, and nothing behind it.
+pub record IsPartWritten (before told : Telling) (last : ℕ → ℕ → List ℕ) (refusal : ℕ → Kind → List ℕ) (bytes : List ℕ) (written_before written_after : Option (List ℕ)) : Type 0 where
+  pub found : List Found
+  pub text : List ℕ
+  pub next : List ℕ
+  pub first : AreFirst bytes found
+  pub tells : before found text
+  pub tells_next : IsNext told last refusal bytes found text next
+  pub between : Option (List ℕ)
+  pub writes : Appends written_before between text
+  pub writes_part : AppendsFront between written_after next
+
+-- The sink failed behind these bytes of the input.
+pub record IsBrokenOff (before told : Telling) (last : ℕ → ℕ → List ℕ) (refusal : ℕ → Kind → List ℕ) (left_before left_after written_before written_after : Option (List ℕ)) : Type 0 where
+  pub bytes : List ℕ
+  pub reads : Reads left_before left_after bytes
+  pub written : IsPartWritten before told last refusal bytes written_before written_after
+
 -- ---- on the way
 
 -- Of these bytes these messages were handed out, and what is told of them was written.
@@ -69,6 +116,11 @@ pub record HasHeard (told : Telling) (bytes : List ℕ) (s : ByteStream) (start 
   pub handed : HasHanded s bytes found
   pub tells : told found text
   pub writes : Appends start written text
+
+-- the same, and those are all messages that are whole in the bytes
+pub record HasHeardWhole (told : Telling) (bytes : List ℕ) (s : ByteStream) (start written : Option (List ℕ)) : Type 0 where
+  pub heard : HasHeard told bytes s start written
+  pub whole : IsBegun bytes heard.found
 
 -- the bytes are the whole input, and a stream of the messages that were handed out
 pub record HasHeardAll (told : Telling) (bytes : List ℕ) (s : ByteStream) (start written : Option (List ℕ)) : Type 0 where
@@ -97,7 +149,7 @@ TellsAt false bytes found r t = Tells bytes found r t
 TellsAt true bytes found r t = TellsEnd bytes found r t
 
 abbrev pub HeardAt : Bool → Telling → List ℕ → ByteStream → Option (List ℕ) → Option (List ℕ) → Type 0
-HeardAt false told bytes s start written = HasHeard told bytes s start written
+HeardAt false told bytes s start written = HasHeardWhole told bytes s start written
 HeardAt true told bytes s start written = HasHeardAll told bytes s start written
 
 -- what hearing the messages of bytes that were fed comes to
@@ -115,6 +167,16 @@ TellsMore old new f before after faults_before faults_after (Ok done) =
 TellsMore old new f before after faults_before faults_after (Err statuses.WriteFault) = Rose faults_before faults_after
 TellsMore old new f before after faults_before faults_after (Err statuses.NoMemory) = ⊤
 TellsMore old new f before after faults_before faults_after (Err k) = ⊥
+
+-- what telling one more message comes to where its text is written in part
+abbrev pub TellsPart : Telling → Telling → Found → Option (List ℕ) → Option (List ℕ) → Type 0
+TellsPart old new f before after =
+    (found : List Found) (text : List ℕ) → old found text → (more : List ℕ) × new (found ++ f ∷ []) (text ++ more) × AppendsFront before after more
+
+-- what is told of a rejection is written in part
+abbrev pub StopsPart : (ℕ → Kind → List ℕ) → ReadFault → Option (List ℕ) → Option (List ℕ) → Type 0
+StopsPart refusal (Rejected place k) before after = AppendsFront before after (refusal place k)
+StopsPart refusal NoMemory before after = ⊥
 
 -- what writing a text comes to
 abbrev pub WritesText : List ℕ → Option (List ℕ) → Option (List ℕ) → ℕ → ℕ → Result (Unit {0}) Status → Type 0

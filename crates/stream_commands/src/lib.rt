@@ -17,6 +17,3 @@ pub use listing::{Counter, Lister};
 pub use run::run_stream;
 pub use status::Status;
 pub use teller::Teller;
-
-#[cfg(test)]
-mod tests;

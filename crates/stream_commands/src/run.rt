@@ -1,11 +1,12 @@
 //! Reading a stream to its end.
-ghost use Rattle.std.specs.Prelude.{◌≡◌, ◌≢◌, ◌≤◌, ◌<◌, ◌+◌, ◌^◌, ◌++◌, ℕ, [], false, List, Option, IfOk, length, vec_len};
+ghost use Rattle.std.specs.Prelude.{◌≡◌, ◌≢◌, ◌≤◌, ◌<◌, ◌+◌, ◌^◌, ◌++◌, ℕ, [], false, Err, List, Option, IfOk, length, vec_len};
 ghost use Rattle.mos_fields.specs.Characters.{units_in};
+ghost use Rattle.mos_io.specs.Bytes.{AppendsFront};
 ghost use Rattle.mos_io.specs.Counts.{Rose};
 ghost use Rattle.mos_lexer.specs.Units.{Found as FoundOf};
 ghost use Rattle.mos_reader.specs.Answers.{fed};
 ghost use Rattle.mos_decoder.specs.Bytes.{HandsValue, HasHanded, IsReadValue, OnFound, found_of};
-ghost use Rattle.stream_commands.specs.Running.{EndsSo, HasHeard, Hears, IsBounded, IsDone, IsRefused, Refuses, Stops, TellsAt, TellsMore, WritesText};
+ghost use Rattle.stream_commands.specs.Running.{EndsSo, HasHeard, Hears, IsBounded, IsBrokenOff, IsCutOff, IsDone, IsPartWritten, IsRefused, Refuses, Stops, StopsPart, TellsAt, TellsMore, TellsPart, ToldBySome, WritesText};
 
 use crate::status::Status;
 use crate::teller::Teller;
@@ -30,6 +31,7 @@ fn room(alloc: Global) -> Result<Vec<u8>, NoMemory>
 fn write_text<K: Sink>(text: &[u8], sink: &mut K) -> Result<(), Status>
     ensures written { WritesText text.now (K.written sink.old) (K.written sink.new) (K.faults sink.old) (K.faults sink.new) result }
     ensures rises { K.faults sink.old ≤ K.faults sink.new }
+    ensures part { result ≡ Err Status.WriteFault → AppendsFront (K.written sink.old) (K.written sink.new) text.now }
 {
     if text.is_empty() {
         return Ok(());
@@ -51,6 +53,7 @@ fn hear_message<T: Teller, K: Sink>(
     requires { IsReadValue found.value }
     ensures written { TellsMore (T.told teller.old) (T.told teller.new) (found_of found) (K.written sink.old) (K.written sink.new) (K.faults sink.old) (K.faults sink.new) result }
     ensures rises { K.faults sink.old ≤ K.faults sink.new }
+    ensures part { result ≡ Err Status.WriteFault → TellsPart (T.told teller.old) (T.told teller.new) (found_of found) (K.written sink.old) (K.written sink.new) }
 {
     match teller.tell(alloc, found) {
         Ok(text) => write_text(text.as_slice(), sink),
@@ -68,6 +71,7 @@ fn refuse<T: Teller, K: Sink>(
 ) -> Status
     ensures written { Refuses (T.refusal teller.now place kind) (K.written sink.old) (K.written sink.new) (K.faults sink.old) (K.faults sink.new) result }
     ensures rises { K.faults sink.old ≤ K.faults sink.new }
+    ensures part { result ≡ Status.WriteFault → AppendsFront (K.written sink.old) (K.written sink.new) (T.refusal teller.now place kind) }
 {
     match teller.tell_refusal(alloc, place, kind) {
         Ok(text) => match write_text(text.as_slice(), sink) {
@@ -82,6 +86,7 @@ fn refuse<T: Teller, K: Sink>(
 fn stop<T: Teller, K: Sink>(alloc: Global, teller: &T, fault: ReadFault, sink: &mut K) -> Status
     ensures written { Stops (T.refusal teller.now) fault (K.written sink.old) (K.written sink.new) (K.faults sink.old) (K.faults sink.new) result }
     ensures rises { K.faults sink.old ≤ K.faults sink.new }
+    ensures part { result ≡ Status.WriteFault → StopsPart (T.refusal teller.now) fault (K.written sink.old) (K.written sink.new) }
 {
     match fault {
         ReadFault::Rejected(place, kind) => refuse(alloc, teller, place, kind, sink),
@@ -112,6 +117,7 @@ fn hear_all<T: Teller, K: Sink>(
 ) -> Result<(), Status>
     ensures heard { (bytes : List ℕ) (start : Option (List ℕ)) → HasHeard (T.told teller.old) bytes decoder.old start (K.written sink.old) → Hears at_end (T.told teller.new) (T.refusal teller.new) bytes result decoder.new start (K.written sink.new) (K.faults sink.old) (K.faults sink.new) }
     ensures rises { K.faults sink.old ≤ K.faults sink.new }
+    ensures part { (bytes : List ℕ) (start : Option (List ℕ)) → HasHeard (T.told teller.old) bytes decoder.old start (K.written sink.old) → result ≡ Err Status.WriteFault → IsPartWritten (ToldBySome T.told) (T.told teller.new) (T.last teller.new) (T.refusal teller.new) bytes start (K.written sink.new) }
 {
     'message: loop {
         match ask(decoder, at_end) {
@@ -136,6 +142,7 @@ fn hear_piece<T: Teller, K: Sink>(
     requires room { fed (decoder.old).stream + length bytes.now < 2 ^ 64 }
     ensures heard { (before : List ℕ) (start : Option (List ℕ)) → HasHeard (T.told teller.old) before decoder.old start (K.written sink.old) → Hears false (T.told teller.new) (T.refusal teller.new) (before ++ bytes.now) result decoder.new start (K.written sink.new) (K.faults sink.old) (K.faults sink.new) }
     ensures rises { K.faults sink.old ≤ K.faults sink.new }
+    ensures part { (before : List ℕ) (start : Option (List ℕ)) → HasHeard (T.told teller.old) before decoder.old start (K.written sink.old) → result ≡ Err Status.WriteFault → IsPartWritten (ToldBySome T.told) (T.told teller.new) (T.last teller.new) (T.refusal teller.new) (before ++ bytes.now) start (K.written sink.new) }
 {
     match decoder.feed(bytes) {
         Err(_) => Err(Status::NoMemory),
@@ -152,6 +159,7 @@ fn write_last<T: Teller, K: Sink>(
 ) -> Result<(), Status>
     ensures written { (bytes : List ℕ) (found : List FoundOf) → HasHanded decoder.now bytes found → WritesText (T.last teller.now (length found) (length (units_in bytes))) (K.written sink.old) (K.written sink.new) (K.faults sink.old) (K.faults sink.new) result }
     ensures rises { K.faults sink.old ≤ K.faults sink.new }
+    ensures part { result ≡ Err Status.WriteFault → (bytes : List ℕ) (found : List FoundOf) → HasHanded decoder.now bytes found → AppendsFront (K.written sink.old) (K.written sink.new) (T.last teller.now (length found) (length (units_in bytes))) }
 {
     match teller.tell_last(alloc, decoder.count(), decoder.place()) {
         Ok(text) => write_text(text.as_slice(), sink),
@@ -167,6 +175,7 @@ fn end<T: Teller, K: Sink>(
     sink: &mut K,
 ) -> Status
     ensures ended { (bytes : List ℕ) (start : Option (List ℕ)) → HasHeard (T.told teller.old) bytes decoder.old start (K.written sink.old) → EndsSo (T.told teller.new) (T.last teller.new) (T.refusal teller.new) bytes result start (K.written sink.new) (K.faults sink.old) (K.faults sink.new) }
+    ensures part { (bytes : List ℕ) (start : Option (List ℕ)) → HasHeard (T.told teller.old) bytes decoder.old start (K.written sink.old) → result ≡ Status.WriteFault → IsPartWritten (ToldBySome T.told) (T.told teller.new) (T.last teller.new) (T.refusal teller.new) bytes start (K.written sink.new) }
 {
     match hear_all(alloc, decoder, true, teller, sink) {
         Err(status) => status,
@@ -195,6 +204,8 @@ fn read_all<T: Teller, S: Source, K: Sink>(
     ensures usage { result ≢ Status.Usage }
     ensures read_fault { result ≡ Status.ReadFault → Rose (S.faults source.old) (S.faults source.new) }
     ensures write_fault { result ≡ Status.WriteFault → Rose (K.faults sink.old) (K.faults sink.new) }
+    ensures cut_off { result ≡ Status.ReadFault → IsCutOff (T.told teller.new) (S.left source.old) (S.left source.new) (K.written sink.old) (K.written sink.new) }
+    ensures broken_off { result ≡ Status.WriteFault → IsBrokenOff (ToldBySome T.told) (T.told teller.new) (T.last teller.new) (T.refusal teller.new) (S.left source.old) (S.left source.new) (K.written sink.old) (K.written sink.new) }
 {
     'piece: loop {
         match source.read(piece) {
@@ -215,8 +226,10 @@ fn read_all<T: Teller, S: Source, K: Sink>(
 ///
 /// `Done` comes where the input was read to its end and is a stream of messages with nothing but white space and U+FEFF
 /// behind the last one; `Refused` where the bytes read show a rejection, or the input ends inside a message;
-/// `ReadFault` and `WriteFault` only where the source's or the sink's count of faults rose; `Usage` never. The source
-/// tells a bound below 2^64 on the bytes that it may still give; the teller has told nothing yet.
+/// `ReadFault` and `WriteFault` only where the source's or the sink's count of faults rose; `Usage` never. With `ReadFault`
+/// what is told of the messages that are whole was written, and nothing behind it; with `WriteFault` what was told before, then
+/// perhaps a part of the next text, and nothing behind it. The source tells a bound below 2^64 on the bytes that it may
+/// still give; the teller has told nothing yet.
 pub fn run_stream<T: Teller, S: Source, K: Sink>(
     alloc: Global,
     teller: &mut T,
@@ -230,6 +243,8 @@ pub fn run_stream<T: Teller, S: Source, K: Sink>(
     ensures usage { result ≢ Status.Usage }
     ensures read_fault { result ≡ Status.ReadFault → Rose (S.faults source.old) (S.faults source.new) }
     ensures write_fault { result ≡ Status.WriteFault → Rose (K.faults sink.old) (K.faults sink.new) }
+    ensures cut_off { result ≡ Status.ReadFault → IsCutOff (T.told teller.new) (S.left source.old) (S.left source.new) (K.written sink.old) (K.written sink.new) }
+    ensures broken_off { result ≡ Status.WriteFault → IsBrokenOff (ToldBySome T.told) (T.told teller.new) (T.last teller.new) (T.refusal teller.new) (S.left source.old) (S.left source.new) (K.written sink.old) (K.written sink.new) }
 {
     match room(alloc) {
         Err(_) => Status::NoMemory,

@@ -38,13 +38,10 @@ fn printed(c: char) -> char
 fn push_chars(out: &mut String, chars: &[char]) -> Result<(), NoMemory>
     ensures { OnOk result (string_bytes out.new ≡ string_bytes out.old ++ printed_text chars.now) }
 {
-    match chars {
-        [] => Ok(()),
-        [c, more @ ..] => {
-            out.push(printed(*c))?;
-            push_chars(out, more)
-        }
+    for c in chars {
+        out.push(printed(*c))?;
     }
+    Ok(())
 }
 
 /// The characters of a text.
@@ -91,19 +88,15 @@ fn is_further(c: char) -> bool
 fn push_name(out: &mut String, chars: &[char]) -> Result<(), NoMemory>
     ensures { OnOk result (string_bytes out.new ≡ string_bytes out.old ++ name_in_front chars.now) }
 {
-    match chars {
-        [] => Ok(()),
-        [first, more @ ..] => {
-            let c = *first;
-            if is_further(c) {
-                out.push(c)?;
-                push_name(out, more)?;
-                Ok(())
-            } else {
-                Ok(())
-            }
+    let mut rest = chars;
+    while let [c, more @ ..] = rest {
+        if !is_further(*c) {
+            return Ok(());
         }
+        out.push(*c)?;
+        rest = more;
     }
+    Ok(())
 }
 
 /// Appends the name of a raw element.

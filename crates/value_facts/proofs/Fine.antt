@@ -16,7 +16,7 @@ use Rattle.mos_grammar.specs.Records.{column_of}
 use Rattle.mos_values.specs.Parts.{must, maybe, maybe_as, must_raw, maybe_raw, raws, joined, element_with}
 use Rattle.encoding_laws.specs.Allowed.{HasAllowedTexts}
 use Rattle.encoding_laws.specs.Fitting.{inside_columns, TextFits, table_inside, TextsFit}
-use Rattle.encoding_laws.proofs.Texts.{Level, level_none, level_leaf, level_raw, level_record, level_both, splits, level_element}
+use Rattle.encoding_laws.proofs.LevelTexts.{Level, level_none, level_leaf, level_raw, level_record, level_both, splits, level_element}
 use Rattle.value_facts.specs.FitValues.{IsText, IsTextIfAny, IsWrittenIfAny, AreTexts}
 
 pub texts_joined : {x : List Event} → Level x → (t : Table) (ts : List Table) (y : List Event) → TextsFit (t ∷ ts) x → TextsFit (t ∷ ts) y → TextsFit (t ∷ ts) (x ++ y)

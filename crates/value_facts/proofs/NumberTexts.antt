@@ -12,7 +12,7 @@ use Rattle.mos_fields.specs.declared.form.Form.{Form}
 use Rattle.mos_fields.specs.declared.form.Form.TheVariants as forms
 use Rattle.mos_fields.proofs.FaultLemmas.{allowed_without_fault, neither}
 use Rattle.mos_fields.proofs.NumberLemmas.{samples_value, samples_found, samples_lost, rev_value, rev_found, rev_lost}
-use Rattle.field_laws.proofs.NumberLaws.{samples_back, revs_back}
+use Rattle.encoding_laws.proofs.NumberLaws.{samples_back, revs_back}
 
 -- without a fault there is a canonical text
 not_none : (form : Form) (x : Text) → fault_if (is_none (reads form [] x)) bad_number ≡ None → reads form [] x ≡ None → ⊥

@@ -18,8 +18,8 @@ use Rattle.mos_fields.proofs.FaultLemmas.{allowed_without_fault, neither}
 use Rattle.mos_values.specs.declared.mos_ack.AckStatus.{AckStatus}
 use Rattle.mos_values.specs.declared.mos_ack.AckStatus.TheVariants.{Ack, Nack}
 use Rattle.mos_values.specs.Views.{ack_status_text, answer_text}
-use Rattle.field_laws.proofs.NumberLaws.{is_solid, digit_solid, solid_trimmed}
-use Rattle.field_laws.proofs.TimeLaws.{time_all, times_back}
+use Rattle.encoding_laws.proofs.NumberLaws.{is_solid, digit_solid, solid_trimmed}
+use Rattle.encoding_laws.proofs.TimeLaws.{time_all, times_back}
 use Rattle.value_facts.specs.FitValues.{IsText, IsWrittenIfAny}
 
 pub air_text_is : (a : Air) → IsText forms.Air (air_text a)

@@ -20,8 +20,8 @@ use Rattle.mos_values.specs.declared.mos_ack.AckStatus.{AckStatus}
 use Rattle.mos_values.specs.declared.mos_ack.AckStatus.TheVariants.{Ack, Nack}
 use Rattle.mos_values.specs.declared.profile.DeviceType.{DeviceType}
 use Rattle.mos_values.specs.declared.profile.DeviceType.TheVariants.{Ncs, Mos}
-use Rattle.field_laws.proofs.NumberLaws.{is_solid, solid_trimmed, digit_solid}
-use Rattle.field_laws.proofs.TimeLaws.{time_all, times_back}
+use Rattle.encoding_laws.proofs.NumberLaws.{is_solid, solid_trimmed, digit_solid}
+use Rattle.encoding_laws.proofs.TimeLaws.{time_all, times_back}
 use Rattle.value_laws.specs.Ranges.{IsSmall}
 use Rattle.value_laws.proofs.FieldParts.{listed_as, a_text}
 

@@ -1,12 +1,19 @@
-mod FlatEvents
+mod AcceptedRaws
+mod ActionValues
+mod EncodingLemmas
+mod Examples
 mod FieldParts
 mod FieldValues
+mod FittingRaws
+mod FlatEvents
+mod FlatParts
+mod MachineValues
+mod MessageValues
 mod OrderValues
 mod OtherValues
-mod MachineValues
-pub mod RawNames
-mod ActionValues
-mod MessageValues
 mod RangeLemmas
-mod Examples
-mod EncodingLemmas
+pub mod RawNames
+mod RawTokens
+mod ReadMessages
+mod SoundValues
+mod TableFacts

@@ -4,4 +4,5 @@
 
 pub mod encodings;
 pub mod envelopes;
+pub mod laws;
 pub mod ranges;

@@ -7,7 +7,7 @@ use Rattle.mos_machines.specs.Messages.{Message, Packet, is_link}
 use Rattle.mos_machines.specs.Server.{Upper, PeerState, upper_link, peer_next, is_open}
 use Rattle.mos_machines.specs.Server.Upper.{Down, Greeting, Open}
 use Rattle.mos_machines.specs.Device.{GateState, gate_left, gate_read, gate_dropped, gate_next, gate_got}
-use Rattle.mos_machines.specs.Steps.{ServerState, ServerEvent, DeviceEvent, StepAnswer, started, server_step, server_told, with_peer, unless_stale, gate_says, gate_sent, gate_stepped}
+use Rattle.mos_machines.specs.Steps.{ServerState, ServerEvent, DeviceEvent, StepAnswer, started, server_step, server_told, with_peer, unless_stale, gate_says, gate_sent, gate_stepped, asked_on}
 use Rattle.mos_machines.specs.Steps.StepAnswer.{Stepped}
 use Rattle.mos_machines.specs.Messages.Step.{Taken}
 use Rattle.mos_machines.specs.Steps.ServerEvent.{UpperCut, UpperAnswer, DeviceDropped, NextSend}
@@ -185,11 +185,15 @@ read-call l (Some c) e = go (front (l.connections c).to_device)
 
 ask-call : (l : Pairing) (o : Option ℕ) → l.gate.link ≡ o → GoesOn l (asks_if l o).0 (on_link (λ b. NextAsk b own_time) o)
 ask-call l None e = refl
-ask-call l (Some c) e = asks-gate l c (gate_next own_time l.gate) ∙ sent-gate (gate_next own_time l.gate) ∙ current (is_link l.gate.link c) l.gate (gate_sent (gate_next own_time l.gate)) (own-link l.gate.link c e)
+ask-call l (Some c) e = asks-gate l c (gate_next own_time l.gate) ∙ sent-gate (gate_next own_time l.gate) ∙ asked-here (is_link l.gate.link c) (gate_next own_time l.gate) (own-link l.gate.link c e)
   where
     sent-gate : (x : GateState × Option Message) → x.0 ≡ (gate_sent x).1
     sent-gate (g, None) = refl
     sent-gate (g, Some m) = refl
+
+    asked-here : (b : Bool) (x : GateState × Option Message) → b ≡ true → (gate_sent x).1 ≡ (gate_sent (asked_on b l.gate x)).1
+    asked-here true x h = refl
+    asked-here false x h = absurd (cc)
 
 got-call : (l : Pairing) (o : Option ℕ) → l.gate.link ≡ o → GoesOn l (gets_if l o).0 (to_device_on (λ b p. ReadAnswer b p.message) l o)
 got-call l None e = refl

@@ -5,15 +5,12 @@ ghost use Rattle.world_messages.specs.Messages.{EncodesIfSound, IsEncodingOf, Is
 
 use crate::names::{device_name, server_name};
 use encoding_laws::laws::{allowed_texts_are_encoded, values_are_encoded, values_are_messages};
-use mos_fields::{Id, NoMemory};
+use mos_fields::{Id, NoMemory, let_go};
 use mos_messages::encode;
 use mos_values::{Envelope, Message};
 use std::alloc::Global;
 use value_facts::envelopes::envelope_fits;
 use value_laws::ranges::message_is_in_range;
-
-// Lets a value go. It is dropped by a function of its type, and not variant by variant on each path.
-fn let_go<T: Drop>(_value: T) {}
 
 /// The names of both ends.
 fn names(alloc: Global, d: u32) -> Result<(Id, Id), NoMemory>

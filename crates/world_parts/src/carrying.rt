@@ -2,8 +2,8 @@
 ghost use Rattle.std.specs.Prelude.{IfOk};
 ghost use Rattle.world_parts.specs.Carrying.{IsReadable, IsReadAs, IsWrittenAs};
 
-use crate::packet::{EncodedPacket, Packet, let_go};
-use mos_fields::NoMemory;
+use crate::packet::{EncodedPacket, Packet};
+use mos_fields::{NoMemory, let_go};
 use std::alloc::Global;
 use world_messages::{decode_message, encode_message};
 

@@ -2,7 +2,7 @@
 ghost use Rattle.std.specs.Prelude.{◌≡◌, ◌+◌, ◌≤◌, ◌<◌, ℕ, suc, length, slice_get, MatchOption, IfSome, IfNone, OnOk, OnErr, IfOk, Some, None, true, false, Bool, ◌&&◌, if◌then◌else◌, nat_le, [], ◌∷◌, List};
 ghost use Rattle.mos_edits.specs.Texts.{set_number};
 ghost use Rattle.mos_machines.specs.Messages.{Packet as Said};
-ghost use Rattle.world_events.specs.Events.{direction_of};
+ghost use Rattle.world_scripts.specs.WorldEvents.{direction_of};
 ghost use Rattle.world_laws.specs.World.{Connection as Line, Opener as Openers, front, rest, lose as lose_of, new_connection, write_device, write_server};
 ghost use Rattle.world_parts.specs.Carrying.{IsReadable};
 ghost use Rattle.world_parts.specs.Places.{IsPlace, IsLost, with_written};
@@ -10,11 +10,11 @@ ghost use Rattle.world_parts.specs.Matching.{AreReadable, Carries, CarriesEncode
 
 use crate::carrying::{decode_packet, encode_packet};
 use crate::connection::{Connection, Opener};
-use crate::packet::{EncodedPacket, Packet, let_go};
+use crate::packet::{EncodedPacket, Packet};
 use crate::queue::{take_first, write_last};
-use mos_fields::NoMemory;
+use mos_fields::{NoMemory, let_go};
 use std::alloc::Global;
-use world_events::Direction;
+use world_scripts::Direction;
 
 /// The place of connection `c` where it is one of device `d`.
 fn place_of(connections: &[Connection], d: u32, c: u64) -> Option<usize>

@@ -21,6 +21,6 @@ pub use connections::{
 };
 pub use gateway::Gateway;
 pub use hearing::answer_tag;
-pub use packet::{EncodedPacket, Packet, PacketTag, let_go, told};
+pub use packet::{EncodedPacket, Packet, PacketTag, told};
 pub use sending::packet_tag;
 pub use times::own_time;

@@ -1,14 +1,14 @@
 //! Messages on their way, with what no byte of them carries.
 ghost use Rattle.std.specs.Prelude.{◌≡◌, IfOk};
 ghost use Rattle.mos_machines.specs.Messages.{Packet as Said};
-ghost use Rattle.world_events.specs.Outcomes.{outcome_of};
+ghost use Rattle.world_scripts.specs.Outcomes.{outcome_of};
 ghost use Rattle.world_laws.specs.Outcomes.{Outcome as Outcomes, written};
 ghost use Rattle.world_parts.specs.Matching.{Carries};
 ghost use Rattle.world_parts.specs.Told.{told as told_of, told_list as told_list_of, told_message as told_message_of};
 
 use mos_fields::{Id, NoMemory};
 use mos_values::{Message, RoAck};
-use world_events::Outcome;
+use world_scripts::Outcome;
 
 /// What a message is about, which none of its bytes carries.
 #[derive(Drop)]
@@ -36,9 +36,6 @@ pub struct EncodedPacket {
     pub bytes: Vec<u8>,
     pub tag: PacketTag,
 }
-
-// Lets a value go. What is let go here is dropped by a function of its type, and not variant by variant on each path.
-pub fn let_go<T: Drop>(_value: T) {}
 
 /// What is told of a roAck.
 fn told_ack(ack: &RoAck) -> Result<Outcome, NoMemory>

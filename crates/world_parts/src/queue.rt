@@ -2,8 +2,8 @@
 ghost use Rattle.std.specs.Prelude.{◌≡◌, [], ◌∷◌, IfNone, IfSome, OnOk};
 ghost use Rattle.world_parts.specs.Places.{with_written};
 
-use crate::packet::{EncodedPacket, let_go};
-use mos_fields::NoMemory;
+use crate::packet::EncodedPacket;
+use mos_fields::{NoMemory, let_go};
 use std::collections::VecDeque;
 
 /// Takes the first packet.

@@ -4,8 +4,8 @@ use Rattle.std.proofs.Math.Nat.{mod-add-mod}
 use Rattle.mos_values.specs.Distinct.{AreDistinct, story_ids}
 use Rattle.mos_values.specs.StoryValue.{Story}
 use Rattle.mos_values.specs.declared.edit.Edit.{Edit}
-use Rattle.world_events.specs.declared.world_event.WorldEvent.{WorldEvent as Held}
-use Rattle.world_events.specs.Events.{event_of as seen}
+use Rattle.world_scripts.specs.declared.world_event.WorldEvent.{WorldEvent as Held}
+use Rattle.world_scripts.specs.WorldEvents.{event_of as seen}
 use Rattle.world_scripts.specs.declared.making.Making.{Making}
 use Rattle.world_scripts.specs.Made.{made_from, made_event, made_after, commands, HandsNext}
 

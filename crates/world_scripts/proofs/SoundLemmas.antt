@@ -14,7 +14,7 @@ use Rattle.mos_values.specs.Parts.{must, maybe, maybe_as, maybe_raw, raws}
 use Rattle.mos_values.specs.Sound.{IsSound, IsSoundItem, AreSoundItems, IsSoundStory, AreSoundStories, IsSoundBody, IsSoundPatch, IsSoundAction}
 use Rattle.mos_values.specs.Views.{header_events, patch_events, item_events, story_head_events}
 use Rattle.world_laws.specs.World.{WorldEvent}
-use Rattle.world_events.specs.Events.{HasSoundEdit}
+use Rattle.world_scripts.specs.WorldEvents.{HasSoundEdit}
 use Rattle.script_edits.specs.Words.{Word, words_of, both, all_three, at_least_one, are_names, target_of, name_of, number_of}
 use Rattle.script_edits.specs.Stories.{item_named, story_named, order_named, slug_patch, items_of, story_with, story_parts, story_of, stories_of, if_distinct}
 use Rattle.script_edits.specs.Edits.{some_ids, some_items, some_stories, two_names, target_and, name_and, acts, edit_form, edit_with, edit_of, edit_verb_of}
@@ -25,8 +25,8 @@ use Rattle.mos_fields.specs.declared.air.Air.{Air}
 use Rattle.mos_fields.specs.declared.air.Air.TheVariants.{Ready, NotReady}
 use Rattle.world_laws.specs.World.{PairingEvent, Direction}
 use Rattle.world_laws.specs.World.WorldEvent.{Command, AtDevice, Lose, Restart}
-use Rattle.world_events.specs.declared.world_event.WorldEvent.{WorldEvent as Held}
-use Rattle.world_events.specs.Events.{event_of as seen}
+use Rattle.world_scripts.specs.declared.world_event.WorldEvent.{WorldEvent as Held}
+use Rattle.world_scripts.specs.WorldEvents.{event_of as seen}
 use Rattle.world_scripts.specs.declared.verb.Verb.{Verb}
 use Rattle.world_scripts.specs.declared.verb.Verb.TheVariants as rows
 use Rattle.world_scripts.specs.declared.made_verb.MadeVerb.{MadeVerb}

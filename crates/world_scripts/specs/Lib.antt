@@ -1,7 +1,10 @@
 pub mod Events
-pub mod Scripts
+pub mod Lines
+pub mod Listing
 pub mod Made
+pub mod Outcomes
 pub mod Printed
 pub mod PrintedCommands
-pub mod Listing
 pub mod Results
+pub mod Scripts
+pub mod WorldEvents

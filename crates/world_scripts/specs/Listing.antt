@@ -8,7 +8,7 @@ use Rattle.mos_edits.specs.Entries.{Entry, entry_count, order_now, is_before, in
 use Rattle.mos_machines.specs.Server.{ServerOut, Upper, View}
 use Rattle.mos_machines.specs.Device.{GateOut, Phase}
 use Rattle.world_laws.specs.World.{World, Pairing}
-use Rattle.world_events.specs.Lines.{utf8, spaced}
+use Rattle.world_scripts.specs.Lines.{utf8, spaced}
 
 -- ---- lines of words
 

@@ -2,7 +2,7 @@
 use Rattle.std.specs.Prelude.{ℕ, zero, suc, ◌+◌, List, [], ◌∷◌, ◌++◌, Bool, true, false, not, if◌then◌else◌, length, codes, bytes_eq}
 use Rattle.std.specs.Fmt.{decimal}
 use Rattle.world_laws.specs.Outcomes.{Outcome}
-use Rattle.world_events.specs.Lines.{outcome_text, spaced}
+use Rattle.world_scripts.specs.Lines.{outcome_text, spaced}
 
 -- the line of event `n`, which counts from 1
 abbrev pub event_line : ℕ → Outcome → List ℕ

@@ -1,17 +1,17 @@
 //! Lines of a script.
 ghost use Rattle.std.specs.Prelude.{◌≡◌, IfOk, IfSome, Some, None};
 ghost use Rattle.std.specs.Option.{option_map};
-ghost use Rattle.world_events.specs.Events.{HasSoundEdit, direction_of as direction_seen, event_of as event_seen, pairing_event_of as pairing_event_seen};
+ghost use Rattle.world_scripts.specs.WorldEvents.{HasSoundEdit, direction_of as direction_seen, event_of as event_seen, pairing_event_of as pairing_event_seen};
 ghost use Rattle.world_scripts.specs.declared.verb.Verb.TheVariants.{At, Accept, Admit, Lose, Want, Decks, Fault, Restart, Cmd};
 ghost use Rattle.world_scripts.specs.Events.{at_number as at_number_of, direction_of, event_form, event_in, event_of, event_with, kept_of};
 ghost use Rattle.world_scripts.specs.Scripts.{allowed_devices, devices_in};
 ghost use Rattle.script_edits.specs.Words.{number_of, words_in};
 
 use crate::verb::{DeviceVerb, Verb};
+use crate::{Direction, PairingEvent, WorldEvent};
 use mos_fields::NoMemory;
 use script_edits::{edit, name, number, parts};
 use std::alloc::Global;
-use world_events::{Direction, PairingEvent, WorldEvent};
 
 /// The most bytes of a line, without its line feed.
 const LINE_LIMIT: usize = 1000;

@@ -1,18 +1,18 @@
 //! Made events.
 ghost use Rattle.std.specs.Prelude.{◌≡◌, ◌+◌, ◌<◌, ◌≤◌, ◌^◌, IfOk, IfSome, MatchResult, OnErr};
 ghost use Rattle.std.specs.Option.{option_map};
-ghost use Rattle.world_events.specs.Events.{HasSoundEdit, event_of as event_seen, pairing_event_of as pairing_event_seen};
+ghost use Rattle.world_scripts.specs.WorldEvents.{HasSoundEdit, event_of as event_seen, pairing_event_of as pairing_event_seen};
 ghost use Rattle.world_laws.specs.World.WorldEvent.{AtDevice};
 ghost use Rattle.world_scripts.specs.Made.{HandsNext, after_number, commands as commands_of, drawn_device, event_from, made_events, made_row, rare_event};
 
 use crate::made_edits::{create, drop_story, insert, move_story, ready, swap};
 use crate::made_verb::{MadeVerb, verb_at};
 use crate::making::{Lasts, Making, next_number, opened};
+use crate::{PairingEvent, WorldEvent};
 use mos_fields::NoMemory;
 use mos_values::Edit;
 use std::alloc::Global;
 use std::marker::Model;
-use world_events::{PairingEvent, WorldEvent};
 
 /// The events of `make N`, one after another. They are played on a world of two devices. Contracts see those that are still
 /// to come.

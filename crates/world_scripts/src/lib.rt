@@ -16,5 +16,17 @@ pub use events::{read_devices, read_event};
 pub use generator::Generator;
 pub use laws::{commands_are_read_as_written, lines_are_read_as_written};
 
-#[cfg(test)]
-mod tests;
+mod direction;
+mod outcome;
+mod pairing_event;
+mod texts;
+mod world_event;
+
+pub use direction::Direction;
+use mos_values::Sequence;
+pub use outcome::Outcome;
+pub use pairing_event::PairingEvent;
+pub use world_event::WorldEvent;
+
+/// Events, in order.
+pub type WorldEvents = Sequence<WorldEvent>;

@@ -1,11 +1,11 @@
 //! The first words of events.
 ghost use Rattle.std.specs.Prelude.{◌≡◌};
 ghost use Rattle.mos_fields.specs.Values.{word_of};
-ghost use Rattle.world_events.specs.Events.{pairing_event_of};
+ghost use Rattle.world_scripts.specs.WorldEvents.{pairing_event_of};
 ghost use Rattle.world_scripts.specs.Events.{plain_event, plain_word, verb_of, verb_word, verbs};
 
+use crate::PairingEvent;
 use script_edits::is_word;
-use world_events::PairingEvent;
 
 /// The first word of an event that needs the number of a device alone.
 #[derive(Clone, Copy, Debug, PartialEq, Eq)]

@@ -7,13 +7,13 @@ use Rattle.mos_machines.specs.Server.{PeerState, Verdict, peer_given, refusal_st
 use Rattle.mos_machines.specs.Server.Verdict.{Takes, Fails, Refuses}
 use Rattle.mos_machines.specs.Steps.{ServerState, ServerEvent, ServerStep, StepAnswer, server_told}
 use Rattle.rundown_log.specs.declared.keeper.KeepFault.TheVariants as keeping
-use Rattle.rundown_log.specs.Memory.{MemoryKeeper, IsAppended, doubtful_if, fails_next, kept_if}
+use Rattle.rundown_log.specs.Memory.{Doubt, MemoryKeeper, IsAppended, doubt_of, fails_next, kept as kept_of, kept_with}
 use Rattle.ncs_core.specs.Commands.{HasCause, LeavesAfter, LeavesKeeper, fault_status}
 use Rattle.ncs_core.specs.State.{NcsTables, devices_of, ncs_of}
 use Rattle.ncs_core.specs.declared.fault.CommandFault.{CommandFault}
 use Rattle.ncs_core.specs.declared.fault.CommandFault.TheVariants.{Stopped, Missing, AlreadyThere, Full, StoreFault, NoMemory}
-use Rattle.world_events.specs.Outcomes.{outcome_of}
-use Rattle.world_events.specs.declared.outcome.Outcome.{Outcome}
+use Rattle.world_scripts.specs.Outcomes.{outcome_of}
+use Rattle.world_scripts.specs.declared.outcome.Outcome.{Outcome}
 use Rattle.world_laws.specs.Outcomes.{Outcome as Told, outcome_of as outcome_told}
 use Rattle.world_laws.specs.World.{Effect, World, commanded}
 use Rattle.world_stage.specs.Commanding.{IsCommanded, IsCommandedIn, IsToldFor, IsToldOf}
@@ -30,6 +30,14 @@ failing-is k b f h = sym (no-fault k k.failing f refl) ∙ h
 
 verdict-is : (a b c d : Bool) (why because : Option Refusal) → a ≡ b → c ≡ d → why ≡ because → verdict a c why ≡ verdict b d because
 verdict-is a b c d why because h f g = λ i. verdict (h i) (f i) (g i)
+
+-- the keeper keeps the journal, whatever is in doubt
+doubted-kept : (o : Option Entry) (j : List Entry) → kept_with (doubt_of false o) j ≡ j
+doubted-kept None j = refl
+doubted-kept (Some e) j = refl
+
+kept-journal : (k : MemoryKeeper) (w : World) → MatchesKeeper k w → kept_of k ≡ w.journal
+kept-journal k w m = ap (λ (o : Option Doubt). kept_with o k.certain) m.doubtful ∙ (doubted-kept w.uncertain k.certain ∙ m.certain)
 
 -- ---- the step of the server
 
@@ -60,7 +68,7 @@ by-verdict n m e o w v h i =
 -- ---- taken
 
 pub commanded-okay : (n m : NcsTables MemoryKeeper) (e : Entry) (o : Outcome) → n.server.stopped ≡ false → acceptance n.server.journal e ≡ None → ServerStep (ncs_of n) (ServerEvent.Command e) (StepAnswer.Told Status.Okay) (ncs_of m) → IsAppended n.keeper e (Ok tt) m.keeper
-    → devices_of m ≡ devices_of n → m.kept ≡ Some m.keeper.kept → outcome_of o ≡ Told.Command (status_text Status.Okay) → IsCommanded n m e o
+    → devices_of m ≡ devices_of n → m.kept ≡ Some (kept_of m.keeper) → outcome_of o ≡ Told.Command (status_text Status.Okay) → IsCommanded n m e o
 commanded-okay n m e o running accepted step kept devices keeps told = record { devices = devices; within = within }
   where
     after : ncs_of m ≡ record { journal = n.server.journal ++ e ∷ []; stopped = n.server.stopped; faults = m.server.faults; peers = λ d. peer_given e (entry_count n.server.journal e.ro) ((ncs_of n).peers d) }
@@ -70,19 +78,21 @@ commanded-okay n m e o running accepted step kept devices keeps told = record { 
     within w s =
         let ok : w.failing ≡ false = sym s.keeper.failing ∙ failing-is n.keeper false s.keeper.fails kept.1 in
         let v = verdict-is w.stopped false w.failing false (acceptance w.journal e) None (sym s.stopped ∙ running) ok (sym (ap (λ (j : List Entry). acceptance j e) s.journal) ∙ accepted) in
-        let entries : m.keeper.kept ≡ w.journal ++ e ∷ [] = ap (λ (k : MemoryKeeper). k.kept) kept.0 ∙ ap (λ (j : List Entry). j ++ e ∷ []) s.keeper.kept in
+        let entries : m.keeper.certain ≡ w.journal ++ e ∷ [] = ap (λ (k : MemoryKeeper). k.certain) kept.0 ∙ ap (λ (j : List Entry). j ++ e ∷ []) (kept-journal n.keeper w s.keeper) in
+        let none : w.uncertain ≡ None = s.running (sym s.stopped ∙ running) in
         by-verdict n m e o w Takes v (record {
           server = record {
             journal = ap (λ (t : ServerState). t.journal) after ∙ ap (λ (j : List Entry). j ++ e ∷ []) s.journal;
             stopped = ap (λ (t : ServerState). t.stopped) after ∙ s.stopped;
             keeper = record {
-              kept = entries;
-              doubtful = ap (λ (k : MemoryKeeper). k.doubtful) kept.0 ∙ s.keeper.doubtful;
+              certain = entries;
+              doubtful = ap (λ (k : MemoryKeeper). k.doubtful) kept.0 ∙ sym (ap (doubt_of false) none);
               failing = ap (λ (k : MemoryKeeper). k.failing) kept.0 ∙ s.keeper.failing;
               fails = ap (λ (k : MemoryKeeper). k.fails) kept.0 ∙ s.keeper.fails;
               stands = ap (λ (k : MemoryKeeper). k.stands) kept.0 ∙ s.keeper.stands;
             };
-            kept = keeps ∙ ap Some entries;
+            kept = keeps ∙ ap Some (ap (λ (k : MemoryKeeper). kept_of k) kept.0 ∙ ap (λ (j : List Entry). j ++ e ∷ []) (kept-journal n.keeper w s.keeper));
+            running = s.running;
           };
           peers = λ d b p. ap (λ (t : ServerState). t.peers d) after ∙ (ap (λ (x : PeerState). peer_given e (entry_count n.server.journal e.ro) x) p ∙ ap (λ (j : List Entry). peer_given e (entry_count j e.ro) (w.pairings b).peer) s.journal);
           outcome = told;
@@ -92,7 +102,7 @@ commanded-okay n m e o running accepted step kept devices keeps told = record { 
 
 -- a refusal leaves the server
 refused-so : (n m : NcsTables MemoryKeeper) (e : Entry) (o : Outcome) (status : Status) → ((w : World) → MatchesServer n w → verdict w.stopped w.failing (acceptance w.journal e) ≡ Refuses status) → ncs_of m ≡ ncs_of n → m.keeper ≡ n.keeper
-    → devices_of m ≡ devices_of n → m.kept ≡ Some m.keeper.kept → outcome_of o ≡ Told.Command (status_text status) → IsCommanded n m e o
+    → devices_of m ≡ devices_of n → m.kept ≡ Some (kept_of m.keeper) → outcome_of o ≡ Told.Command (status_text status) → IsCommanded n m e o
 refused-so n m e o status v same keeper devices keeps told = record {
   devices = devices;
   within = λ w s. by-verdict n m e o w (Refuses status) (v w s) (record {
@@ -100,7 +110,8 @@ refused-so n m e o status v same keeper devices keeps told = record {
       journal = ap (λ (t : ServerState). t.journal) same ∙ s.journal;
       stopped = ap (λ (t : ServerState). t.stopped) same ∙ s.stopped;
       keeper = subst (λ (k : MemoryKeeper). MatchesKeeper k w) (sym keeper) s.keeper;
-      kept = keeps ∙ ap Some (ap (λ (k : MemoryKeeper). k.kept) keeper ∙ s.keeper.kept);
+      kept = keeps ∙ ap Some (ap (λ (k : MemoryKeeper). kept_of k) keeper ∙ kept-journal n.keeper w s.keeper);
+      running = s.running;
     };
     peers = λ d b p. ap (λ (t : ServerState). t.peers d) same ∙ p;
     outcome = told;
@@ -114,33 +125,35 @@ stopped-verdict : (n : NcsTables MemoryKeeper) (e : Entry) (w : World) → n.ser
 stopped-verdict n e w n0 s = verdict-is w.stopped true w.failing w.failing (acceptance w.journal e) (acceptance w.journal e) (sym s.stopped ∙ n0) refl refl
 
 failed-so : (n m : NcsTables MemoryKeeper) (e : Entry) (o : Outcome) → n.server.stopped ≡ false → acceptance n.server.journal e ≡ None → ncs_of m ≡ record (ncs_of n) { stopped = true; faults = m.server.faults } → IsAppended n.keeper e (Err keeping.Failed) m.keeper
-    → devices_of m ≡ devices_of n → m.kept ≡ Some m.keeper.kept → outcome_of o ≡ Told.Command (status_text Status.StoreFault) → IsCommanded n m e o
+    → devices_of m ≡ devices_of n → m.kept ≡ Some (kept_of m.keeper) → outcome_of o ≡ Told.Command (status_text Status.StoreFault) → IsCommanded n m e o
 failed-so n m e o running accepted after kept devices keeps told = record { devices = devices; within = within }
   where
     within : (w : World) → MatchesServer n w → IsCommandedIn n m e o w
     within w s =
         let fails : w.failing ≡ true = sym s.keeper.failing ∙ failing-is n.keeper true s.keeper.fails kept.1 in
         let v = verdict-is w.stopped false w.failing true (acceptance w.journal e) None (sym s.stopped ∙ running) fails (sym (ap (λ (j : List Entry). acceptance j e) s.journal) ∙ accepted) in
-        let entries : m.keeper.kept ≡ w.journal = ap (λ (k : MemoryKeeper). k.kept) kept.0 ∙ (ap (λ (b : Bool). kept_if b n.keeper.kept e) s.keeper.stands ∙ s.keeper.kept) in
+        let entries : m.keeper.certain ≡ w.journal = ap (λ (k : MemoryKeeper). k.certain) kept.0 ∙ kept-journal n.keeper w s.keeper in
+        let doubt : m.keeper.doubtful ≡ doubt_of false (Some e) = ap (λ (k : MemoryKeeper). k.doubtful) kept.0 ∙ ap (λ (b : Bool). doubt_of b (Some e)) s.keeper.stands in
         by-verdict n m e o w Fails v (record {
           server = record {
             journal = ap (λ (t : ServerState). t.journal) after ∙ s.journal;
             stopped = ap (λ (t : ServerState). t.stopped) after;
             keeper = record {
-              kept = entries;
-              doubtful = ap (λ (k : MemoryKeeper). k.doubtful) kept.0 ∙ ap (λ (b : Bool). doubtful_if b e) s.keeper.stands;
+              certain = entries;
+              doubtful = doubt;
               failing = ap (λ (k : MemoryKeeper). k.failing) kept.0;
               fails = ap (λ (k : MemoryKeeper). k.fails) kept.0 ∙ s.keeper.fails;
               stands = ap (λ (k : MemoryKeeper). k.stands) kept.0 ∙ s.keeper.stands;
             };
-            kept = keeps ∙ ap Some entries;
+            kept = keeps ∙ ap Some (ap (λ (o : Option Doubt). kept_with o m.keeper.certain) doubt ∙ entries);
+            running = λ h. absurd (cc);
           };
           peers = λ d b p. ap (λ (t : ServerState). t.peers d) after ∙ p;
           outcome = told;
         })
 
 pub commanded-fault : (n m : NcsTables MemoryKeeper) (e : Entry) (f : CommandFault) (o : Outcome) → HasCause (ncs_of n) e m.server.faults (Err f) → LeavesAfter (ncs_of n) (ncs_of m) n.kept m.kept e (Err f) → LeavesKeeper IsAppended n.keeper m.keeper e (Err f)
-    → devices_of m ≡ devices_of n → m.kept ≡ Some m.keeper.kept → IsToldOf (fault_status f) (outcome_of o) → IsCommanded n m e o
+    → devices_of m ≡ devices_of n → m.kept ≡ Some (kept_of m.keeper) → IsToldOf (fault_status f) (outcome_of o) → IsCommanded n m e o
 commanded-fault n m e Stopped o cause leaves keeper devices keeps told = refused-so n m e o Status.Stopped (λ w s. stopped-verdict n e w cause s) leaves.0 keeper devices keeps told
 commanded-fault n m e (Missing id) o cause leaves keeper devices keeps told = refused-so n m e o (Status.Faulty (ActFault.Missing id)) (λ w s. running-verdict n e (Refusal.Faulty (ActFault.Missing id)) w cause.0 cause.1 s) leaves.0 keeper devices keeps told
 commanded-fault n m e (AlreadyThere id) o cause leaves keeper devices keeps told = refused-so n m e o (Status.Faulty (ActFault.AlreadyThere id)) (λ w s. running-verdict n e (Refusal.Faulty (ActFault.AlreadyThere id)) w cause.0 cause.1 s) leaves.0 keeper devices keeps told

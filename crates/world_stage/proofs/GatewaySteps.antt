@@ -15,8 +15,8 @@ use Rattle.machine_answers.specs.declared.answers.Heard.TheVariants as heards
 use Rattle.machine_answers.specs.declared.answers.Step.TheVariants as held_steps
 use Rattle.machine_answers.specs.declared.answers.Sent.TheVariants as sents
 use Rattle.machine_answers.specs.declared.answers.Tag.{Tag as SentTag}
-use Rattle.world_events.specs.Outcomes.{outcome_of}
-use Rattle.world_events.specs.declared.outcome.Outcome.{Outcome}
+use Rattle.world_scripts.specs.Outcomes.{outcome_of}
+use Rattle.world_scripts.specs.declared.outcome.Outcome.{Outcome}
 use Rattle.world_laws.specs.Outcomes.{Outcome as Told, outcome_of as outcome_told}
 use Rattle.world_laws.specs.World.{Connection as Line, Effect, Opener, Pairing, accepts_it, applied_got, applied_read, asks_on, front, gets_from, gets_front, impossible, reads_from, reads_front, rest, write_server}
 use Rattle.world_laws.specs.World.Effect.{Performed, Stepped, Wrote}

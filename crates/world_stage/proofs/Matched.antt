@@ -6,8 +6,8 @@ use Rattle.std.proofs.Math.ListN.{set}
 use Rattle.mos_edits.specs.Entries.{Entry}
 use Rattle.rundown_log.specs.Memory.{MemoryKeeper}
 use Rattle.ncs_core.specs.State.{NcsTables, ncs_of, devices_of}
-use Rattle.world_events.specs.Outcomes.{outcome_of}
-use Rattle.world_events.specs.declared.outcome.Outcome.{Outcome}
+use Rattle.world_scripts.specs.Outcomes.{outcome_of}
+use Rattle.world_scripts.specs.declared.outcome.Outcome.{Outcome}
 use Rattle.world_laws.specs.Outcomes.{outcome_of as outcome_told, outcome, Outcome as Told}
 use Rattle.world_laws.specs.Reached.{HasLinks}
 use Rattle.world_laws.specs.World.{Effect, Pairing, PairingEvent, World, WorldEvent, at_device, has_device, opens_one, pairing_step, world_step}
@@ -127,8 +127,9 @@ parts-at t u w d e o (l, f) m s p = record {
     server = record {
       journal = s.server.journal ∙ m.rest.server.journal;
       stopped = s.server.stopped ∙ m.rest.server.stopped;
-      keeper = let k = keeper-kept t.ncs.keeper w u.ncs.keeper s.server.rest.keeper m.rest.server.keeper in record { kept = k.kept; doubtful = k.doubtful; failing = k.failing; fails = k.fails; stands = k.stands };
+      keeper = let k = keeper-kept t.ncs.keeper w u.ncs.keeper s.server.rest.keeper m.rest.server.keeper in record { certain = k.certain; doubtful = k.doubtful; failing = k.failing; fails = k.fails; stands = k.stands };
       kept = s.server.rest.kept ∙ m.rest.server.kept;
+      running = m.rest.server.running;
     };
     count = s.count ∙ ap (λ (n : ℕ). n + opens_one e) m.rest.count;
     devices = s.server.rest.devices ∙ m.rest.devices;

@@ -5,7 +5,7 @@ use Rattle.mos_machines.specs.Messages.{Message, is_link}
 use Rattle.mos_machines.specs.Messages.Step.{Taken}
 use Rattle.mos_machines.specs.Server.{upper_link, peer_answered, peer_cut, peer_hear, peer_linked, peer_next}
 use Rattle.mos_machines.specs.Device.{GateState, Decks, gate_dropped, gate_got, gate_left, gate_next, gate_read}
-use Rattle.mos_machines.specs.Steps.{ServerState, ServerEvent, DeviceEvent, device_step, gate_says, gate_sent, gate_stepped, server_says, server_sent, server_step, server_stepped, unless_stale, with_peer}
+use Rattle.mos_machines.specs.Steps.{ServerState, ServerEvent, DeviceEvent, asked_on, device_step, gate_says, gate_sent, gate_stepped, server_says, server_sent, server_step, server_stepped, unless_stale, with_peer}
 use Rattle.mos_machines.specs.Steps.StepAnswer.{Stepped}
 
 pub own-link : (o : Option ℕ) (c : ℕ) → o ≡ Some c → is_link o c ≡ true
@@ -23,7 +23,7 @@ pub dropped-own : (g : GateState) (c : ℕ) → g.link ≡ Some c → device_ste
 dropped-own g c e = ap (λ (b : Bool). unless_stale b g (Stepped Taken, gate_dropped g)) (own-link g.link c e)
 
 pub ask-own : (g : GateState) (c : ℕ) (now : MosTime) → g.link ≡ Some c → device_step g (DeviceEvent.NextAsk c now) ≡ gate_sent (gate_next now g)
-ask-own g c now e = ap (λ (b : Bool). unless_stale b g (gate_sent (gate_next now g))) (own-link g.link c e)
+ask-own g c now e = ap (λ (b : Bool). gate_sent (asked_on b g (gate_next now g))) (own-link g.link c e)
 
 pub got-own : (g : GateState) (c : ℕ) (m : Message) → g.link ≡ Some c → device_step g (DeviceEvent.ReadAnswer c m) ≡ gate_stepped (gate_got g m)
 got-own g c m e = ap (λ (b : Bool). unless_stale b g (gate_stepped (gate_got g m))) (own-link g.link c e)

@@ -5,10 +5,10 @@ use Rattle.mos_edits.specs.Texts.{set_number}
 use Rattle.mos_machines.specs.Server.{Verdict, no_peer, verdict}
 use Rattle.mos_machines.specs.Server.Verdict.{Takes, Fails, Refuses}
 use Rattle.mos_machines.specs.Steps.{ServerState}
-use Rattle.rundown_log.specs.Memory.{MemoryKeeper, settled, settled_by}
+use Rattle.rundown_log.specs.Memory.{Doubt, MemoryKeeper, doubt_of, kept_with, kept as kept_of, settled, settled_doubt}
 use Rattle.ncs_core.specs.State.{NcsTables, devices_of, ncs_of}
-use Rattle.world_events.specs.Outcomes.{outcome_of}
-use Rattle.world_events.specs.declared.outcome.Outcome.{Outcome}
+use Rattle.world_scripts.specs.Outcomes.{outcome_of}
+use Rattle.world_scripts.specs.declared.outcome.Outcome.{Outcome}
 use Rattle.world_laws.specs.Outcomes.{Outcome as Told, outcome_of as outcome_told}
 use Rattle.world_laws.specs.World.{Connection as Line, Direction, Effect, Pairing, World, commanded, kept_journal, lose, no_connection, no_pairing, opening, world_step}
 use Rattle.world_laws.specs.World.Effect.{Impossible, Performed}
@@ -117,7 +117,7 @@ lost-so t u w c way k o m there n g count lost e =
     let server = subst (λ (q : NcsTables MemoryKeeper). MatchesServer q w) (sym n) m.parts.rest.server in
     let parts : MatchesParts u x.0 = record {
       rest = record {
-        server = record { journal = server.journal; stopped = server.stopped; keeper = record { kept = server.keeper.kept; doubtful = server.keeper.doubtful; failing = server.keeper.failing; fails = server.keeper.fails; stands = server.keeper.stands }; kept = server.kept };
+        server = record { journal = server.journal; stopped = server.stopped; keeper = record { certain = server.keeper.certain; doubtful = server.keeper.doubtful; failing = server.keeper.failing; fails = server.keeper.fails; stands = server.keeper.stands }; kept = server.kept; running = server.running };
         count = count ∙ m.parts.rest.count;
         devices = ap devices_of n ∙ m.parts.rest.devices;
         gateways = ap length g ∙ m.parts.rest.gateways;
@@ -154,13 +154,14 @@ failing-so t u w o m n g c e = (
           journal = ap (λ (q : NcsTables MemoryKeeper). q.server.journal) n ∙ m.parts.rest.server.journal;
           stopped = ap (λ (q : NcsTables MemoryKeeper). q.server.stopped) n ∙ m.parts.rest.server.stopped;
           keeper = record {
-            kept = ap (λ (q : NcsTables MemoryKeeper). q.keeper.kept) n ∙ m.parts.rest.server.keeper.kept;
+            certain = ap (λ (q : NcsTables MemoryKeeper). q.keeper.certain) n ∙ m.parts.rest.server.keeper.certain;
             doubtful = ap (λ (q : NcsTables MemoryKeeper). q.keeper.doubtful) n ∙ m.parts.rest.server.keeper.doubtful;
             failing = ap (λ (q : NcsTables MemoryKeeper). q.keeper.failing) n;
             fails = ap (λ (q : NcsTables MemoryKeeper). q.keeper.fails) n ∙ m.parts.rest.server.keeper.fails;
             stands = ap (λ (q : NcsTables MemoryKeeper). q.keeper.stands) n ∙ m.parts.rest.server.keeper.stands;
           };
           kept = ap (λ (q : NcsTables MemoryKeeper). q.kept) n ∙ m.parts.rest.server.kept;
+          running = m.parts.rest.server.running;
         };
         count = ap length c ∙ m.parts.rest.count;
         devices = ap devices_of n ∙ m.parts.rest.devices;
@@ -181,7 +182,7 @@ failing-so t u w o m n g c e = (
 
 -- ---- restarts
 
-settled-is : (b : Bool) (o : Option Entry) (j : List Entry) → settled_by b o j ≡ kept_journal j b o
+settled-is : (b : Bool) (o : Option Entry) (j : List Entry) → kept_with (settled_doubt b (doubt_of false o)) j ≡ kept_journal j b o
 settled-is true (Some e) j = refl
 settled-is true None j = refl
 settled-is false (Some e) j = refl
@@ -196,9 +197,9 @@ kept-entries j false None a h = a
 pub restarted-so : (t u : Play) (w : World) (kept : Bool) → Matches t w → IsRestarted t.ncs u.ncs kept → u.gateways.items ≡ t.gateways.items → u.connections.items ≡ t.connections.items → Matches u (world_step w (Restart kept)).0
 restarted-so t u w kept m r g c =
     let old = m.parts.rest.server in
-    let after : (settled t.ncs.keeper kept).kept ≡ kept_journal w.journal kept w.uncertain =
-    ap (λ (o : Option Entry). settled_by kept o t.ncs.keeper.kept) old.keeper.doubtful ∙ (ap (λ (j : List Entry). settled_by kept w.uncertain j) old.keeper.kept ∙ settled-is kept w.uncertain w.journal) in
-    let entries : u.ncs.keeper.kept ≡ kept_journal w.journal kept w.uncertain = ap (λ (k : MemoryKeeper). k.kept) r.keeper ∙ after in
+    let after : kept_of (settled t.ncs.keeper kept) ≡ kept_journal w.journal kept w.uncertain =
+    ap (λ (o : Option Doubt). kept_with (settled_doubt kept o) t.ncs.keeper.certain) old.keeper.doubtful ∙ (ap (λ (j : List Entry). kept_with (settled_doubt kept (doubt_of false w.uncertain)) j) old.keeper.certain ∙ settled-is kept w.uncertain w.journal) in
+    let entries : u.ncs.keeper.certain ≡ kept_journal w.journal kept w.uncertain = ap (λ (k : MemoryKeeper). k.certain) r.keeper ∙ after in
     record {
       parts = record {
         rest = record {
@@ -206,13 +207,14 @@ restarted-so t u w kept m r g c =
             journal = r.loaded ∙ after;
             stopped = ap (λ (s : ServerState). s.stopped) r.state;
             keeper = record {
-              kept = entries;
+              certain = entries;
               doubtful = ap (λ (k : MemoryKeeper). k.doubtful) r.keeper;
               failing = ap (λ (k : MemoryKeeper). k.failing) r.keeper ∙ old.keeper.failing;
               fails = ap (λ (k : MemoryKeeper). k.fails) r.keeper ∙ old.keeper.fails;
               stands = ap (λ (k : MemoryKeeper). k.stands) r.keeper ∙ old.keeper.stands;
             };
             kept = r.kept ∙ ap Some after;
+            running = λ h. refl;
           };
           count = ap length c ∙ m.parts.rest.count;
           devices = r.devices ∙ m.parts.rest.devices;

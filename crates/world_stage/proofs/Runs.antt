@@ -1,8 +1,8 @@
 -- Runs of a world in memory.
 use Rattle.std.proofs.Common.{◌≡◌, ℕ, zero, suc, ◌+◌, ◌<◌, ◌≤◌, List, [], ◌∷◌, ◌++◌, drop, get_or, length, Option, Some, Result, Ok, Err, IfOk, refl, ap, ◌∙◌, sym, subst, arith}
 use Rattle.std.proofs.lemmas.List.{drop_more}
-use Rattle.world_events.specs.Outcomes.{outcome_of}
-use Rattle.world_events.specs.declared.outcome.Outcome.{Outcome as Seen}
+use Rattle.world_scripts.specs.Outcomes.{outcome_of}
+use Rattle.world_scripts.specs.declared.outcome.Outcome.{Outcome as Seen}
 use Rattle.world_laws.specs.Outcomes.{Outcome, outcome, outcomes}
 use Rattle.world_laws.specs.World.{World, WorldEvent, opening, run, world_step}
 use Rattle.world_stage.specs.Matching.{Shows}

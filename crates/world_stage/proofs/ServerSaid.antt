@@ -22,8 +22,8 @@ use Rattle.machine_answers.specs.declared.answers.Tag.{Tag as SentTag}
 use Rattle.server_peer.specs.Parts.{sent_tag}
 use Rattle.rundown_log.specs.Memory.{MemoryKeeper}
 use Rattle.ncs_core.specs.State.{NcsTables, ncs_of, sent_by}
-use Rattle.world_events.specs.Outcomes.{outcome_of}
-use Rattle.world_events.specs.declared.outcome.Outcome.{Outcome}
+use Rattle.world_scripts.specs.Outcomes.{outcome_of}
+use Rattle.world_scripts.specs.declared.outcome.Outcome.{Outcome}
 use Rattle.world_laws.specs.Outcomes.{Outcome as Told, outcome_of as outcome_told}
 use Rattle.world_laws.specs.World.{Connection as Line, Pairing, front, hears_from, hears_front, new_connection, own_beat, rest, sends_on, takes_from, takes_front, write_device}
 use Rattle.world_laws.specs.World.Effect.{Connected, Stepped, Wrote}

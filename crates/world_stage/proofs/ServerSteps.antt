@@ -6,8 +6,8 @@ use Rattle.mos_machines.specs.Server.Upper.{Down, Greeting, Open}
 use Rattle.mos_machines.specs.Steps.{ServerState, ServerEvent, server_step, with_peer}
 use Rattle.rundown_log.specs.Memory.{MemoryKeeper}
 use Rattle.ncs_core.specs.State.{NcsTables, ncs_of}
-use Rattle.world_events.specs.Outcomes.{outcome_of}
-use Rattle.world_events.specs.declared.outcome.Outcome.{Outcome}
+use Rattle.world_scripts.specs.Outcomes.{outcome_of}
+use Rattle.world_scripts.specs.declared.outcome.Outcome.{Outcome}
 use Rattle.world_laws.specs.Outcomes.{Outcome as Told}
 use Rattle.world_laws.specs.World.{Connection as Line, Effect, Opener, Pairing, admits_it, beats_if, cuts, impossible, misses_if}
 use Rattle.world_laws.specs.World.Effect.{Performed}

@@ -4,8 +4,8 @@ use Rattle.mos_edits.specs.Entries.{Entry}
 use Rattle.mos_machines.specs.Messages.{Status, status_text}
 use Rattle.ncs_core.specs.State.{NcsTables, ncs_of, devices_of}
 use Rattle.rundown_log.specs.Memory.{MemoryKeeper}
-use Rattle.world_events.specs.Outcomes.{outcome_of}
-use Rattle.world_events.specs.declared.outcome.Outcome.{Outcome}
+use Rattle.world_scripts.specs.Outcomes.{outcome_of}
+use Rattle.world_scripts.specs.declared.outcome.Outcome.{Outcome}
 use Rattle.world_laws.specs.World.{World, WorldEvent, world_step}
 use Rattle.world_laws.specs.Outcomes.{Outcome as Told, outcome as outcome_told}
 use Rattle.world_stage.specs.Matching.{MatchesServer}

@@ -2,7 +2,7 @@
 use Rattle.std.specs.Prelude.{◌≡◌, ℕ, ◌+◌, ◌<◌, List, [], length, slice_get, false, Option, Some, None}
 use Rattle.std.specs.List.{AllByRecursion}
 use Rattle.mos_edits.specs.Entries.{Entry, IsEntry, AreEntries}
-use Rattle.rundown_log.specs.Memory.{MemoryKeeper}
+use Rattle.rundown_log.specs.Memory.{MemoryKeeper, doubt_of}
 use Rattle.ncs_core.specs.State.{NcsTables, ncs_of, devices_of}
 use Rattle.world_laws.specs.World.{Pairing, World, WorldEvent, opening, run}
 use Rattle.written_laws.specs.Worlds.{IsSoundCommand, KeepsLimits}
@@ -16,10 +16,10 @@ pub record MatchesPairing (t : Play) (d : ℕ) (l : Pairing) : Type 0 where
   pub gateway : HasGateway (slice_get t.gateways.items d) l
   pub connections : MatchesConnections t.connections.items (d + 1) l.connections
 
--- the keeper, whose entries are those of the journal
+-- the keeper: the entries of the journal stand for certain, and the one whose append failed doesn't, until it is settled
 pub record MatchesKeeper (k : MemoryKeeper) (w : World) : Type 0 where
-  pub kept : k.kept ≡ w.journal
-  pub doubtful : k.doubtful ≡ w.uncertain
+  pub certain : k.certain ≡ w.journal
+  pub doubtful : k.doubtful ≡ doubt_of false w.uncertain
   pub failing : k.failing ≡ w.failing
   pub fails : k.fails ≡ []
   pub stands : k.stands ≡ false
@@ -30,6 +30,7 @@ pub record MatchesServer (n : NcsTables MemoryKeeper) (w : World) : Type 0 where
   pub stopped : n.server.stopped ≡ w.stopped
   pub keeper : MatchesKeeper n.keeper w
   pub kept : n.kept ≡ Some w.journal
+  pub running : w.stopped ≡ false → w.uncertain ≡ None
 
 -- all but the pairings
 pub record MatchesRest (t : Play) (w : World) : Type 0 where

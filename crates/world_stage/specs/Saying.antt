@@ -2,8 +2,8 @@
 use Rattle.std.specs.Prelude.{◌≡◌, ℕ, List}
 use Rattle.mos_edits.specs.Texts.{set_number}
 use Rattle.mos_machines.specs.Messages.{Packet}
-use Rattle.world_events.specs.Outcomes.{outcome_of}
-use Rattle.world_events.specs.declared.outcome.Outcome.{Outcome}
+use Rattle.world_scripts.specs.Outcomes.{outcome_of}
+use Rattle.world_scripts.specs.declared.outcome.Outcome.{Outcome}
 use Rattle.world_laws.specs.Outcomes.{written}
 use Rattle.world_laws.specs.World.{Connection as Line}
 use Rattle.world_parts.specs.Matching.{MatchesConnections}

@@ -10,6 +10,10 @@ abbrev pub ShowsStage : Option (Option Play) → World → Type 0
 ShowsStage None w = ⊥
 ShowsStage (Some x) w = Shows x w
 
+-- a world is shown
+abbrev pub ShowsWorld : Option (Option Play) → Type 0
+ShowsWorld shown = (w : World) × ShowsStage shown w
+
 -- These are the outcomes of the run, and the world that it ends in is shown.
 abbrev pub IsPlayed : Option (Option Play) → ℕ → List WorldEvent → List Outcome → Type 0
 IsPlayed shown devices es os = ShowsStage shown (run (opening devices) es) × (os ≡ outcomes (opening devices) es)

@@ -2,8 +2,8 @@
 use Rattle.std.specs.Prelude.{◌≡◌, ℕ, ◌+◌, List, length, Bool, true, false}
 use Rattle.rundown_log.specs.Memory.{MemoryKeeper}
 use Rattle.ncs_core.specs.State.{NcsTables, ncs_of, LeavesRest}
-use Rattle.world_events.specs.Outcomes.{outcome_of}
-use Rattle.world_events.specs.declared.outcome.Outcome.{Outcome}
+use Rattle.world_scripts.specs.Outcomes.{outcome_of}
+use Rattle.world_scripts.specs.declared.outcome.Outcome.{Outcome}
 use Rattle.mos_edits.specs.Entries.{Entry, AreEntries}
 use Rattle.mos_machines.specs.Views.{IsPeerWithin}
 use Rattle.mos_edits.specs.Texts.{set_number}

@@ -6,7 +6,7 @@ use Rattle.mos_edits.specs.Texts.{Text}
 use Rattle.mos_machines.specs.Tables.{GateTables}
 use Rattle.rundown_log.specs.Memory.{MemoryKeeper}
 use Rattle.ncs_core.specs.State.{NcsTables, devices_of}
-use Rattle.world_events.specs.Events.{HasSoundEdit}
+use Rattle.world_scripts.specs.WorldEvents.{HasSoundEdit}
 use Rattle.world_laws.specs.World.{WorldEvent}
 use Rattle.world_stage.specs.declared.play.Play.{Play}
 use Rattle.world_stage.specs.Matching.{MatchesOne}

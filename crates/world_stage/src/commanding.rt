@@ -5,19 +5,19 @@ ghost use Rattle.mos_machines.specs.Messages.{status_text};
 ghost use Rattle.mos_machines.specs.Values.{edit_message};
 ghost use Rattle.mos_values.specs.Sound.{IsSound};
 ghost use Rattle.machine_answers.specs.Answers.{status_of};
-ghost use Rattle.world_events.specs.Outcomes.{outcome_of};
+ghost use Rattle.rundown_log.specs.Memory.{kept as kept_of};
+ghost use Rattle.world_scripts.specs.Outcomes.{outcome_of};
 ghost use Rattle.world_laws.specs.Outcomes.{Outcome as Outcomes};
 ghost use Rattle.world_stage.specs.Commanding.{IsCommanded, IsToldFor, IsToldOf};
 ghost use Rattle.ncs_core.specs.Commands.{fault_status as fault_status_of};
 
 use machine_answers::Status;
-use mos_fields::NoMemory;
+use mos_fields::{NoMemory, let_go};
 use mos_values::Edit;
 use ncs_core::{CommandFault, Ncs};
 use rundown_log::MemKeeper;
 use std::alloc::Global;
-use world_events::Outcome;
-use world_parts::let_go;
+use world_scripts::Outcome;
 
 /// A command that was answered so.
 fn told_status(alloc: Global, status: &Status) -> Result<Outcome, NoMemory>
@@ -64,7 +64,7 @@ fn refused(alloc: Global, fault: CommandFault) -> Result<Outcome, NoMemory>
 
 /// A law of the server over a keeper in memory: the entries that are kept are those of the keeper.
 fn keeps(ncs: &Ncs<MemKeeper>)
-    ensures { ncs.now.kept ≡ Some ncs.now.keeper.kept }
+    ensures { ncs.now.kept ≡ Some (kept_of ncs.now.keeper) }
 {
     let _keeper = ncs.keeper();
 }

@@ -4,8 +4,8 @@ ghost use Rattle.mos_machines.specs.Device.{gate_got, gate_next};
 ghost use Rattle.mos_machines.specs.Messages.{Packet as Said};
 ghost use Rattle.mos_machines.specs.Tables.{gate_of};
 ghost use Rattle.mos_edits.specs.Entries.{Entry};
-ghost use Rattle.world_events.specs.Events.{pairing_event_of};
-ghost use Rattle.world_events.specs.Outcomes.{outcome_of};
+ghost use Rattle.world_scripts.specs.WorldEvents.{pairing_event_of};
+ghost use Rattle.world_scripts.specs.Outcomes.{outcome_of};
 ghost use Rattle.world_laws.specs.Outcomes.{outcome_of as outcome_told};
 ghost use Rattle.world_laws.specs.World.{Connection as Line, Pairing, PairingEvent as rows, asks_on, front, gets_front, opens_one, own_time as own_time_of, reads_front};
 ghost use Rattle.world_laws.specs.World.Effect.{Stepped};
@@ -18,16 +18,16 @@ ghost use Rattle.world_parts.specs.declared.packet.PacketTag.TheVariants as tags
 use crate::saying::say_to_server;
 use gateway_core::DeckState;
 use machine_answers::{Heard, Sent, Step};
-use mos_fields::{Id, NoMemory};
+use mos_fields::{Id, NoMemory, let_go};
 use mos_values::Message;
 use order_table::OrderTable;
 use std::alloc::Global;
 use std::mem::replace;
-use world_events::{Outcome, PairingEvent};
 use world_parts::{
     Connection, Gateway, Opener, Packet, PacketTag, accept as accept_connection, apply_list,
-    apply_read, is_in_step, let_go, open, own_time, take_to_device,
+    apply_read, is_in_step, open, own_time, take_to_device,
 };
+use world_scripts::{Outcome, PairingEvent};
 
 /// A packet whose message is about nothing that no byte carries.
 fn untagged(message: Message) -> Packet

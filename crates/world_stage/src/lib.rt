@@ -14,5 +14,5 @@ mod server_events;
 mod stage;
 mod world;
 
-pub use stage::{Stage, WorldStage};
+pub use stage::{Stage, WorldStage, close_stage};
 pub use world::World;

@@ -3,15 +3,15 @@
 ghost use Rattle.std.specs.Prelude.{ℕ};
 ghost use Rattle.mos_edits.specs.Entries.{entry_of};
 ghost use Rattle.mos_edits.specs.Orders.{edit_ro};
-ghost use Rattle.size_laws.specs.Small.{AreSmallItems, AreSmallStories, IsSmall, IsSmallItem, IsSmallOrder};
-ghost use Rattle.world_events.specs.Events.{pairing_event_of};
+ghost use Rattle.mos_machines.specs.Small.{AreSmallItems, AreSmallStories, IsSmall, IsSmallItem, IsSmallOrder};
+ghost use Rattle.world_scripts.specs.WorldEvents.{pairing_event_of};
 ghost use Rattle.world_laws.specs.World.{WorldEvent as events};
 ghost use Rattle.written_laws.specs.Lengths.{HasShortIds, HasShortTarget, IsShort, IsSmallAction, IsSmallEdit, KeepsFieldLimits};
 ghost use Rattle.written_laws.specs.Worlds.{KeepsLimits};
 
 use mos_fields::{Id, OptId, Samples};
 use mos_values::{Action, Edit, HeaderPatch, Item, OrderBody, Story};
-use world_events::PairingEvent;
+use world_scripts::PairingEvent;
 
 fn samples_are_small(count: &Option<Samples>)
     ensures { IsSmall count.now }

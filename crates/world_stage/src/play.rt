@@ -2,8 +2,8 @@
 ghost use Rattle.std.specs.Prelude.{◌≡◌, ◌+◌, ◌<◌, ◌≤◌, ◌&&◌, length, nat_le, OnOk, IfOk, IfNone, IfSome, false};
 ghost use Rattle.mos_edits.specs.Entries.{entry_of};
 ghost use Rattle.ncs_core.specs.State.{devices_of};
-ghost use Rattle.world_events.specs.Events.{HasSoundEdit, direction_of, event_of, pairing_event_of};
-ghost use Rattle.world_events.specs.Outcomes.{outcome_of};
+ghost use Rattle.world_scripts.specs.WorldEvents.{HasSoundEdit, direction_of, event_of, pairing_event_of};
+ghost use Rattle.world_scripts.specs.Outcomes.{outcome_of};
 ghost use Rattle.world_laws.specs.Outcomes.{outcome as outcome_told};
 ghost use Rattle.world_laws.specs.World.{World, WorldEvent as events, opening, world_step};
 ghost use Rattle.world_parts.specs.Matching.{AreReadable};
@@ -15,13 +15,13 @@ use crate::commanding::command;
 use crate::device_events::device_event;
 use crate::limits::{edit_keeps_limits, event_keeps_limits};
 use crate::server_events::server_event;
-use mos_fields::NoMemory;
+use mos_fields::{NoMemory, let_go};
 use mos_values::Edit;
 use ncs_core::Ncs;
 use rundown_log::MemKeeper;
 use std::alloc::Global;
-use world_events::{Direction, Outcome, PairingEvent, WorldEvent};
-use world_parts::{Connection, Gateway, let_go, lose};
+use world_parts::{Connection, Gateway, lose};
+use world_scripts::{Direction, Outcome, PairingEvent, WorldEvent};
 
 /// The server, the gateways of its devices, and all connections that were opened. Device `d` has the gateway at `d - 1`, and
 /// connection `c` stands at `c - 1`.
@@ -65,13 +65,8 @@ fn restarted(ncs: Ncs<MemKeeper>, kept: bool) -> Result<Ncs<MemKeeper>, NoMemory
     ensures { IfOk result (λ n. IsRestarted ncs n kept) }
 {
     let mut ncs = ncs;
-    match ncs.settle(kept) {
-        Ok(()) => start_again(ncs),
-        Err(_) => {
-            let_go(ncs);
-            Err(NoMemory)
-        }
-    }
+    ncs.settle(kept);
+    start_again(ncs)
 }
 
 /// The server after a restart.

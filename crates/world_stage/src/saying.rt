@@ -5,10 +5,10 @@ ghost use Rattle.world_laws.specs.World.{Connection as Line, write_device, write
 ghost use Rattle.world_parts.specs.Matching.{Carries, IsOpened, LeavesOthers, MatchesConnections};
 ghost use Rattle.world_stage.specs.Saying.{IsSaid};
 
-use mos_fields::NoMemory;
+use mos_fields::{NoMemory, let_go};
 use std::alloc::Global;
-use world_events::Outcome;
-use world_parts::{Connection, Packet, let_go, told, write_to_device, write_to_server};
+use world_parts::{Connection, Packet, told, write_to_device, write_to_server};
+use world_scripts::Outcome;
 
 /// Writes a packet to the server on connection `c` of device `d`, and tells of it.
 pub fn say_to_server(

@@ -5,8 +5,8 @@ ghost use Rattle.mos_machines.specs.Messages.{Packet as Said, Step as MachineSte
 ghost use Rattle.mos_machines.specs.Server.{peer_hear, peer_next, upper_link};
 ghost use Rattle.machine_answers.specs.Answers.{stepped};
 ghost use Rattle.ncs_core.specs.State.{ncs_of, devices_of};
-ghost use Rattle.world_events.specs.Events.{pairing_event_of};
-ghost use Rattle.world_events.specs.Outcomes.{outcome_of};
+ghost use Rattle.world_scripts.specs.WorldEvents.{pairing_event_of};
+ghost use Rattle.world_scripts.specs.Outcomes.{outcome_of};
 ghost use Rattle.world_laws.specs.Outcomes.{outcome_of as outcome_told};
 ghost use Rattle.world_laws.specs.World.{Connection as Line, Pairing, PairingEvent as rows, front, hears_front, opens_one, own_beat as own_beat_of, own_time as own_time_of, sends_on, takes_front};
 ghost use Rattle.world_laws.specs.World.Effect.{Stepped};
@@ -16,16 +16,16 @@ ghost use Rattle.world_parts.specs.declared.connection.Connection.{Connection as
 
 use crate::saying::say_to_device;
 use machine_answers::{Heard, Sent, Step};
-use mos_fields::NoMemory;
+use mos_fields::{NoMemory, let_go};
 use mos_values::Message;
 use ncs_core::Ncs;
 use rundown_log::MemKeeper;
 use std::alloc::Global;
-use world_events::{Outcome, PairingEvent};
 use world_parts::{
-    Connection, Opener, Packet, PacketTag, accept, answer_tag, let_go, open, own_time, packet_tag,
+    Connection, Opener, Packet, PacketTag, accept, answer_tag, open, own_time, packet_tag,
     take_to_server, write_to_device,
 };
+use world_scripts::{Outcome, PairingEvent};
 
 /// A heartbeat that an end sends of itself.
 fn own_beat() -> Packet

@@ -1,18 +1,18 @@
 //! What scripts are played on.
-ghost use Rattle.std.specs.Prelude.{◌≡◌, ◌≤◌, ℕ, [], ◌∷◌, ◌++◌, OnOk, IfOk, IsSome, Option, List};
+ghost use Rattle.std.specs.Prelude.{◌≡◌, ◌≤◌, ℕ, [], ◌∷◌, ◌++◌, OnOk, IfOk, IsSome, None, Option, List};
 ghost use Rattle.std.specs.Option.{option_copied};
-ghost use Rattle.world_events.specs.Events.{HasSoundEdit, event_of};
-ghost use Rattle.world_events.specs.Outcomes.{outcome_of};
+ghost use Rattle.world_scripts.specs.WorldEvents.{HasSoundEdit, event_of};
+ghost use Rattle.world_scripts.specs.Outcomes.{outcome_of};
 ghost use Rattle.world_laws.specs.Outcomes.{Outcome as Told};
 ghost use Rattle.world_laws.specs.World.{WorldEvent as events};
+ghost use Rattle.world_stage.specs.Stages.{IsPlayed, ShowsWorld};
 ghost use Rattle.world_stage.specs.declared.play.Play.{Play};
 
 use crate::world::World;
-use mos_fields::NoMemory;
+use mos_fields::{NoMemory, let_go};
 use std::alloc::Global;
 use std::mem::replace;
-use world_events::{Outcome, WorldEvent};
-use world_parts::let_go;
+use world_scripts::{Outcome, WorldEvent};
 
 /// What a script is played on: a world that is begun anew and then stepped, event after event.
 ///
@@ -30,7 +30,8 @@ pub trait Stage {
         requires least { 1 ≤ devices }
         requires most { devices ≤ 64 }
         ensures told { OnOk result (told self.new devices [] []) }
-        ensures shown { OnOk result (IsSome (shown self.new)) };
+        ensures shown { OnOk result (IsSome (shown self.new)) }
+        ensures world { OnOk result (ShowsWorld (shown self.new)) };
 
     /// Plays an event, and tells what came of it. An edit that is commanded has an encoding. The only error is that memory
     /// runs out.
@@ -54,8 +55,12 @@ pub struct WorldStage {
 }
 
 impl WorldStage {
-    /// A stage on which no world was begun. It takes no memory; its worlds grow in this allocator.
-    pub fn new(alloc: Global) -> Self {
+    /// A stage on which no world was begun: it shows none, and has told nothing. It takes no memory; its worlds grow in this
+    /// allocator.
+    pub fn new(alloc: Global) -> Self
+        ensures shown { result.world ≡ None }
+        ensures told { (devices : ℕ) (es : List events) (os : List Told) → IsPlayed result.world devices es os → ⊥ }
+    {
         WorldStage { alloc, world: None }
     }
 }
@@ -83,4 +88,9 @@ impl Stage for WorldStage {
     fn world(&self) -> Option<&World> {
         self.world.as_ref()
     }
+}
+
+/// Lets a stage go. Who hands its stage to this call drops none of its parts by itself, which would be proved once more.
+pub fn close_stage(stage: WorldStage) {
+    let_go(stage);
 }

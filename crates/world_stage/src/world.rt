@@ -1,8 +1,8 @@
 //! A world in memory.
-ghost use Rattle.std.specs.Prelude.{◌≡◌, ◌≤◌, None, OnErr, IfOk, IsErr};
+ghost use Rattle.std.specs.Prelude.{◌≡◌, ◌≤◌, None, OnErr, IfOk, IsErr, IsSome};
 ghost use Rattle.std.specs.Option.{option_copied};
-ghost use Rattle.world_events.specs.Events.{HasSoundEdit, event_of, events_of};
-ghost use Rattle.world_events.specs.Outcomes.{outcome_of};
+ghost use Rattle.world_scripts.specs.WorldEvents.{HasSoundEdit, event_of, events_of};
+ghost use Rattle.world_scripts.specs.Outcomes.{outcome_of};
 ghost use Rattle.world_laws.specs.Outcomes.{outcome as outcome_told};
 ghost use Rattle.world_laws.specs.Safe.{IsSafe};
 ghost use Rattle.world_laws.specs.World.{World as Defined, WorldEvent as events, opening, run as run_of, world_step};
@@ -11,16 +11,15 @@ ghost use Rattle.world_stage.specs.Worlds.{applied_shown, devices_shown, gate_sh
 
 use crate::play::Play;
 use gateway_core::Gate;
-use mos_fields::NoMemory;
+use mos_fields::{NoMemory, let_go};
 use ncs_core::Ncs;
 use order_table::OrderTable;
 use rundown_log::MemKeeper;
 use std::alloc::Global;
 use std::marker::Model;
 use std::mem::replace;
-use world_events::{Outcome, WorldEvent, WorldEvents};
 use world_laws::prefix_consistency;
-use world_parts::let_go;
+use world_scripts::{Outcome, WorldEvent, WorldEvents};
 
 /// A world of one server and its devices, which the shipped machines play: an `Ncs` over a keeper in memory, a `Gate` for each
 /// device, and the connections between them with the messages that are on their way.
@@ -97,9 +96,10 @@ impl World {
         Ok(world)
     }
 
-    /// The server; `None` where memory ran out. It takes no memory.
+    /// The server; `None` where memory ran out. Where there is one, all is as in a world that a run ends in. It takes no memory.
     pub fn ncs(&self) -> Option<&Ncs<MemKeeper>>
-        ensures { option_copied result ≡ ncs_shown self.now }
+        ensures server { option_copied result ≡ ncs_shown self.now }
+        ensures world { IsSome result → (w : Defined) × Shows self.now w }
     {
         match &self.play {
             Some(play) => Some(&play.ncs),

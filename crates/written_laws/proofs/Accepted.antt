@@ -18,8 +18,8 @@ use Rattle.mos_values.specs.MessageViews.{message_events}
 use Rattle.mos_values.specs.Units.{units_in}
 use Rattle.mos_values.specs.Views.{body_events}
 use Rattle.mos_values.proofs.Encoding.{units_in_element}
-use Rattle.size_laws.specs.Small.{IsSmallOrder}
-use Rattle.size_laws.proofs.SizeLemmas.{order-units, orders-units}
+use Rattle.mos_machines.specs.Small.{IsSmallOrder}
+use Rattle.mos_machines.proofs.SizeLemmas.{order-units, orders-units}
 use Rattle.written_laws.specs.Lengths.{HasShortNames, HasShortIds, IsSmallIfThere, IsNotTooLong}
 use Rattle.written_laws.proofs.Sizes.{envelope-units}
 use Rattle.written_laws.proofs.Actions.{FitsIn, edit-within}

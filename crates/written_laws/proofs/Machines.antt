@@ -16,7 +16,7 @@ use Rattle.mos_machines.specs.Server.Verdict.{Takes, Fails, Refuses}
 use Rattle.mos_machines.specs.Device.{GateState, GateOut, Confirmation, Decks, gate_read, gate_got, gate_next, next_if, asked_next, first_wanted}
 use Rattle.mos_machines.specs.Device.GateOut.{NotAsking, AsksFor, AsksAll, AsksBeat}
 use Rattle.mos_machines.specs.Device.Confirmation.{NotDue, Due, Unanswered}
-use Rattle.mos_machines.specs.Steps.{ServerState, StepAnswer, is_upper, is_lower, unless_stale, server_told, server_stepped, server_sent, server_says, server_step, gate_says, gate_sent, gate_stepped, device_step}
+use Rattle.mos_machines.specs.Steps.{ServerState, StepAnswer, is_upper, is_lower, unless_stale, server_told, server_stepped, server_sent, server_says, server_step, gate_says, gate_sent, gate_stepped, asked_on, device_step}
 use Rattle.mos_machines.specs.Steps.ServerEvent.{Command, UpperOpened, UpperCut, UpperAnswer, Beat, DeviceAccepted, DeviceDropped, NextSend, Hear}
 use Rattle.mos_machines.specs.Steps.DeviceEvent.{UpperAccepted, UpperLeft, ReadUpper, DeviceOpened, GateDropped, NextAsk, ReadAnswer, Want, GateBeat, Restart}
 use Rattle.mos_machines.specs.Steps.{ServerEvent, DeviceEvent}
@@ -168,13 +168,17 @@ gate-sent : (x : GateState × Option Message) → HoldsIn (λ m. IsSound (messag
 gate-sent (g, None) a = tt
 gate-sent (g, Some m) a = a
 
+sound-asked-on : (b : Bool) (g : GateState) (x : GateState × Option Message) → HoldsIn (λ m. IsSound (message_of m)) x.1 → HoldsIn (λ m. IsSound (message_of m)) (asked_on b g x).1
+sound-asked-on true g x h = h
+sound-asked-on false g x h = tt
+
 pub device-answer : (g : GateState) (e : DeviceEvent) → IsSoundAnswer (device_step g e).0
 device-answer g (UpperAccepted c) = tt
 device-answer g (UpperLeft c) = unless-stale (is_link g.upper c) g _ tt
 device-answer g (ReadUpper c m decks) = unless-stale (is_link g.upper c) g (gate_says (gate_read g decks m)) (sound-read g decks m)
 device-answer g (DeviceOpened c) = tt
 device-answer g (GateDropped c) = unless-stale (is_link g.link c) g _ tt
-device-answer g (NextAsk c now) = unless-stale (is_link g.link c) g (gate_sent (gate_next now g)) (gate-sent (gate_next now g) (sound-asked now g))
+device-answer g (NextAsk c now) = gate-sent (asked_on (is_link g.link c) g (gate_next now g)) (sound-asked-on (is_link g.link c) g (gate_next now g) (sound-asked now g))
 device-answer g (ReadAnswer c m) = unless-stale (is_link g.link c) g (gate_stepped (gate_got g m)) tt
 device-answer g (Want r) = tt
 device-answer g GateBeat = tt

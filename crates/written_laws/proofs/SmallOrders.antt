@@ -10,7 +10,7 @@ use Rattle.mos_edits.specs.Entries.{Entry, entries, order_now, listed, with_head
 use Rattle.mos_values.specs.declared.action.Action as values
 use Rattle.mos_values.specs.declared.action.Action.TheVariants as actions
 use Rattle.mos_values.specs.declared.edit.Edit.TheVariants as edits
-use Rattle.size_laws.specs.Small.{IsSmallItem, AreSmallItems, AreSmallStories}
+use Rattle.mos_machines.specs.Small.{IsSmallItem, AreSmallItems, AreSmallStories}
 use Rattle.written_laws.specs.Lengths.{IsShort, IsSmallAction, IsSmallEdit, IsSmallIfThere, KeepsFieldLimits}
 use Rattle.written_laws.proofs.Elements.{all-map, WhereDone}
 use Rattle.written_laws.proofs.Journals.{BringsAll, all-act, kept-after, all-entries}

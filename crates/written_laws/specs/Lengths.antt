@@ -9,7 +9,7 @@ use Rattle.mos_values.specs.declared.edit.Edit.TheVariants.{Create, Replace, Del
 use Rattle.mos_values.specs.declared.message.Envelope.{Envelope}
 use Rattle.mos_values.specs.MessageViews.{envelope_events}
 use Rattle.mos_values.specs.Units.{units_in}
-use Rattle.size_laws.specs.Small.{AreSmallItems, AreSmallStories, IsSmallOrder}
+use Rattle.mos_machines.specs.Small.{AreSmallItems, AreSmallStories, IsSmallOrder}
 
 -- the most code units that a message may have
 abbrev pub message_limit : ℕ

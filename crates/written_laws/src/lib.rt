@@ -13,7 +13,7 @@ ghost use Rattle.mos_machines.specs.Device.{GateState};
 ghost use Rattle.mos_machines.specs.Values.{edit_message};
 ghost use Rattle.mos_values.specs.declared.message.Envelope.{Envelope};
 ghost use Rattle.mos_values.specs.declared.message.Message.TheVariants.{RoList, RoListAll};
-ghost use Rattle.size_laws.specs.Small.{IsSmallOrder};
+ghost use Rattle.mos_machines.specs.Small.{IsSmallOrder};
 ghost use Rattle.world_laws.specs.World.{WorldEvent, opening, world_step, run};
 ghost use Rattle.written_laws.specs.Laws.{IsSoundEdit, HasSoundEdits, IsSoundOrder, IsSoundPacket, IsSoundAnswer, IsSoundEvent};
 ghost use Rattle.written_laws.specs.Lengths.{HasShortNames, HasShortIds, IsSmallIfThere, IsNotTooLong};

@@ -5,7 +5,7 @@ use Rattle.mos_edits.specs.KeyedLists.ListAction.{Insert}
 use Rattle.mos_values.specs.Distinct.{story_ids, item_ids}
 use Rattle.element_action.specs.Answers.{named}
 use Rattle.element_action.proofs.ItemLemmas.{items_in}
-use Rattle.element_action.proofs.FormLemmas.{item_fault}
+use Rattle.element_action.proofs.FormLemmas.{item_fault, item_result}
 use Rattle.element_action.proofs.checks.check_insert_items.Goals as goal
 
 pub returns-in-Some : goal.returns-in-Some
@@ -18,3 +18,14 @@ returns-in-Some c =
     let ids = c.as_slice.ensures ∙ c.in_ok-ids.ensures in
     let found = sym (c.find_insert_fault.ensures ∙ ap (λ l. first_of first (first_of (lacking_target there t) (first_repeated there [] l))) ids) ∙ ap (λ o. option_map named o) c.in-Some.is in
     item_fault true story (Insert t c.args.sources.now) ss (named c.in-Some.fault) c.told.result found c.told.ensures
+
+pub returns : goal.returns
+returns c =
+    let ss = c.args.order.now.stories in
+    let story = c.args.story.now in
+    let there = item_ids (items_in story ss) in
+    let first = lacking (story_ids ss) story in
+    let t = c.args.target.now in
+    let ids = c.as_slice.ensures ∙ c.in_ok-ids.ensures in
+    let found = sym (c.find_insert_fault.ensures ∙ ap (λ l. first_of first (first_of (lacking_target there t) (first_repeated there [] l))) ids) ∙ ap (λ o. option_map named o) c.in-None.is in
+    item_result story (Insert t c.args.sources.now) ss found

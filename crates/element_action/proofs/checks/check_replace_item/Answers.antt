@@ -6,7 +6,7 @@ use Rattle.mos_values.specs.Distinct.{story_ids, item_ids}
 use Rattle.element_action.specs.Answers.{named}
 use Rattle.element_action.specs.Levels.{beside}
 use Rattle.element_action.proofs.ItemLemmas.{items_in}
-use Rattle.element_action.proofs.FormLemmas.{item_fault}
+use Rattle.element_action.proofs.FormLemmas.{item_fault, item_result}
 use Rattle.element_action.proofs.checks.check_replace_item.Goals as goal
 
 pub returns-in-Some : goal.returns-in-Some
@@ -19,3 +19,14 @@ returns-in-Some c =
     let ids = c.as_slice.ensures ∙ c.in_ok-ids.ensures in
     let found = sym (c.find_replace_fault.ensures ∙ ap (λ l. first_of first (first_of (lacking there t) (first_repeated (beside (Some t) there) [] l))) ids) ∙ ap (λ o. option_map named o) c.in-Some.is in
     item_fault true story (Replace t c.args.sources.now) ss (named c.in-Some.fault) c.told.result found c.told.ensures
+
+pub returns : goal.returns
+returns c =
+    let ss = c.args.order.now.stories in
+    let story = c.args.story.now in
+    let there = item_ids (items_in story ss) in
+    let first = lacking (story_ids ss) story in
+    let t = c.args.target.now in
+    let ids = c.as_slice.ensures ∙ c.in_ok-ids.ensures in
+    let found = sym (c.find_replace_fault.ensures ∙ ap (λ l. first_of first (first_of (lacking there t) (first_repeated (beside (Some t) there) [] l))) ids) ∙ ap (λ o. option_map named o) c.in-None.is in
+    item_result story (Replace t c.args.sources.now) ss found

@@ -1,5 +1,4 @@
-use Rattle.std.proofs.Common.{◌≡◌, true, Option, subst}
-use Rattle.std.specs.Option.{option_copied}
+use Rattle.std.proofs.Common.{true, Option, subst}
 use Rattle.mos_edits.specs.Orders.{Order, apply, edit_ro}
 use Rattle.element_action.specs.Answers.{IsCause, edit_takes_memory}
 use Rattle.element_action.proofs.CheckLemmas.{cause_of_copy}

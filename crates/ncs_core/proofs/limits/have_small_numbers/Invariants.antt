@@ -1,5 +1,5 @@
 use Rattle.std.proofs.Common.{drop}
-use Rattle.size_laws.specs.Small.{AreSmallItems}
+use Rattle.mos_machines.specs.Small.{AreSmallItems}
 use Rattle.ncs_core.proofs.limits.have_small_numbers.Given as goal
 
 abbrev pub invariant-items : goal.invariant-items

@@ -1,5 +1,4 @@
 use Rattle.std.proofs.Common.{codes, refl}
-use Rattle.mos_values.specs.OrderValue.{OrderBody}
 use Rattle.mos_values.specs.Views.{header_events, stories_events, body_events}
 use Rattle.mos_values.proofs.Counts.{count_both, count_element, body_is}
 use Rattle.running_order.proofs.sizes.list_size.Goals as goal

@@ -10,4 +10,4 @@ returns-clause-tied_still c =
     let list = c.args.list.now.items in
     let new = c.args.new.items in
     c.in_ok-replace.ensures.ok ∙ (λ j. put_over (c.requires.tied j) c.args.at (c.requires.new_tied j)) ∙ sym (ids_put_over list new c.args.at)
-    ∙ ap (λ l. item_ids (l)) (sym (c.put_in_room.ensures ∙ ap (λ l. put_in l c.args.at new) (c.remove-replaced.ensures.items ∙ ap (λ l. remove l c.args.at) c.reserve.ensures.items) ∙ put_in-remove list c.args.at new (subst (λ n. c.args.at < n) c.args.list.now.ok.0 c.requires.within)))
+    ∙ ap (λ l. item_ids (l)) (sym (c.put_in_room.ensures ∙ ap (λ l. put_in l c.args.at new) (c.remove.ensures.items ∙ ap (λ l. remove l c.args.at) c.reserve.ensures.items) ∙ put_in-remove list c.args.at new (subst (λ n. c.args.at < n) c.args.list.now.ok.0 c.requires.within)))

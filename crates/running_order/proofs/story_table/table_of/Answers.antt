@@ -4,13 +4,12 @@ use Rattle.mos_values.specs.Distinct.{story_ids}
 use Rattle.running_order.proofs.Ids.{story_ids_more, distinct_stories_more}
 use Rattle.running_order.proofs.story_table.table_of.Goals as goal
 
-pub push-requires : goal.push-requires
-push-requires c =
+pub push_copy-requires : goal.push_copy-requires
+push_copy-requires c =
     let stories = c.args.stories.now in
     let k = c.loop-story.story-index in
     let x = c.story-item.result in
     let lt : k < length stories = subst (λ l. k < length l) c.as_slice-story-items.ensures c.loop-story-test.true in
     let at : x ≡ get_or stories k x = subst (λ l. x ≡ get_or l k x) c.as_slice-story-items.ensures c.story-item.is in
-    let cloned = c.in_ok-try_clone.ensures in
-    let seen : story_ids ((take (k + 1) stories)) ≡ story_ids c.loop-story.table ++ c.in_ok-try_clone.field-0.id ∷ [] = sym (story_ids_more stories k x lt at) ∙ (λ j. story_ids (sym c.loop-story.invariant j) ++ (sym cloned j).id ∷ []) in
+    let seen : story_ids ((take (k + 1) stories)) ≡ story_ids c.loop-story.table ++ x.id ∷ [] = sym (story_ids_more stories k x lt at) ∙ (λ j. story_ids (sym c.loop-story.invariant j) ++ x.id ∷ []) in
     subst AreDistinct seen (distinct_stories_more stories (k + 1) c.requires)

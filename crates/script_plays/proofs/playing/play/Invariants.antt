@@ -1,5 +1,5 @@
 use Rattle.std.proofs.Common.{ℕ, ◌-◌, [], length, take, IsSome}
-use Rattle.world_events.specs.Events.{events_of}
+use Rattle.world_scripts.specs.WorldEvents.{events_of}
 use Rattle.script_plays.specs.Played.{HasLines}
 use Rattle.script_plays.proofs.playing.play.Given as goal
 

@@ -1,6 +1,6 @@
 use Rattle.std.proofs.Common.{length, Some, subst}
 use Rattle.std.specs.Option.{option_map}
-use Rattle.world_events.specs.Events.{event_of}
+use Rattle.world_scripts.specs.WorldEvents.{event_of}
 use Rattle.world_scripts.specs.Made.{HandsNext, made_events}
 use Rattle.script_plays.proofs.ToldLines.{counted-next, counted-none, left-less, told-next, told-none}
 use Rattle.script_plays.proofs.playing.play_made.Goals as goal

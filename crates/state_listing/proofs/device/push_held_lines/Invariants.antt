@@ -3,7 +3,7 @@ use Rattle.std.specs.Fmt.{decimal}
 use Rattle.std.specs.List.{flat_map}
 use Rattle.mos_fields.specs.Characters.{Text}
 use Rattle.mos_machines.specs.Tables.{look, gate_of}
-use Rattle.world_events.specs.Lines.{utf8}
+use Rattle.world_scripts.specs.Lines.{utf8}
 use Rattle.world_scripts.specs.Listing.{phase_word, order_words, line}
 use Rattle.state_listing.proofs.device.push_held_lines.Given as goal
 

@@ -1,7 +1,7 @@
 use Rattle.std.proofs.Common.{◌≡◌, ◌∷◌, ◌++◌, drop, string_bytes}
 use Rattle.std.specs.List.{flat_map}
 use Rattle.mos_edits.specs.Orders.{Item}
-use Rattle.world_events.specs.Lines.{utf8}
+use Rattle.world_scripts.specs.Lines.{utf8}
 use Rattle.state_listing.proofs.orders.push_more_items.Given as goal
 
 abbrev pub invariant-items : goal.invariant-items

@@ -3,7 +3,7 @@ use Rattle.std.specs.Fmt.{decimal}
 use Rattle.std.specs.List.{flat_map}
 use Rattle.mos_fields.specs.Characters.{Text}
 use Rattle.ncs_core.specs.State.{ncs_of}
-use Rattle.world_events.specs.Lines.{utf8}
+use Rattle.world_scripts.specs.Lines.{utf8}
 use Rattle.world_scripts.specs.Listing.{view_words, line}
 use Rattle.state_listing.proofs.server.push_view_lines.Given as goal
 

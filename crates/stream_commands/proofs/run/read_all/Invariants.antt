@@ -1,5 +1,5 @@
 use Rattle.std.proofs.Common.{◌≡◌, ◌+◌, ◌<◌, ◌≤◌, ℕ, List, length, unwrap_or}
-use Rattle.stream_commands.specs.Running.{IsBounded, Reads, HasHeard}
+use Rattle.stream_commands.specs.Running.{IsBegun, IsBounded, Reads, HasHeard}
 use Rattle.stream_commands.proofs.run.read_all.Given as goal
 
 abbrev pub invariant-piece : goal.invariant-piece
@@ -11,6 +11,7 @@ invariant-piece g l = record {
   bytes : List ℕ;
   reads : Reads (g.S.Source.left l.initial.source) (g.S.Source.left l.source) bytes;
   heard : HasHeard (g.T.Teller.told l.teller) bytes l.decoder (g.K.Sink.written l.initial.sink) (g.K.Sink.written l.sink);
+  whole : IsBegun bytes heard.found;
   spent : unwrap_or (g.S.Source.bound l.initial.source) 0 ≡ unwrap_or (g.S.Source.bound l.source) 0 + length bytes;
 }
 

@@ -1,5 +1,5 @@
 use Rattle.std.proofs.Common.{◌≡◌, suc, get_or, arith, ap}
-use Rattle.world_events.specs.Events.{direction_of}
+use Rattle.world_scripts.specs.WorldEvents.{direction_of}
 use Rattle.world_parts.proofs.Queues.{lost-at}
 use Rattle.world_parts.proofs.connections.lose.Goals as goal
 

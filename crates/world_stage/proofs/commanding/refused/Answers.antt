@@ -1,5 +1,5 @@
 use Rattle.machine_answers.specs.Answers.{status_of}
-use Rattle.world_events.specs.Outcomes.{outcome_of}
+use Rattle.world_scripts.specs.Outcomes.{outcome_of}
 use Rattle.ncs_core.specs.Commands.{fault_status as fault_status_of}
 use Rattle.world_stage.proofs.Commanded.{told-of}
 use Rattle.world_stage.proofs.commanding.refused.Goals as goal

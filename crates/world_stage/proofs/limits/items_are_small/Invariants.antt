@@ -1,5 +1,5 @@
 use Rattle.std.proofs.Common.{drop}
-use Rattle.size_laws.specs.Small.{AreSmallItems}
+use Rattle.mos_machines.specs.Small.{AreSmallItems}
 use Rattle.world_stage.proofs.limits.items_are_small.Given as goal
 
 abbrev pub invariant-items : goal.invariant-items

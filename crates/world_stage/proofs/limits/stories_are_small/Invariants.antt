@@ -1,5 +1,5 @@
 use Rattle.std.proofs.Common.{drop}
-use Rattle.size_laws.specs.Small.{AreSmallStories}
+use Rattle.mos_machines.specs.Small.{AreSmallStories}
 use Rattle.world_stage.proofs.limits.stories_are_small.Given as goal
 
 abbrev pub invariant-stories : goal.invariant-stories

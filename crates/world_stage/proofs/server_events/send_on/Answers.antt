@@ -4,7 +4,7 @@ use Rattle.mos_machines.specs.Server.{PeerState, peer_next, upper_link}
 use Rattle.mos_machines.specs.Steps.{ServerState, ServerEvent, StepAnswer, server_step}
 use Rattle.mos_machines.specs.Views.{IsPeerWithin}
 use Rattle.ncs_core.specs.State.{ncs_of, sent_by}
-use Rattle.world_events.specs.declared.outcome.Outcome.TheVariants as told
+use Rattle.world_scripts.specs.declared.outcome.Outcome.TheVariants as told
 use Rattle.world_laws.specs.World.{own_time, sends_on}
 use Rattle.world_parts.specs.Matching.{Carries}
 use Rattle.world_parts.specs.declared.packet.PacketTag.{PacketTag}

@@ -1,8 +1,7 @@
 use Rattle.std.proofs.Common.{◌≡◌, ap, ◌∙◌, None, Bool, false, ◌||◌, List}
 use Rattle.mos_edits.specs.Texts.{Text}
 use Rattle.mos_machines.specs.Device.{gate_dropped, is_all, GateState}
-use Rattle.mos_machines.specs.Tables.{gate_of, map_rows, KnownOrder}
-use Rattle.mos_machines.proofs.RowTables.{dropped_order}
+use Rattle.mos_machines.specs.Tables.{gate_of, map_rows, KnownOrder, dropped_order}
 use Rattle.gateway_core.specs.declared.asking.Asking.{Asking}
 use Rattle.gateway_core.specs.declared.asking.Confirm.{Confirm}
 use Rattle.gateway_core.specs.Parts.{asking_of, confirmation_of}

@@ -1,8 +1,7 @@
 use Rattle.std.proofs.Common.{sym, ap, ◌∙◌, subst, Some, true}
 use Rattle.mos_machines.specs.Device.{gate_accepted}
 use Rattle.mos_machines.specs.Device.Confirmation.{NotDue}
-use Rattle.mos_machines.specs.Tables.{gate_of}
-use Rattle.mos_machines.proofs.RowTables.{crossed_order}
+use Rattle.mos_machines.specs.Tables.{gate_of, crossed_order}
 use Rattle.gateway_core.specs.Parts.{asking_of, IsAskedKnown}
 use Rattle.gateway_core.specs.contracts.gate.Gate.{the_view}
 use Rattle.gateway_core.proofs.TableSteps.{asked-map, accepted}

@@ -1,30 +1,33 @@
-use Rattle.std.proofs.Common.{◌≡◌, ◌≤◌, false, ℕ, length, Option, refl, sym, ap, ◌∙◌, subst}
+use Rattle.std.proofs.Common.{◌≡◌, ◌≤◌, false, ℕ, length, Option, Err, refl, sym, ap, ◌∙◌, subst}
 use Rattle.std.proofs.lemmas.List.{with_items_is}
 use Rattle.std.specs.Vec.{with_items}
 use Rattle.mos_edits.specs.Entries.{Refusal, entry_of, entry_count, acceptance}
 use Rattle.mos_machines.specs.Server.{peer_given}
 use Rattle.ncs_core.specs.Accepting.{IsRefusal}
+use Rattle.ncs_core.specs.Commands.{LeavesKeeper}
 use Rattle.ncs_core.specs.State.{NcsTables, states}
 use Rattle.ncs_core.proofs.AcceptedRows.{orders-same, acceptance-here, orders-added, edited-there, orders-undone}
-use Rattle.ncs_core.proofs.CommandSteps.{refused-tables, taken-tables, unkept-tables}
+use Rattle.ncs_core.proofs.CommandSteps.{refused-keeper, refused-tables, taken-tables, unkept-keeper, unkept-tables}
 use Rattle.ncs_core.proofs.KeptUnits.{undone-units}
 use Rattle.ncs_core.proofs.KnownFronts.{known-kept, known-unkept}
 use Rattle.ncs_core.proofs.ncs.Ncs.take.Goals as goal
 
 pub invariant_of-self : goal.invariant_of-self
-invariant_of-self g c = (orders-same c.self.inside.journal c.self.inside.orders c.accept_edit.new.orders c.self.invariant.0 c.in-Err.ensures.err, c.self.invariant.1, c.self.invariant.2)
+invariant_of-self g c = (orders-same c.self.inside.journal c.self.inside.orders c.accept_edit.new.orders c.self.invariant.0 c.in-Err.ensures.err, c.self.invariant.1, c.self.invariant.2, c.self.invariant.3)
 
 pub invariant_of-self-in-Ok-keep_and_give : goal.invariant_of-self-in-Ok-keep_and_give
 invariant_of-self-in-Ok-keep_and_give g c =
     let whole : (with_items c.self.inside.peers c.keep_and_give.new.peers).items ≡ c.keep_and_give.new.peers = with_items_is c.self.inside.peers c.keep_and_give.new.peers (c.keep_and_give.auto.peers ∙ c.deref_mut.ensures.len) in
     let count : length (with_items c.self.inside.peers c.keep_and_give.new.peers).items ≡ length c.self.inside.peers.items = ap length whole ∙ (c.keep_and_give.auto.peers ∙ ap length c.deref_mut.ensures.value) in
     let few : length (with_items c.self.inside.peers c.keep_and_give.new.peers).items ≤ 64 = subst (λ (n : ℕ). n ≤ 64) (sym count) c.self.invariant.1 in
+    let one : 1 ≤ length (with_items c.self.inside.peers c.keep_and_give.new.peers).items = subst (λ (n : ℕ). 1 ≤ n) (sym count) c.self.invariant.2 in
     let running : c.self.inside.stopped ≡ false = ap (λ (n : NcsTables _). n.server.stopped) c.self.view_is ∙ c.requires.running in (
       orders-added c.self.inside.journal c.keep_and_give.new.journal (entry_of c.args.edit.now) (entry_of c.args.edit.now) c.self.inside.orders c.accept_edit.new.orders c.self.invariant.0 refl c.in-Ok.ensures.rows c.in-Ok-keep_and_give.ensures.journal,
       few,
-      known-kept c.self.inside.is_known c.self.inside.stopped (g.K.Keeper.kept c.self.inside.keeper) (g.K.Keeper.kept c.keep_and_give.new.keeper) (g.K.Keeper.faults c.self.inside.keeper) (g.K.Keeper.faults c.keep_and_give.new.keeper) c.self.inside.journal c.keep_and_give.new.journal (entry_of c.args.edit.now) running c.self.invariant.2
+      one,
+      known-kept c.self.inside.stopped (g.K.Keeper.kept c.self.inside.keeper) (g.K.Keeper.kept c.keep_and_give.new.keeper) (g.K.Keeper.faults c.self.inside.keeper) (g.K.Keeper.faults c.keep_and_give.new.keeper) (g.K.Keeper.certainty c.self.inside.keeper) (g.K.Keeper.certainty c.keep_and_give.new.keeper) c.self.inside.journal c.keep_and_give.new.journal (entry_of c.args.edit.now) running c.self.invariant.3
           (sym (acceptance-here c.self.inside.journal c.self.inside.journal (entry_of c.args.edit.now) (entry_of c.args.edit.now) c.self.inside.orders c.self.invariant.0 c.has_ascending_ids.ensures refl refl) ∙ c.in-Ok.ensures.accepted)
-          c.in-Ok-keep_and_give.ensures.appends c.in-Ok-keep_and_give.ensures.journal,
+          c.in-Ok-keep_and_give.ensures.appends c.in-Ok-keep_and_give.ensures.certainty c.in-Ok-keep_and_give.ensures.journal,
     )
 
 pub undo-requires-clause-there : goal.undo-requires-clause-there
@@ -40,12 +43,14 @@ invariant_of-self-in-Err-keep_and_give g c =
     let whole : (with_items c.self.inside.peers c.keep_and_give.new.peers).items ≡ c.keep_and_give.new.peers = with_items_is c.self.inside.peers c.keep_and_give.new.peers (c.keep_and_give.auto.peers ∙ c.deref_mut.ensures.len) in
     let count : length (with_items c.self.inside.peers c.keep_and_give.new.peers).items ≡ length c.self.inside.peers.items = ap length whole ∙ (c.keep_and_give.auto.peers ∙ ap length c.deref_mut.ensures.value) in
     let few : length (with_items c.self.inside.peers c.keep_and_give.new.peers).items ≤ 64 = subst (λ (n : ℕ). n ≤ 64) (sym count) c.self.invariant.1 in
+    let one : 1 ≤ length (with_items c.self.inside.peers c.keep_and_give.new.peers).items = subst (λ (n : ℕ). 1 ≤ n) (sym count) c.self.invariant.2 in
     let running : c.self.inside.stopped ≡ false = ap (λ (n : NcsTables _). n.server.stopped) c.self.view_is ∙ c.requires.running in (
       orders-undone c.self.inside.journal c.keep_and_give.new.journal (entry_of c.args.edit.now) c.self.inside.orders c.accept_edit.new.orders c.undo.new.orders c.edit_ro.result.now c.in-Ok.order c.self.invariant.0 c.in-Ok.ensures.rows c.edit_ro.ensures c.in-Ok.ensures.order
           c.undo.ensures c.in-Err-keep_and_give.ensures.journal_err,
       few,
-      known-unkept c.self.inside.is_known c.self.inside.stopped c.is_failed-self-inside.result (g.K.Keeper.kept c.self.inside.keeper) (g.K.Keeper.kept c.keep_and_give.new.keeper) (g.K.Keeper.faults c.self.inside.keeper) (g.K.Keeper.faults c.keep_and_give.new.keeper) c.self.inside.journal c.keep_and_give.new.journal (entry_of c.args.edit.now)
-          c.in-Err-keep_and_give.fault running c.is_failed-self-inside.ensures c.self.invariant.2 c.in-Err-keep_and_give.ensures.appends c.in-Err-keep_and_give.ensures.journal_err,
+      one,
+      known-unkept c.self.inside.stopped c.is_failed-self-inside.result (g.K.Keeper.kept c.self.inside.keeper) (g.K.Keeper.kept c.keep_and_give.new.keeper) (g.K.Keeper.faults c.self.inside.keeper) (g.K.Keeper.faults c.keep_and_give.new.keeper) (g.K.Keeper.certainty c.self.inside.keeper) (g.K.Keeper.certainty c.keep_and_give.new.keeper) c.self.inside.journal c.keep_and_give.new.journal (entry_of c.args.edit.now)
+          c.in-Err-keep_and_give.fault running c.is_failed-self-inside.ensures c.self.invariant.3 c.in-Err-keep_and_give.ensures.appends c.in-Err-keep_and_give.ensures.certainty c.in-Err-keep_and_give.ensures.journal_err,
     )
 
 pub returns-in-Err-clause-step : goal.returns-in-Err-clause-step
@@ -118,3 +123,11 @@ returns-in-Err-keep_and_give-clause-leaves g c =
     let u : NcsTables _ = record { server = record { journal = c.keep_and_give.new.journal; stopped = c.is_failed-self-inside.result; faults = g.K.Keeper.faults c.keep_and_give.new.keeper; peers = (with_items c.self.inside.peers c.keep_and_give.new.peers).items }; keeper = c.keep_and_give.new.keeper; kept = g.K.Keeper.kept c.keep_and_give.new.keeper } in
     (unkept-tables c.args.self.now _ e u c.in-Err-keep_and_give.fault c.command_fault.result c.command_fault.ensures c.self.view_is c.requires.running (sym same ∙ c.in-Ok.ensures.accepted) c.in-Err-keep_and_give.ensures.journal_err c.is_failed-self-inside.ensures
     (ap states peers ∙ (c.in-Err-keep_and_give.ensures.peers_err ∙ begun)) c.keep_and_give.ensures.rises c.in-Err-keep_and_give.ensures.appends).leaves
+
+pub returns-in-Err-clause-keeper : goal.returns-in-Err-clause-keeper
+returns-in-Err-clause-keeper g c = refused-keeper g.K.Keeper.appended c.args.self.now.keeper c.self.inside.keeper (entry_of c.args.edit.now) _ c.in-Err.fault c.in-Err.ensures.fault (ap (λ (n : NcsTables _). n.keeper) c.self.view_is)
+
+pub returns-in-Err-keep_and_give-clause-keeper : goal.returns-in-Err-keep_and_give-clause-keeper
+returns-in-Err-keep_and_give-clause-keeper g c =
+    subst (λ (k : _). LeavesKeeper g.K.Keeper.appended k c.keep_and_give.new.keeper (entry_of c.args.edit.now) (Err c.command_fault.result)) (ap (λ (n : NcsTables _). n.keeper) c.self.view_is)
+    (unkept-keeper g.K.Keeper.appended c.self.inside.keeper c.keep_and_give.new.keeper (entry_of c.args.edit.now) c.in-Err-keep_and_give.fault c.command_fault.result c.command_fault.ensures c.in-Err-keep_and_give.ensures.leaves)

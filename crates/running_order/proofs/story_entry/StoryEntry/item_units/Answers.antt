@@ -1,6 +1,6 @@
 use Rattle.std.proofs.Common.{◌≡◌, get_or, ap, sym, ◌∙◌}
 use Rattle.mos_values.specs.Units.{capped}
-use Rattle.running_order.specs.Sizes.{item_size, size_at}
+use Rattle.running_order.specs.Sizes.{item_size}
 use Rattle.running_order.proofs.SizeLemmas.{size_at-or, item_size-is}
 use Rattle.running_order.proofs.story_entry.StoryEntry.item_units.Goals as goal
 

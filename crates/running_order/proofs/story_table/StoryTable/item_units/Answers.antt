@@ -1,4 +1,4 @@
-use Rattle.std.proofs.Common.{◌≡◌, ◌<◌, length, Some, slice_get, sym, ap, subst, ◌∙◌}
+use Rattle.std.proofs.Common.{◌≡◌, ◌<◌, length, sym, ap, subst, ◌∙◌}
 use Rattle.indexmap.specs.IndexMap.{values}
 use Rattle.mos_values.specs.Units.{capped}
 use Rattle.running_order.specs.Places.{items_at}

@@ -1,4 +1,4 @@
-use Rattle.std.proofs.Common.{◌≡◌, Some, slice_get, sym, ap, ◌∙◌}
+use Rattle.std.proofs.Common.{sym, ap, ◌∙◌}
 use Rattle.indexmap.specs.IndexMap.{values}
 use Rattle.mos_fields.specs.Fields.{name_of}
 use Rattle.mos_fields.specs.declared.field.Field.TheVariants as fields

@@ -6,8 +6,6 @@ use Rattle.running_order.proofs.story_table.StoryTable.to_stories.Goals as goal
 pub loop-i-preserved : goal.loop-i-preserved
 loop-i-preserved c =
     let all = values c.self.inside.table in
-    let clone = c.in_ok-try_clone.field-0 in
-    let copied : clone ≡ c.index.result.now = c.in_ok-try_clone.ensures ∙ c.story.ensures in
     let next : suc c.loop-i.i ≡ c.loop-i.i + 1 = omega arith in
-    c.in_ok-push.ensures.ok ∙ (λ j. c.loop-i.invariant j ++ copied j ∷ [])
+    c.in_ok-add_copy.ensures ∙ (λ j. c.loop-i.invariant j ++ c.story.ensures j ∷ [])
     ∙ sym (taken_next all c.loop-i.i c.index.result.now c.index.ensures) ∙ ap (λ k. take k all) next

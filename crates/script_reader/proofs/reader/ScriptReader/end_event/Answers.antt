@@ -1,5 +1,5 @@
 use Rattle.std.proofs.Common.{subst, Err, Ok, ap, ◌∙◌, ◌++◌, ◌∷◌, []}
-use Rattle.world_events.specs.Events.{event_of, events_of}
+use Rattle.world_scripts.specs.WorldEvents.{event_of, events_of}
 use Rattle.script_reader.specs.Readers.{IsReader, IsEventLine}
 use Rattle.script_reader.proofs.ReaderLemmas.{event_refused, event_taken, events_one_more}
 use Rattle.script_reader.proofs.reader.ScriptReader.end_event.Goals as goal

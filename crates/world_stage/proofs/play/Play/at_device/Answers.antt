@@ -1,5 +1,5 @@
 use Rattle.std.proofs.Common.{ℕ, ◌<◌, subst}
-use Rattle.world_events.specs.Events.{pairing_event_of}
+use Rattle.world_scripts.specs.WorldEvents.{pairing_event_of}
 use Rattle.world_stage.proofs.Matched.{at-place, readable-at-device, sized-so}
 use Rattle.world_stage.proofs.play.Play.at_device.Goals as goal
 

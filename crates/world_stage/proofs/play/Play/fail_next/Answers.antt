@@ -1,5 +1,5 @@
 use Rattle.std.proofs.Common.{refl}
-use Rattle.world_events.specs.declared.outcome.Outcome.TheVariants.{Done}
+use Rattle.world_scripts.specs.declared.outcome.Outcome.TheVariants.{Done}
 use Rattle.world_stage.specs.declared.play.Play.{Play}
 use Rattle.world_stage.proofs.Plays.{failing-so}
 use Rattle.world_stage.proofs.play.Play.fail_next.Goals as goal

@@ -2,8 +2,8 @@ use Rattle.std.proofs.Common.{◌≡◌, List, length, nat_le, ◌&&◌, refl, s
 use Rattle.std.specs.Vec.{with_items}
 use Rattle.std.proofs.lemmas.List.{with_items_is}
 use Rattle.mos_edits.specs.Texts.{set_number}
-use Rattle.world_events.specs.Events.{direction_of}
-use Rattle.world_events.specs.declared.outcome.Outcome.TheVariants.{Done}
+use Rattle.world_scripts.specs.WorldEvents.{direction_of}
+use Rattle.world_scripts.specs.declared.outcome.Outcome.TheVariants.{Done}
 use Rattle.world_laws.specs.World.{lose}
 use Rattle.world_parts.specs.Matching.{MatchesConnections}
 use Rattle.world_parts.specs.declared.connection.Connection.{Connection}

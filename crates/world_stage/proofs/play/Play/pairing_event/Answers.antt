@@ -1,6 +1,6 @@
 use Rattle.std.proofs.Common.{ℕ, ◌<◌, refl, sym, subst}
 use Rattle.std.specs.Vec.{with_item}
-use Rattle.world_events.specs.Events.{pairing_event_of}
+use Rattle.world_scripts.specs.WorldEvents.{pairing_event_of}
 use Rattle.world_stage.specs.declared.play.Play.{Play}
 use Rattle.world_stage.proofs.Matched.{device-step, get-found}
 use Rattle.world_stage.proofs.play.Play.pairing_event.Goals as goal

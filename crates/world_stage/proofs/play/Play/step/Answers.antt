@@ -1,4 +1,4 @@
-use Rattle.world_events.specs.Events.{event_of}
+use Rattle.world_scripts.specs.WorldEvents.{event_of}
 use Rattle.world_laws.specs.World.{WorldEvent, world_step}
 use Rattle.world_stage.proofs.play.Play.step.Goals as goal
 

@@ -1,4 +1,4 @@
-use Rattle.world_events.specs.Events.{event_of}
+use Rattle.world_scripts.specs.WorldEvents.{event_of}
 use Rattle.world_stage.proofs.Runs.{told-more}
 use Rattle.world_stage.proofs.stage.WorldStageStage.step.Goals as goal
 

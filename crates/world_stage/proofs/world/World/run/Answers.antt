@@ -1,6 +1,6 @@
 use Rattle.std.proofs.Common.{List, sym, ap, ◌∙◌, subst, arith}
-use Rattle.world_events.specs.Events.{event_of, events_of}
-use Rattle.world_events.specs.declared.world_event.WorldEvent.{WorldEvent as Seen}
+use Rattle.world_scripts.specs.WorldEvents.{event_of, events_of}
+use Rattle.world_scripts.specs.declared.world_event.WorldEvent.{WorldEvent as Seen}
 use Rattle.world_laws.specs.World.{World, opening, run, world_step}
 use Rattle.world_stage.specs.Matching.{Shows}
 use Rattle.world_stage.specs.Worlds.{HaveSoundEdits}

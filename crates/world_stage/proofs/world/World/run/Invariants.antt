@@ -1,5 +1,5 @@
 use Rattle.std.proofs.Common.{drop}
-use Rattle.world_events.specs.Events.{events_of}
+use Rattle.world_scripts.specs.WorldEvents.{events_of}
 use Rattle.world_stage.specs.Worlds.{HaveSoundEdits}
 use Rattle.world_stage.proofs.Runs.{RunsOn}
 use Rattle.world_stage.proofs.world.World.run.Given as goal

@@ -1,0 +1,51 @@
+-- Worked events: which call of the decks each makes.
+use Rattle.std.proofs.Common.{◌≡◌, true, Option, None, Some, refl}
+use Rattle.mos_edits.specs.Texts.{Text}
+use Rattle.mos_edits.specs.Orders.{HeaderPatch, Order, apply}
+use Rattle.mos_values.specs.declared.message.Message.TheVariants as carried
+use Rattle.mos_fields.specs.declared.air.Air.TheVariants.{Ready, NotReady}
+use Rattle.mos_machines.specs.Device.{Decks, GateState, Phase, no_gate}
+use Rattle.mos_machines.specs.Device.Phase.{InStep, OutOfStep, Asked}
+use Rattle.mos_machines.specs.Steps.DeviceEvent.{ReadUpper}
+use Rattle.mos_machines.specs.Values.{seen}
+use Rattle.deck_nodes.specs.DeckCalls.{event_call}
+use Rattle.deck_nodes.specs.DeckCalls.DeckCall.{NoCall, Load, Arm, Disarm}
+
+-- a gateway to which connection 1 is current, and all of whose orders stand so
+abbrev standing : Phase → Option Order → GateState
+standing p o = record no_gate { upper = Some 1; held = λ r. o; phase = λ r. p }
+
+abbrev one_left : Decks
+one_left = record { handed = true; left = 1 }
+
+created : (body : Order) → event_call (standing OutOfStep None) (ReadUpper 1 (seen (carried.RoCreate body)) one_left) ≡ Load body.header.ro
+created body = refl
+
+created-elsewhere : (body : Order) → event_call (standing OutOfStep None) (ReadUpper 2 (seen (carried.RoCreate body)) one_left) ≡ NoCall
+created-elsewhere body = refl
+
+created-while-asked : (body : Order) → event_call (standing Asked None) (ReadUpper 1 (seen (carried.RoCreate body)) one_left) ≡ NoCall
+created-while-asked body = refl
+
+changed-in-step : (o : Order) (patch : HeaderPatch) → event_call (standing InStep (Some o)) (ReadUpper 1 (seen (carried.RoMetadataReplace patch)) one_left) ≡ Load patch.ro
+unfolding apply
+changed-in-step o patch = refl
+
+changed-out-of-step : (o : Order) (patch : HeaderPatch) → event_call (standing OutOfStep (Some o)) (ReadUpper 1 (seen (carried.RoMetadataReplace patch)) one_left) ≡ NoCall
+changed-out-of-step o patch = refl
+
+changed-where-there-is-none : (patch : HeaderPatch) → event_call (standing InStep None) (ReadUpper 1 (seen (carried.RoMetadataReplace patch)) one_left) ≡ NoCall
+unfolding apply
+changed-where-there-is-none patch = refl
+
+released : (o : Order) (ro : Text) → event_call (standing InStep (Some o)) (ReadUpper 1 (seen (carried.RoReadyToAir ro Ready)) one_left) ≡ Arm ro
+released o ro = refl
+
+released-out-of-step : (o : Order) (ro : Text) → event_call (standing OutOfStep (Some o)) (ReadUpper 1 (seen (carried.RoReadyToAir ro Ready)) one_left) ≡ NoCall
+released-out-of-step o ro = refl
+
+taken-back : (o : Order) (ro : Text) → event_call (standing InStep (Some o)) (ReadUpper 1 (seen (carried.RoReadyToAir ro NotReady)) one_left) ≡ Disarm ro
+taken-back o ro = refl
+
+deleted : (o : Order) (ro : Text) → event_call (standing InStep (Some o)) (ReadUpper 1 (seen (carried.RoDelete ro)) one_left) ≡ Load ro
+deleted o ro = refl

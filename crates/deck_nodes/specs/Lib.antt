@@ -1,0 +1,7 @@
+pub mod Ports
+pub mod DeckCalls
+pub mod Left
+pub mod Telling
+pub mod GatewayNodes
+pub mod NodeSteps
+pub mod ExactDecks

@@ -1,0 +1,4 @@
+pub mod Playlists
+pub mod Decks
+pub mod Memory
+pub mod Lines

@@ -1,0 +1,18 @@
+use Rattle.std.proofs.Common.{take, sym, ap, ◌∙◌}
+use Rattle.mos_edits.specs.Texts.{has_id}
+use Rattle.element_action.specs.Levels.{level_ids}
+use Rattle.element_action.proofs.SourceLemmas.{missing_next, missing_end}
+use Rattle.element_action.proofs.search.find_missing_by_pairs.Goals as goal
+
+pub loop-k-preserved : goal.loop-k-preserved
+loop-k-preserved c =
+    let there = level_ids c.args.level c.args.order.now.stories in
+    let ss = c.args.sources.now in
+    let k = c.loop-k.k in
+    let x = c.index-sources-k.result in
+    c.loop-k.invariant ∙ missing_next there ss k x c.loop-k-test.true
+    (ap (λ u. has_id u there) (sym c.index-sources-k.is) ∙ sym c.is_there.ensures ∙ c.if-not-is_there.false)
+    (ap (λ u. has_id u (take k ss)) (sym c.index-sources-k.is) ∙ sym c.is_among.ensures ∙ c.if-is_among.false)
+
+pub returns : goal.returns
+returns c = sym (c.loop-k.invariant ∙ missing_end (level_ids c.args.level c.args.order.now.stories) c.args.sources.now c.loop-k.k c.loop-k-test.false)

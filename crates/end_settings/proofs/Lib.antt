@@ -1,0 +1,4 @@
+pub mod AmongLemmas
+pub mod TableLemmas
+pub mod GivesLemmas
+pub mod DeviceLemmas

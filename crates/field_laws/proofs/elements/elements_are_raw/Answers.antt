@@ -1,5 +1,0 @@
-use Rattle.field_laws.proofs.ElementLaws.{elements_raw}
-use Rattle.field_laws.proofs.elements.elements_are_raw.Goals as goal
-
-pub returns : goal.returns
-returns c = elements_raw

@@ -1,5 +1,0 @@
-use Rattle.field_laws.proofs.NumberLaws.{revs_back}
-use Rattle.field_laws.proofs.numbers.revs_are_read_back.Goals as goal
-
-pub returns : goal.returns
-returns c = revs_back

@@ -1,5 +1,0 @@
-use Rattle.field_laws.proofs.TextLaws.{names_back}
-use Rattle.field_laws.proofs.texts.names_are_read_back.Goals as goal
-
-pub returns : goal.returns
-returns c = names_back

@@ -1,5 +1,0 @@
-use Rattle.field_laws.proofs.TextLaws.{opt_ids_back}
-use Rattle.field_laws.proofs.texts.opt_ids_are_read_back.Goals as goal
-
-pub returns : goal.returns
-returns c = opt_ids_back

@@ -1,5 +1,0 @@
-use Rattle.field_laws.proofs.TextLaws.{slugs_back}
-use Rattle.field_laws.proofs.texts.slugs_are_read_back.Goals as goal
-
-pub returns : goal.returns
-returns c = slugs_back

@@ -1,5 +1,0 @@
-use Rattle.field_laws.proofs.TextLaws.{texts_back}
-use Rattle.field_laws.proofs.texts.texts_are_read_back.Goals as goal
-
-pub returns : goal.returns
-returns c = texts_back

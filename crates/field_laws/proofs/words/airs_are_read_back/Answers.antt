@@ -1,5 +1,0 @@
-use Rattle.field_laws.proofs.WordLaws.{airs_back}
-use Rattle.field_laws.proofs.words.airs_are_read_back.Goals as goal
-
-pub returns : goal.returns
-returns c = airs_back

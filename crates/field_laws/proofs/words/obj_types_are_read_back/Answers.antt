@@ -1,5 +1,0 @@
-use Rattle.field_laws.proofs.WordLaws.{obj_types_back}
-use Rattle.field_laws.proofs.words.obj_types_are_read_back.Goals as goal
-
-pub returns : goal.returns
-returns c = obj_types_back

@@ -1,0 +1,4 @@
+pub mod Connections
+pub mod Taking
+pub mod Servers
+pub mod Gateways

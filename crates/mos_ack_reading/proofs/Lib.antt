@@ -1,5 +1,0 @@
-mod Stages
-mod Children
-mod Walk
-mod Taken
-mod Loops

@@ -1,7 +1,0 @@
-pub mod KeyLemmas
-pub mod PartLemmas
-pub mod FrameLemmas
-pub mod ColumnLemmas
-pub mod RoleLemmas
-pub mod TextLemmas
-pub mod NameUnits

@@ -1,5 +1,0 @@
-use Rattle.std.proofs.Common.{length}
-use Rattle.mos_frames.proofs.aiming.+has_leaf.Given as goal
-
-abbrev pub decreases-has_leaf : goal.decreases-has_leaf
-decreases-has_leaf l = length l.events.now

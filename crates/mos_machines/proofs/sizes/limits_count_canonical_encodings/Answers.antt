@@ -1,0 +1,8 @@
+use Rattle.mos_machines.proofs.SizeLemmas.{order-units, orders-units}
+use Rattle.mos_machines.proofs.sizes.limits_count_canonical_encodings.Goals as goal
+
+pub returns-clause-order : goal.returns-clause-order
+returns-clause-order c = order-units
+
+pub returns-clause-orders : goal.returns-clause-orders
+returns-clause-orders c = orders-units

@@ -1,0 +1,5 @@
+mod Children
+mod Loops
+mod Stages
+mod Taken
+mod Walk

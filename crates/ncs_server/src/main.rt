@@ -1,0 +1,44 @@
+//! A newsroom system's server. `ncs_server FILE` reads its settings from the file, loads its journal, listens at its ports and
+//! dials its devices.
+#![tactic(auto)]
+
+mod running;
+mod texts;
+
+use crate::running::run_server;
+use crate::texts::about;
+use program_ends::ProgramEnd;
+use std::env;
+use std::io::ErrorKind;
+use std::process::ExitCode;
+
+/// The words behind the program's name. One that isn't UTF-8 is no path here.
+fn arguments(rt: &HostRuntime) -> Result<Vec<String>, ProgramEnd> {
+    match env::args(rt) {
+        Ok(args) => match args.skip(1).collect(rt.alloc()) {
+            Ok(words) => Ok(words),
+            Err(_) => Err(ProgramEnd::NoMemory),
+        },
+        Err(fault) if fault.kind() == ErrorKind::InvalidData => Err(ProgramEnd::Usage),
+        Err(_) => Err(ProgramEnd::NoMemory),
+    }
+}
+
+/// Says how the program ended.
+fn said(rt: &HostRuntime, end: ProgramEnd) -> ExitCode {
+    let _ = eprintln!(rt; "{end}");
+    ExitCode::from(end.status())
+}
+
+fn main(rt: HostRuntime) -> ExitCode {
+    let words = match arguments(&rt) {
+        Ok(words) => words,
+        Err(end) => return said(&rt, end),
+    };
+    if let Some(text) = about(&words) {
+        let _ = print!(rt; "{text}");
+        return ExitCode::SUCCESS;
+    }
+    let end = run_server(rt, rt, &words);
+    said(&rt, end)
+}

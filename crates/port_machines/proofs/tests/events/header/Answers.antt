@@ -1,5 +1,0 @@
-use Rattle.port_machines.proofs.PlainOrders.{plain-header}
-use Rattle.port_machines.proofs.tests.events.header.Goals as goal
-
-pub returns : goal.returns
-returns c = plain-header c.in_ok-ro.ro c.in_ok-slug.slug c.new.result c.new-2.result c.new.ensures c.new-2.ensures

@@ -1,0 +1,2 @@
+pub mod NewSides
+pub mod KeptDevices

@@ -1,0 +1,2 @@
+pub mod ServerNodes
+pub mod GatewayNodes

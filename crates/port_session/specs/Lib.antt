@@ -1,0 +1,10 @@
+pub mod Answering
+pub mod Calls
+pub mod Driven
+pub mod Driving
+pub mod Events
+pub mod Messages
+pub mod Pieces
+pub mod Reading
+pub mod Serving
+pub mod Writing

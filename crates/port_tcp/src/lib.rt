@@ -1,0 +1,20 @@
+//! The outside of the programs: connections over TCP, the system's time, and pauses that last. They stand for what the
+//! contracts can't see, and are trusted to do what their texts say.
+#![tactic(auto)]
+
+mod clock;
+mod counting;
+mod dialer;
+mod few;
+mod moment;
+mod pacer;
+mod port;
+mod stream;
+
+pub use clock::SystemClock;
+pub use dialer::TcpDialer;
+pub use few::Few;
+pub use moment::time_of;
+pub use pacer::SleepPacer;
+pub use port::TcpPort;
+pub use stream::{TcpSink, TcpSource};

@@ -1,0 +1,85 @@
+//! Seconds as times.
+ghost use Rattle.std.specs.Prelude.{◌≡◌, ◌/◌, IfSome, pos};
+ghost use Rattle.jiff.specs.Words.{epoch_day, IsYmd};
+ghost use Rattle.port_tcp.specs.Moments.{IsMoment};
+
+use jiff::ToSpan;
+use jiff::civil::{Date, date};
+use mos_fields::{MosTime, Zone, is_day};
+
+// The seconds of a day.
+const DAY: u64 = 86_400;
+
+// As many days are before the year 10000.
+const DAYS: u64 = 2_932_897;
+
+/// The begin of 1970.
+pub(crate) fn first_time() -> MosTime {
+    MosTime {
+        year: 1970,
+        month: 1,
+        day: 1,
+        hour: 0,
+        minute: 0,
+        second: 0,
+        millis: None,
+        zone: Zone::Z,
+    }
+}
+
+// The day so many days after the first of 1970, in the years 1970 to 9999.
+fn day_of(days: u64) -> Option<Date>
+    ensures { IfSome result (λ d. epoch_day d ≡ pos days) }
+{
+    if days >= DAYS {
+        return None;
+    }
+    match date(1970, 1, 1).checked_add((days as i64).days()) {
+        Ok(day) => Some(day),
+        Err(_) => None,
+    }
+}
+
+// The numbers of a day, from the year 0 on.
+fn numbers_of(day: Date) -> Option<(u16, u8, u8)>
+    ensures { IfSome result (λ n. IsYmd (pos n.0) (pos n.1) (pos n.2) day) }
+{
+    let year = day.year();
+    if year < 0 {
+        return None;
+    }
+    Some((year as u16, day.month() as u8, day.day() as u8))
+}
+
+// The time on the day of which so many seconds are.
+fn time_on(day: Date, seconds: u64) -> Option<MosTime>
+    requires { epoch_day day ≡ pos (seconds / 86400) }
+    ensures { IfSome result (IsMoment seconds) }
+{
+    let (year, month, number) = numbers_of(day)?;
+    let rest = seconds % DAY;
+    let hour = rest / 3600;
+    let minute = rest / 60 % 60;
+    let second = rest % 60;
+    if year > 9999 || month > 99 || number > 99 || !is_day(year, month.into(), number.into()) {
+        return None;
+    }
+    Some(MosTime {
+        year,
+        month,
+        day: number,
+        hour: hour as u8,
+        minute: minute as u8,
+        second: second as u8,
+        millis: None,
+        zone: Zone::Z,
+    })
+}
+
+/// The time in UTC so many seconds after the begin of 1970, leap seconds not counted. None past the year 9999.
+pub fn time_of(seconds: u64) -> Option<MosTime>
+    ensures { IfSome result (IsMoment seconds) }
+{
+    let day = day_of(seconds / DAY)?;
+    time_on(day, seconds)
+}

@@ -1,0 +1,33 @@
+//! The ports of this machine, and the pauses of its workers.
+use crate::program_end::ProgramEnd;
+use port_events::Side;
+use port_tcp::{SleepPacer, TcpPort};
+use std::net::{Ipv4Addr, Net, TcpListener, TcpStream};
+use std::sync::Arc;
+use std::sync::atomic::AtomicU64;
+use std::time::{Clock, Duration};
+
+// How long a worker that dials pauses before it asks for what is next, or dials again, in milliseconds.
+const PAUSE: u64 = 100;
+
+// After so many pauses a worker that dials sends a heartbeat: after half a minute.
+const BEAT: u64 = 300;
+
+/// The port of this number, on every address of this machine, for connections at this side. `NoPort` where it can't be
+/// opened.
+pub fn port_at<R: Net<Listener = TcpListener, Stream = TcpStream> + Clock + Copy + Drop>(
+    rt: R,
+    port: u16,
+    side: Side,
+    numbers: Arc<AtomicU64>,
+) -> Result<TcpPort<R>, ProgramEnd> {
+    match TcpListener::bind(&rt, (Ipv4Addr::UNSPECIFIED, port)) {
+        Ok(listener) => Ok(TcpPort::new(rt, listener, side, numbers)),
+        Err(_) => Err(ProgramEnd::NoPort(port)),
+    }
+}
+
+/// The pauses of a program's workers: a tenth of a second each, with a heartbeat every half minute. They never stop.
+pub fn pacer<R: Clock + Copy + Drop>(rt: R) -> SleepPacer<R> {
+    SleepPacer::new(rt, Duration::from_millis(PAUSE), BEAT, None)
+}

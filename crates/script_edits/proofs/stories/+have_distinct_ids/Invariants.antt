@@ -1,5 +1,0 @@
-use Rattle.std.proofs.Common.{length}
-use Rattle.script_edits.proofs.stories.+have_distinct_ids.Given as goal
-
-abbrev pub decreases-have_distinct_ids : goal.decreases-have_distinct_ids
-decreases-have_distinct_ids l = length l.stories.now

@@ -1,0 +1,48 @@
+//! The server's machine, from its journal.
+ghost use Rattle.std.specs.Prelude.{◌≡◌, ◌≤◌, IfErr, IfOk};
+ghost use Rattle.ncs_core.specs.Starting.{IsStartCause};
+ghost use Rattle.ncs_core.specs.State.{devices_of};
+ghost use Rattle.serve_ends.specs.Ends.{IsStarted};
+
+use mos_values::MachInfo;
+use ncs_core::{Ncs, StartCause, StartFault};
+use port_nodes::NcsNode;
+use rundown_log::Keeper;
+use serve_ends::ServeEnd;
+use std::alloc::Global;
+
+// Why the server isn't started.
+fn not_started<K: Keeper + Drop>(fault: StartFault<K>) -> ServeEnd<K>
+    ensures { (keeper : K) → IsStartCause (K.kept keeper) (K.faults keeper) (K.faults fault.keeper) fault.cause → IsStarted K.kept K.faults keeper result }
+{
+    let StartFault { keeper, cause } = fault;
+    match cause {
+        StartCause::StoreFault => ServeEnd::StoreFault { keeper },
+        StartCause::BadEntry { number } => ServeEnd::BadEntry { number, keeper },
+        StartCause::NoMemory => ServeEnd::NoMemory,
+    }
+}
+
+/// The machine of a server of 1 to 64 devices that says this of itself, with the entries that its keeper loads.
+///
+/// `StoreFault` comes only where the keeper failed and counted that, `BadEntry` exactly at the first entry that isn't
+/// accepted after those before it; both give the keeper back. Else the only error is that memory runs out.
+pub fn start_node<K: Keeper + Drop>(
+    alloc: Global,
+    keeper: K,
+    devices: u32,
+    info: MachInfo,
+) -> Result<NcsNode<K>, ServeEnd<K>>
+    requires { (1 ≤ devices) × (devices ≤ 64) }
+    ensures devices { IfOk result (λ n. devices_of n.ncs ≡ devices) }
+    ensures fault { IfErr result (λ end. IsStarted K.kept K.faults keeper end) }
+{
+    let ncs = match Ncs::start(alloc, keeper, devices) {
+        Ok(ncs) => ncs,
+        Err(fault) => return Err(not_started(fault)),
+    };
+    match NcsNode::new(alloc, ncs, info) {
+        Ok(node) => Ok(node),
+        Err(_) => Err(ServeEnd::NoMemory),
+    }
+}

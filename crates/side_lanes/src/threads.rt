@@ -1,0 +1,75 @@
+//! A thread for each job.
+ghost use Rattle.std.specs.Prelude.{◌≡◌, ◌≤◌};
+ghost use Rattle.mos_io.specs.Counts.{Rose};
+
+use mos_io::Failed;
+use port_links::{Job, Spawner};
+use std::thread::{Builder, Threads};
+
+// The stack of a worker, in bytes. A session needs half of it; the system's look-up of a machine's name, which a worker
+// that dials calls, may need more than that.
+const STACK: usize = 524_288;
+
+/// Starts a thread that does the job and drops its report. The only error is that no thread can be made; the job is
+/// dropped then.
+pub fn start_thread<J: Job + Send + 'static, R: Threads>(rt: &R, job: J) -> Result<(), Failed>
+where
+    J::Report: Send + 'static,
+{
+    match Builder::new().stack_size(STACK).spawn(rt, move || {
+        let _report = job.run();
+    }) {
+        Ok(_handle) => Ok(()),
+        Err(_refused) => Err(Failed),
+    }
+}
+
+fn count_one(count: &mut u64)
+    ensures rose { Rose count.old count.new }
+    ensures rises { count.old ≤ count.new }
+{
+    *count = count.saturating_add(1);
+}
+
+/// Starts each job by a function that the caller hands in, as one that calls `start_thread`. How many it started isn't
+/// observable.
+///
+/// It is ready where that function may be called. A closure over the caller's types is made where the call is made: no
+/// method of a trait can start a thread of a job of unknown type.
+#[derive(Drop)]
+pub struct StartSpawner<F: Drop> {
+    start_job: F,
+    faults: u64,
+}
+
+impl<F: Drop> StartSpawner<F> {
+    /// A spawner over this function, with no fault so far.
+    pub fn new(start_job: F) -> Self
+        ensures { result.start_job ≡ start_job }
+    {
+        StartSpawner {
+            start_job,
+            faults: 0,
+        }
+    }
+}
+
+impl<J: Job, F: Fn(J) -> Result<(), Failed> + Drop> Spawner<J> for StartSpawner<F> {
+    ghost use Rattle.std.specs.Prelude.{None};
+
+    ghost ready = { λ s. F.IsAlwaysCallable s.start_job };
+
+    ghost took = { λ s. None };
+
+    ghost faults = { λ s. s.faults };
+
+    fn start(&mut self, job: J) -> Result<(), Failed> {
+        match (self.start_job)(job) {
+            Ok(()) => Ok(()),
+            Err(failed) => {
+                count_one(&mut self.faults);
+                Err(failed)
+            }
+        }
+    }
+}
