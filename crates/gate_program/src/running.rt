@@ -1,9 +1,14 @@
 //! A run of the gateway.
+ghost use Rattle.std.specs.Prelude.{◌≡◌, ◌≢◌, ◌⊎◌, IfErr, IfOk, MatchResult, length};
+ghost use Rattle.program_ends.specs.Ends.{IsGateEnd};
+ghost use Rattle.program_ends.specs.declared.program_end.ProgramEnd.TheVariants.{NoMemory, NoPort, Usage};
+
 use end_settings::{GateSettings, read_gate_settings};
 use gate_serving::gate_serve_by_threads;
 use mos_io::{Capped, StdSource};
 use object_reading::read_objects;
 use object_table::ObjectTable;
+use port_doors::GateListeners;
 use port_events::Side;
 use port_tcp::{SystemClock, TcpDialer, TcpPort};
 use program_ends::{FileOf, ProgramEnd, pacer, path_of, port_at, read_file};
@@ -16,7 +21,9 @@ use std::thread::Threads;
 use std::time::Clock;
 
 // The settings in a file.
-fn settings_in<R: Files + AllocGlobal>(rt: &R, path: &str) -> Result<GateSettings, ProgramEnd> {
+fn settings_in<R: Files + AllocGlobal>(rt: &R, path: &str) -> Result<GateSettings, ProgramEnd>
+    ensures { IfErr result (λ end. IsGateEnd end) }
+{
     let text = read_file(rt, path, FileOf::Settings)?;
     match read_gate_settings(rt.alloc(), &text) {
         Ok(settings) => Ok(settings),
@@ -32,6 +39,7 @@ fn objects_in<R: Files + AllocGlobal>(
 ) -> Result<ObjectTable, ProgramEnd>
 where
     R::File: Drop,
+    ensures { IfErr result (λ end. IsGateEnd end) }
 {
     match fs::open(rt, path) {
         Ok(file) => {
@@ -52,6 +60,7 @@ fn objects_of<R: Files + AllocGlobal>(
 ) -> Result<ObjectTable, ProgramEnd>
 where
     R::File: Drop,
+    ensures { IfErr result (λ end. IsGateEnd end) }
 {
     match &settings.objects {
         None => Ok(ObjectTable::new(rt.alloc())),
@@ -63,22 +72,41 @@ where
 }
 
 // One more holder of the counter of connections.
-fn counter(numbers: &Arc<AtomicU64>) -> Result<Arc<AtomicU64>, ProgramEnd> {
+fn counter(numbers: &Arc<AtomicU64>) -> Result<Arc<AtomicU64>, ProgramEnd>
+    ensures { IfErr result (λ end. end ≡ NoMemory) }
+{
     match Arc::try_clone(numbers) {
         Ok(numbers) => Ok(numbers),
         Err(_) => Err(ProgramEnd::NoMemory),
     }
 }
 
-// The two ports: for running orders, and for objects.
+// One port more, for connections at this side.
+fn next_port<R: Net<Listener = TcpListener, Stream = TcpStream> + Clock + Copy + Drop>(
+    rt: R,
+    port: u16,
+    side: Side,
+    numbers: &Arc<AtomicU64>,
+) -> Result<TcpPort<R>, ProgramEnd>
+    ensures { IfErr result (λ end. (end ≡ NoMemory) ⊎ (end ≡ NoPort port)) }
+{
+    port_at(rt, port, side, counter(numbers)?)
+}
+
+// The two ports: for running orders, and for objects. No worker is refused so far.
 fn ports_of<R: Net<Listener = TcpListener, Stream = TcpStream> + Clock + Copy + Drop>(
     rt: R,
     settings: &GateSettings,
     numbers: &Arc<AtomicU64>,
-) -> Result<(TcpPort<R>, TcpPort<R>), ProgramEnd> {
-    let upper = port_at(rt, settings.upper, Side::Upper, counter(numbers)?)?;
-    let lower = port_at(rt, settings.lower, Side::Lower, counter(numbers)?)?;
-    Ok((upper, lower))
+) -> Result<GateListeners<TcpPort<R>>, ProgramEnd>
+    ensures refused { IfOk result (λ l. l.refused ≡ 0) }
+    ensures fault { IfErr result (λ end. (end ≡ NoMemory) ⊎ ((end ≡ NoPort settings.now.upper) ⊎ (end ≡ NoPort settings.now.lower))) }
+{
+    Ok(GateListeners {
+        upper: next_port(rt, settings.upper, Side::Upper, numbers)?,
+        lower: next_port(rt, settings.lower, Side::Lower, numbers)?,
+        refused: 0,
+    })
 }
 
 // Serves by these settings.
@@ -97,22 +125,22 @@ fn serve<
 >(rt: R, settings: &GateSettings) -> Result<ProgramEnd, ProgramEnd>
 where
     R::File: Drop,
+    ensures { MatchResult result IsGateEnd IsGateEnd }
 {
     let alloc = rt.alloc();
     let objects = objects_of(&rt, settings)?;
     let Ok(numbers) = Arc::new(alloc, AtomicU64::new(1)) else {
         return Err(ProgramEnd::NoMemory);
     };
-    let (upper, lower) = ports_of(rt, settings, &numbers)?;
+    let listeners = ports_of(rt, settings, &numbers)?;
     let dialer = TcpDialer::new(rt, alloc, Side::Upper, numbers);
     let clock = SystemClock::new(rt);
-    let end = gate_serve_by_threads(
+    let (end, _listeners) = gate_serve_by_threads(
         &rt,
         alloc,
         settings,
         objects,
-        upper,
-        lower,
+        listeners,
         dialer,
         pacer(rt),
         clock,
@@ -136,12 +164,13 @@ fn run_with<
 >(rt: R, path: &str) -> Result<ProgramEnd, ProgramEnd>
 where
     R::File: Drop,
+    ensures { MatchResult result IsGateEnd IsGateEnd }
 {
     let settings = settings_in(&rt, path)?;
     serve(rt, &settings)
 }
 
-/// Runs the gateway with the words behind the program's name: the path of its settings.
+/// Runs the gateway with the words behind the program's name: the path of its settings. `Usage` comes exactly where these words aren't one.
 ///
 /// What isn't as it should be is looked for in this order: the words, the settings' file, the settings, the objects, the
 /// ports. Memory may run out at each.
@@ -160,6 +189,8 @@ pub fn run_gateway<
 >(rt: R, words: &[String]) -> ProgramEnd
 where
     R::File: Drop,
+    ensures usage { length words.now ≢ 1 → result ≡ Usage }
+    ensures ends { length words.now ≡ 1 → IsGateEnd result }
 {
     let [path] = words else {
         return ProgramEnd::Usage;
