@@ -1,7 +1,7 @@
 //! A run of the server.
-ghost use Rattle.std.specs.Prelude.{◌≡◌, ◌≢◌, ◌⊎◌, IfErr, IfOk, MatchResult, length};
+ghost use Rattle.std.specs.Prelude.{◌≡◌, ◌≢◌, ◌⊎◌, IfErr, IfOk, length};
 ghost use Rattle.end_settings.specs.Devices.{AreDevices};
-ghost use Rattle.program_ends.specs.Ends.{IsNoFile, IsServerEnd};
+ghost use Rattle.program_ends.specs.Ends.{IsNoFile, IsNoSettings, IsServerRunEnd};
 ghost use Rattle.program_ends.specs.declared.program_end.FileOf.TheVariants.{Log};
 ghost use Rattle.program_ends.specs.declared.program_end.ProgramEnd.TheVariants.{NoMemory, NoPort, Usage};
 
@@ -18,11 +18,15 @@ use std::sync::{Arc, Wait};
 use std::thread::Threads;
 
 // The settings in a file.
+#[tactic(auto, using(program_ends::proofs::RunEnds::unread_settings, program_ends::proofs::RunEnds::refused_settings))]
 fn settings_in(rt: &HostRuntime, path: &str) -> Result<ServerSettings, ProgramEnd>
     ensures devices { IfOk result (λ s. AreDevices s.devices) }
-    ensures fault { IfErr result (λ end. IsServerEnd end) }
+    ensures fault { IfErr result (λ end. IsNoSettings end) }
 {
-    let text = read_file(rt, path, FileOf::Settings)?;
+    let text = match read_file(rt, path, FileOf::Settings) {
+        Ok(text) => text,
+        Err(end) => return Err(end),
+    };
     match read_server_settings(rt.alloc(), &text) {
         Ok(settings) => Ok(settings),
         Err(fault) => Err(ProgramEnd::of_settings(fault)),
@@ -46,16 +50,6 @@ fn keeper_of(
     }
 }
 
-// One more holder of the counter of connections.
-fn counter(numbers: &Arc<AtomicU64>) -> Result<Arc<AtomicU64>, ProgramEnd>
-    ensures { IfErr result (λ end. end ≡ NoMemory) }
-{
-    match Arc::try_clone(numbers) {
-        Ok(numbers) => Ok(numbers),
-        Err(_) => Err(ProgramEnd::NoMemory),
-    }
-}
-
 // One port more, for connections at this side.
 fn next_port(
     rt: HostRuntime,
@@ -63,9 +57,16 @@ fn next_port(
     side: Side,
     numbers: &Arc<AtomicU64>,
 ) -> Result<TcpPort<HostRuntime>, ProgramEnd>
-    ensures { IfErr result (λ end. (end ≡ NoMemory) ⊎ (end ≡ NoPort port)) }
+    ensures fault { IfErr result (λ end. (end ≡ NoMemory) ⊎ (end ≡ NoPort port)) }
+    ensures run { IfErr result (λ end. IsServerRunEnd end) }
 {
-    port_at(rt, port, side, counter(numbers)?)
+    let Ok(numbers) = Arc::try_clone(numbers) else {
+        return Err(ProgramEnd::NoMemory);
+    };
+    match port_at(rt, port, side, numbers) {
+        Ok(port) => Ok(port),
+        Err(_) => Err(ProgramEnd::NoPort(port)),
+    }
 }
 
 // The three ports: for running orders, for objects, and for editors. No worker is refused so far.
@@ -76,6 +77,7 @@ fn ports_of(
 ) -> Result<ServerListeners<TcpPort<HostRuntime>>, ProgramEnd>
     ensures refused { IfOk result (λ l. l.refused ≡ 0) }
     ensures fault { IfErr result (λ end. (end ≡ NoMemory) ⊎ ((end ≡ NoPort settings.now.upper) ⊎ ((end ≡ NoPort settings.now.lower) ⊎ (end ≡ NoPort settings.now.editor)))) }
+    ensures run { IfErr result (λ end. IsServerRunEnd end) }
 {
     Ok(ServerListeners {
         upper: next_port(rt, settings.upper, Side::Upper, numbers)?,
@@ -86,20 +88,27 @@ fn ports_of(
 }
 
 // Serves by these settings.
+#[tactic(auto, using(program_ends::proofs::RunEnds::server_log, program_ends::proofs::RunEnds::server_served))]
 fn serve<R: Threads + Wait + Copy + Drop + Send + Sync + 'static>(
     rt: HostRuntime,
     threads: R,
     settings: &ServerSettings,
-) -> Result<ProgramEnd, ProgramEnd>
+) -> ProgramEnd
     requires { AreDevices settings.now.devices }
-    ensures { MatchResult result IsServerEnd IsServerEnd }
+    ensures { IsServerRunEnd result }
 {
     let alloc = rt.alloc();
-    let keeper = keeper_of(&rt, settings)?;
-    let Ok(numbers) = Arc::new(alloc, AtomicU64::new(1)) else {
-        return Err(ProgramEnd::NoMemory);
+    let keeper = match keeper_of(&rt, settings) {
+        Ok(keeper) => keeper,
+        Err(end) => return end,
     };
-    let listeners = ports_of(rt, settings, &numbers)?;
+    let Ok(numbers) = Arc::new(alloc, AtomicU64::new(1)) else {
+        return ProgramEnd::NoMemory;
+    };
+    let listeners = match ports_of(rt, settings, &numbers) {
+        Ok(listeners) => listeners,
+        Err(end) => return end,
+    };
     let dialer = TcpDialer::new(rt, alloc, Side::Upper, numbers);
     let clock = SystemClock::new(rt);
     let (end, _listeners) = ncs_serve_by_threads(
@@ -112,39 +121,39 @@ fn serve<R: Threads + Wait + Copy + Drop + Send + Sync + 'static>(
         pacer(rt),
         clock,
     );
-    Ok(ProgramEnd::of_serving(end))
+    ProgramEnd::of_serving(end)
 }
 
 // A run with the settings in a file.
+#[tactic(auto, using(program_ends::proofs::RunEnds::server_settings))]
 fn run_with<R: Threads + Wait + Copy + Drop + Send + Sync + 'static>(
     rt: HostRuntime,
     threads: R,
     path: &str,
-) -> Result<ProgramEnd, ProgramEnd>
-    ensures { MatchResult result IsServerEnd IsServerEnd }
+) -> ProgramEnd
+    ensures { IsServerRunEnd result }
 {
-    let settings = settings_in(&rt, path)?;
-    serve(rt, threads, &settings)
+    match settings_in(&rt, path) {
+        Ok(settings) => serve(rt, threads, &settings),
+        Err(end) => end,
+    }
 }
 
 /// Runs the server, whose workers are started by `threads`, with the words behind the program's name: the path of its
-/// settings. `Usage` comes exactly where these words aren't one.
+/// settings.
 ///
-/// What isn't as it should be is looked for in this order: the words, the settings' file, the settings, the journal's file,
-/// the ports, the journal. Memory may run out at each.
+/// `Usage` comes exactly where these words aren't one. What else isn't as it should be is looked for in this order: the
+/// settings' file, the settings, the journal's file, the ports, the journal. Memory may run out at each.
 pub fn run_server<R: Threads + Wait + Copy + Drop + Send + Sync + 'static>(
     rt: HostRuntime,
     threads: R,
     words: &[String],
 ) -> ProgramEnd
     ensures usage { length words.now ≢ 1 → result ≡ Usage }
-    ensures ends { length words.now ≡ 1 → IsServerEnd result }
+    ensures run { length words.now ≡ 1 → IsServerRunEnd result }
 {
-    let [path] = words else {
-        return ProgramEnd::Usage;
-    };
-    match run_with(rt, threads, path.as_str()) {
-        Ok(end) => end,
-        Err(end) => end,
+    match words {
+        [path] => run_with(rt, threads, path.as_str()),
+        _ => ProgramEnd::Usage,
     }
 }

@@ -1,9 +1,8 @@
 -- Listeners that were lent to doors, and the counts of faults of those who start a thread for each worker.
 use Rattle.std.proofs.Common.{◌≡◌, ℕ, ◌≤◌, Option, Some, None, inl, inr, sym, ap, subst, arith}
 use Rattle.mos_io.specs.Counts.{Rose}
-use Rattle.port_links.specs.Links.{More}
-use Rattle.port_doors.specs.Doors.{Seen, IsShut, DoorBy, NotStarted}
-use Rattle.port_doors.specs.Serving.{PortsSeen, DoorsRan, NotBegun, ThirdBy, IsThirdShut, ThirdFailed, ThirdRefused, Served, Caused, server_seen, gate_seen}
+use Rattle.port_doors.specs.Doors.{Seen, IsShut}
+use Rattle.port_doors.specs.Serving.{PortsSeen, ThirdBy, IsThirdShut, ThirdFailed, ThirdRefused, Served, Caused, server_seen, gate_seen}
 use Rattle.port_doors.specs.Listening.{Listening, AllListening, OfEditor, IsHeardOut, CountsRise, CausedByThreads, server_listening, gate_listening}
 use Rattle.port_doors.specs.declared.door.DoorEnd.{DoorEnd}
 use Rattle.port_doors.specs.declared.door.DoorEnd.TheVariants.{Closed, ListenFault, NoWorker, NoMemory}
@@ -29,7 +28,7 @@ third_listening (Some s) = Some (door_listening s)
 abbrev pub ports_listening : PortsSeen → ℕ → AllListening
 ports_listening s refused = record { upper = door_listening s.upper; lower = door_listening s.lower; editor = third_listening s.editor; refused = refused }
 
-pub server_lent : {X Y : Type 0} (coming : X → Option ℕ) (listens : X → ℕ) (took : Y → Option ℕ) (spawns : Y → ℕ) (p : ServerPorts X Y) (l : ServerListeners X)
+server_lent : {X Y : Type 0} (coming : X → Option ℕ) (listens : X → ℕ) (took : Y → Option ℕ) (spawns : Y → ℕ) (p : ServerPorts X Y) (l : ServerListeners X)
     → l.upper ≡ p.upper.listener → l.lower ≡ p.lower.listener → l.editor ≡ p.editor.listener
     → server_listening coming listens l ≡ ports_listening (server_seen coming listens took spawns p) l.refused
 server_lent coming listens took spawns p l u w e = λ i. record {
@@ -39,7 +38,7 @@ server_lent coming listens took spawns p l u w e = λ i. record {
   refused = l.refused;
 }
 
-pub gate_lent : {X Y : Type 0} (coming : X → Option ℕ) (listens : X → ℕ) (took : Y → Option ℕ) (spawns : Y → ℕ) (p : GatePorts X Y) (l : GateListeners X)
+gate_lent : {X Y : Type 0} (coming : X → Option ℕ) (listens : X → ℕ) (took : Y → Option ℕ) (spawns : Y → ℕ) (p : GatePorts X Y) (l : GateListeners X)
     → l.upper ≡ p.upper.listener → l.lower ≡ p.lower.listener
     → gate_listening coming listens l ≡ ports_listening (gate_seen coming listens took spawns p) l.refused
 gate_lent coming listens took spawns p l u w = λ i. record {
@@ -66,7 +65,7 @@ third_failed None (Some b) s = absurd s
 third_failed (Some a) None s = absurd s
 third_failed (Some a) (Some b) s = s
 
-pub ports_caused : (n : ℕ) (was now : PortsSeen) (r s : ℕ) (end : DoorEnd) → Caused n was now end
+ports_caused : (n : ℕ) (was now : PortsSeen) (r s : ℕ) (end : DoorEnd) → Caused n was now end
     → (Rose was.driver_faults now.driver_faults → Rose r s)
     → (Rose was.upper.spawn_faults now.upper.spawn_faults → Rose r s)
     → (Rose was.lower.spawn_faults now.lower.spawn_faults → Rose r s)
@@ -100,7 +99,7 @@ third_still : (a : Option Seen) → ThirdRises a a
 third_still None = tt
 third_still (Some a) = omega arith
 
-pub ports_rise : (n : ℕ) (was now : PortsSeen) (r s : ℕ) (end : DoorEnd) → Served n was now end → r ≤ s → CountsRise (ports_listening was r) (ports_listening now s)
+ports_rise : (n : ℕ) (was now : PortsSeen) (r s : ℕ) (end : DoorEnd) → Served n was now end → r ≤ s → CountsRise (ports_listening was r) (ports_listening now s)
 ports_rise n was now r s end (inl ran) le = let d = ran.0 in record {
   upper = d.upper.listens;
   lower = d.lower.listens;
@@ -115,5 +114,59 @@ ports_rise n was now r s end (inr not) le = record {
 }
 
 -- from a count that begins at 0
-pub from_none : (a b r s : ℕ) → a ≡ 0 → (Rose 0 b → Rose r s) → Rose a b → Rose r s
+from_none : (a b r s : ℕ) → a ≡ 0 → (Rose 0 b → Rose r s) → Rose a b → Rose r s
 from_none a b r s e h x = h (subst (λ (k : ℕ). Rose k b) e x)
+
+-- ---- the whole calls, of which each spawner counted from 0
+
+pub server_caused : {X Y : Type 0} (coming : X → Option ℕ) (listens : X → ℕ) (took : Y → Option ℕ) (spawns : Y → ℕ) (n : ℕ) (was now : ServerPorts X Y) (back : ServerListeners X) (r : ℕ) (end : DoorEnd)
+    → Caused n (server_seen coming listens took spawns was) (server_seen coming listens took spawns now) end
+    → spawns was.upper.spawner ≡ 0 → spawns was.lower.spawner ≡ 0 → spawns was.editor.spawner ≡ 0 → spawns was.drivers ≡ 0
+    → (back.upper ≡ now.upper.listener) × (back.lower ≡ now.lower.listener) × (back.editor ≡ now.editor.listener)
+    → (Rose 0 (spawns now.upper.spawner) → Rose r back.refused) → (Rose 0 (spawns now.lower.spawner) → Rose r back.refused)
+    → (Rose 0 (spawns now.editor.spawner) → Rose r back.refused) → (Rose 0 (spawns now.drivers) → Rose r back.refused)
+    → CausedByThreads (ports_listening (server_seen coming listens took spawns was) r) (server_listening coming listens back) end
+server_caused coming listens took spawns n was now back r end cause u w e d lent hu hw he hd =
+    subst (λ (a : AllListening). CausedByThreads (ports_listening (server_seen coming listens took spawns was) r) a end)
+    (sym (server_lent coming listens took spawns now back lent.0 lent.1 lent.2))
+    (ports_caused n (server_seen coming listens took spawns was) (server_seen coming listens took spawns now) r back.refused end cause
+    (from_none (spawns was.drivers) (spawns now.drivers) r back.refused d hd)
+    (from_none (spawns was.upper.spawner) (spawns now.upper.spawner) r back.refused u hu)
+    (from_none (spawns was.lower.spawner) (spawns now.lower.spawner) r back.refused w hw)
+    (from_none (spawns was.editor.spawner) (spawns now.editor.spawner) r back.refused e he))
+
+pub server_rises : {X Y : Type 0} (coming : X → Option ℕ) (listens : X → ℕ) (took : Y → Option ℕ) (spawns : Y → ℕ) (n : ℕ) (was now : ServerPorts X Y) (back : ServerListeners X) (r : ℕ) (end : DoorEnd)
+    → Served n (server_seen coming listens took spawns was) (server_seen coming listens took spawns now) end
+    → (back.upper ≡ now.upper.listener) × (back.lower ≡ now.lower.listener) × (back.editor ≡ now.editor.listener)
+    → r ≤ back.refused
+    → CountsRise (ports_listening (server_seen coming listens took spawns was) r) (server_listening coming listens back)
+server_rises coming listens took spawns n was now back r end served lent le =
+    subst (λ (a : AllListening). CountsRise (ports_listening (server_seen coming listens took spawns was) r) a)
+    (sym (server_lent coming listens took spawns now back lent.0 lent.1 lent.2))
+    (ports_rise n (server_seen coming listens took spawns was) (server_seen coming listens took spawns now) r back.refused end served le)
+
+pub gate_caused : {X Y : Type 0} (coming : X → Option ℕ) (listens : X → ℕ) (took : Y → Option ℕ) (spawns : Y → ℕ) (n : ℕ) (was now : GatePorts X Y) (back : GateListeners X) (r : ℕ) (end : DoorEnd)
+    → Caused n (gate_seen coming listens took spawns was) (gate_seen coming listens took spawns now) end
+    → spawns was.upper.spawner ≡ 0 → spawns was.lower.spawner ≡ 0 → spawns was.drivers ≡ 0
+    → (back.upper ≡ now.upper.listener) × (back.lower ≡ now.lower.listener)
+    → (Rose 0 (spawns now.upper.spawner) → Rose r back.refused) → (Rose 0 (spawns now.lower.spawner) → Rose r back.refused)
+    → (Rose 0 (spawns now.drivers) → Rose r back.refused)
+    → CausedByThreads (ports_listening (gate_seen coming listens took spawns was) r) (gate_listening coming listens back) end
+gate_caused coming listens took spawns n was now back r end cause u w d lent hu hw hd =
+    subst (λ (a : AllListening). CausedByThreads (ports_listening (gate_seen coming listens took spawns was) r) a end)
+    (sym (gate_lent coming listens took spawns now back lent.0 lent.1))
+    (ports_caused n (gate_seen coming listens took spawns was) (gate_seen coming listens took spawns now) r back.refused end cause
+    (from_none (spawns was.drivers) (spawns now.drivers) r back.refused d hd)
+    (from_none (spawns was.upper.spawner) (spawns now.upper.spawner) r back.refused u hu)
+    (from_none (spawns was.lower.spawner) (spawns now.lower.spawner) r back.refused w hw)
+    (λ x. absurd x))
+
+pub gate_rises : {X Y : Type 0} (coming : X → Option ℕ) (listens : X → ℕ) (took : Y → Option ℕ) (spawns : Y → ℕ) (n : ℕ) (was now : GatePorts X Y) (back : GateListeners X) (r : ℕ) (end : DoorEnd)
+    → Served n (gate_seen coming listens took spawns was) (gate_seen coming listens took spawns now) end
+    → (back.upper ≡ now.upper.listener) × (back.lower ≡ now.lower.listener)
+    → r ≤ back.refused
+    → CountsRise (ports_listening (gate_seen coming listens took spawns was) r) (gate_listening coming listens back)
+gate_rises coming listens took spawns n was now back r end served lent le =
+    subst (λ (a : AllListening). CountsRise (ports_listening (gate_seen coming listens took spawns was) r) a)
+    (sym (gate_lent coming listens took spawns now back lent.0 lent.1))
+    (ports_rise n (gate_seen coming listens took spawns was) (gate_seen coming listens took spawns now) r back.refused end served le)

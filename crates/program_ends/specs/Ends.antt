@@ -60,37 +60,69 @@ end_of_objects objects.NoMemory = ends.NoMemory
 abbrev pub IsNoFile : FileOf → ProgramEnd → Type 0
 IsNoFile file end = (end ≡ ends.NoFile file) ⊎ (end ≡ ends.NoMemory)
 
--- how a server's program may end that was given a file
-abbrev pub IsServerEnd : ProgramEnd → Type 0
-IsServerEnd ends.Closed = Unit {0}
-IsServerEnd ends.Usage = ⊥
-IsServerEnd (ends.NoFile files.Settings) = Unit {0}
-IsServerEnd (ends.NoFile files.Log) = Unit {0}
-IsServerEnd (ends.NoFile files.Objects) = ⊥
-IsServerEnd (ends.NoPort port) = Unit {0}
-IsServerEnd (ends.BadSettings fault) = Unit {0}
-IsServerEnd ends.ListenFault = Unit {0}
-IsServerEnd ends.NoWorker = Unit {0}
-IsServerEnd ends.StoreFault = Unit {0}
-IsServerEnd (ends.BadEntry number) = Unit {0}
-IsServerEnd ends.NoMemory = Unit {0}
-IsServerEnd (ends.BadObjects fault) = ⊥
+-- the settings of a file can't be had: it can't be opened or read, they are refused, or memory ran out
+abbrev pub IsNoSettings : ProgramEnd → Type 0
+IsNoSettings ends.Closed = ⊥
+IsNoSettings ends.Usage = ⊥
+IsNoSettings (ends.NoFile files.Settings) = Unit {0}
+IsNoSettings (ends.NoFile files.Log) = ⊥
+IsNoSettings (ends.NoFile files.Objects) = ⊥
+IsNoSettings (ends.NoPort port) = ⊥
+IsNoSettings (ends.BadSettings fault) = Unit {0}
+IsNoSettings ends.ListenFault = ⊥
+IsNoSettings ends.NoWorker = ⊥
+IsNoSettings ends.StoreFault = ⊥
+IsNoSettings (ends.BadEntry number) = ⊥
+IsNoSettings ends.NoMemory = Unit {0}
+IsNoSettings (ends.BadObjects fault) = ⊥
 
--- how a gateway's program may end that was given a file
-abbrev pub IsGateEnd : ProgramEnd → Type 0
-IsGateEnd ends.Closed = Unit {0}
-IsGateEnd ends.Usage = ⊥
-IsGateEnd (ends.NoFile files.Settings) = Unit {0}
-IsGateEnd (ends.NoFile files.Log) = ⊥
-IsGateEnd (ends.NoFile files.Objects) = Unit {0}
-IsGateEnd (ends.NoPort port) = Unit {0}
-IsGateEnd (ends.BadSettings fault) = Unit {0}
-IsGateEnd ends.ListenFault = Unit {0}
-IsGateEnd ends.NoWorker = Unit {0}
-IsGateEnd ends.StoreFault = ⊥
-IsGateEnd (ends.BadEntry number) = ⊥
-IsGateEnd ends.NoMemory = Unit {0}
-IsGateEnd (ends.BadObjects fault) = Unit {0}
+-- the same of the objects of a file
+abbrev pub IsNoObjects : ProgramEnd → Type 0
+IsNoObjects ends.Closed = ⊥
+IsNoObjects ends.Usage = ⊥
+IsNoObjects (ends.NoFile files.Settings) = ⊥
+IsNoObjects (ends.NoFile files.Log) = ⊥
+IsNoObjects (ends.NoFile files.Objects) = Unit {0}
+IsNoObjects (ends.NoPort port) = ⊥
+IsNoObjects (ends.BadSettings fault) = ⊥
+IsNoObjects ends.ListenFault = ⊥
+IsNoObjects ends.NoWorker = ⊥
+IsNoObjects ends.StoreFault = ⊥
+IsNoObjects (ends.BadEntry number) = ⊥
+IsNoObjects ends.NoMemory = Unit {0}
+IsNoObjects (ends.BadObjects fault) = Unit {0}
+
+-- how the program of a server may end that was given a file: not by its words, and not by objects
+abbrev pub IsServerRunEnd : ProgramEnd → Type 0
+IsServerRunEnd ends.Closed = Unit {0}
+IsServerRunEnd ends.Usage = ⊥
+IsServerRunEnd (ends.NoFile files.Settings) = Unit {0}
+IsServerRunEnd (ends.NoFile files.Log) = Unit {0}
+IsServerRunEnd (ends.NoFile files.Objects) = ⊥
+IsServerRunEnd (ends.NoPort port) = Unit {0}
+IsServerRunEnd (ends.BadSettings fault) = Unit {0}
+IsServerRunEnd ends.ListenFault = Unit {0}
+IsServerRunEnd ends.NoWorker = Unit {0}
+IsServerRunEnd ends.StoreFault = Unit {0}
+IsServerRunEnd (ends.BadEntry number) = Unit {0}
+IsServerRunEnd ends.NoMemory = Unit {0}
+IsServerRunEnd (ends.BadObjects fault) = ⊥
+
+-- how that of a gateway may end: not by its words, and not by a journal
+abbrev pub IsGateRunEnd : ProgramEnd → Type 0
+IsGateRunEnd ends.Closed = Unit {0}
+IsGateRunEnd ends.Usage = ⊥
+IsGateRunEnd (ends.NoFile files.Settings) = Unit {0}
+IsGateRunEnd (ends.NoFile files.Log) = ⊥
+IsGateRunEnd (ends.NoFile files.Objects) = Unit {0}
+IsGateRunEnd (ends.NoPort port) = Unit {0}
+IsGateRunEnd (ends.BadSettings fault) = Unit {0}
+IsGateRunEnd ends.ListenFault = Unit {0}
+IsGateRunEnd ends.NoWorker = Unit {0}
+IsGateRunEnd ends.StoreFault = ⊥
+IsGateRunEnd (ends.BadEntry number) = ⊥
+IsGateRunEnd ends.NoMemory = Unit {0}
+IsGateRunEnd (ends.BadObjects fault) = Unit {0}
 
 -- ---- what is said of an end
 

@@ -172,11 +172,7 @@ fn show_settings<W: fmt::Write>(f: &mut fmt::Formatter<W>, fault: SettingsFault)
 }
 
 // Writes at which place objects are refused, and why.
-fn show_refused<W: fmt::Write>(
-    f: &mut fmt::Formatter<W>,
-    place: u64,
-    kind: Kind,
-) -> fmt::Result
+fn show_refused<W: fmt::Write>(f: &mut fmt::Formatter<W>, place: u64, kind: Kind) -> fmt::Result
     ensures { WritesOnOk W.write_str_gives f.old result (objects_text (Refused place kind)) f.new }
 {
     let word = kind_word(kind);

@@ -2,8 +2,7 @@
 use Rattle.port_doors.specs.Listening.{AllListening, CausedByThreads}
 use Rattle.port_doors.specs.declared.door.DoorEnd.{DoorEnd}
 use Rattle.port_doors.specs.declared.door.DoorEnd.TheVariants as doors
-use Rattle.serve_ends.specs.Ends.{IsCaused, IsStarted, IsGateEnd, end_of_door}
-use Rattle.serve_ends.specs.declared.serve_end.ServeEnd.{ServeEnd}
+use Rattle.serve_ends.specs.Ends.{IsCaused, end_of_door}
 
 pub caused_by_doors : {K X : Type 0} (seen : X → AllListening) (was now : X) (end : DoorEnd) → CausedByThreads (seen was) (seen now) end → IsCaused {K = K} seen was now (end_of_door end)
 caused_by_doors seen was now doors.Closed cause = cause
