@@ -1,10 +1,5 @@
--- How a program ended, and what it says of that.
-use Rattle.std.specs.Prelude.{◌≡◌, ◌⊎◌, ℕ, List, [], ◌∷◌, ◌++◌, codes}
-use Rattle.std.specs.Fmt.{decimal}
-use Rattle.mos_fields.specs.Fields.{name_of}
-use Rattle.mos_lexer.specs.declared.kind.Kind.{Kind}
-use Rattle.mos_lexer.specs.declared.kind.Kind.TheVariants as kinds
-use Rattle.end_settings.specs.Keys.{key_name}
+-- How a program ended.
+use Rattle.std.specs.Prelude.{◌≡◌, ◌⊎◌, ℕ}
 use Rattle.end_settings.specs.declared.fault.SettingsFault.{SettingsFault}
 use Rattle.end_settings.specs.declared.fault.SettingsFault.TheVariants as settings
 use Rattle.object_reading.specs.declared.fault.ObjectsFault.{ObjectsFault}
@@ -123,68 +118,3 @@ IsGateRunEnd ends.StoreFault = ⊥
 IsGateRunEnd (ends.BadEntry number) = ⊥
 IsGateRunEnd ends.NoMemory = Unit {0}
 IsGateRunEnd (ends.BadObjects fault) = Unit {0}
-
--- ---- what is said of an end
-
--- the word of a kind of rejection
-abbrev pub kind_word : Kind → List ℕ
-kind_word kinds.BadUnit = codes "BadUnit"
-kind_word kinds.BadChar = codes "BadChar"
-kind_word kinds.Entity = codes "Entity"
-kind_word (kinds.Twice field) = codes "Twice"
-kind_word (kinds.Order field) = codes "Order"
-kind_word (kinds.Missing field) = codes "Missing"
-kind_word (kinds.Value field) = codes "Value"
-kind_word kinds.Tag = codes "Tag"
-kind_word kinds.TooLong = codes "TooLong"
-kind_word kinds.End = codes "End"
-
--- the name of its field, if it has one
-abbrev pub kind_field : Kind → List ℕ
-kind_field kinds.BadUnit = []
-kind_field kinds.BadChar = []
-kind_field kinds.Entity = []
-kind_field (kinds.Twice field) = name_of field
-kind_field (kinds.Order field) = name_of field
-kind_field (kinds.Missing field) = name_of field
-kind_field (kinds.Value field) = name_of field
-kind_field kinds.Tag = []
-kind_field kinds.TooLong = []
-kind_field kinds.End = []
-
--- a text in parentheses, nothing where it is empty
-abbrev pub bracketed : List ℕ → List ℕ
-bracketed [] = []
-bracketed (c ∷ cs) = codes "(" ++ (c ∷ cs) ++ codes ")"
-
-abbrev pub settings_text : SettingsFault → List ℕ
-settings_text settings.NotToml = codes "NotToml"
-settings_text (settings.Missing key) = codes "Missing(" ++ key_name key ++ codes ")"
-settings_text (settings.BadValue key) = codes "BadValue(" ++ key_name key ++ codes ")"
-settings_text settings.NoMemory = codes "NoMemory"
-
-abbrev pub objects_text : ObjectsFault → List ℕ
-objects_text (objects.Refused place kind) = codes "Refused " ++ decimal place ++ codes " " ++ kind_word kind ++ bracketed (kind_field kind)
-objects_text (objects.NotObject number) = codes "NotObject " ++ decimal number
-objects_text (objects.Full number units) = codes "Full " ++ decimal number ++ codes " " ++ decimal units
-objects_text objects.ReadFault = codes "ReadFault"
-objects_text objects.NoMemory = codes "NoMemory"
-
-abbrev pub file_text : FileOf → List ℕ
-file_text files.Settings = codes "NoFile: the settings"
-file_text files.Log = codes "NoFile: log"
-file_text files.Objects = codes "NoFile: objects"
-
--- how a program says that it ended
-abbrev pub end_text : ProgramEnd → List ℕ
-end_text ends.Closed = codes "Closed"
-end_text ends.Usage = codes "Usage"
-end_text (ends.NoFile file) = file_text file
-end_text (ends.NoPort port) = codes "NoPort " ++ decimal port
-end_text (ends.BadSettings fault) = settings_text fault
-end_text ends.ListenFault = codes "ListenFault"
-end_text ends.NoWorker = codes "NoWorker"
-end_text ends.StoreFault = codes "StoreFault"
-end_text (ends.BadEntry number) = codes "BadEntry " ++ decimal number
-end_text ends.NoMemory = codes "NoMemory"
-end_text (ends.BadObjects fault) = objects_text fault

@@ -1,8 +1,6 @@
 //! How a program ended.
 ghost use Rattle.std.specs.Prelude.{◌≡◌};
-ghost use Rattle.std.specs.Fmt.{WritesOnOk};
-ghost use Rattle.object_reading.specs.declared.fault.ObjectsFault.TheVariants.{Refused};
-ghost use Rattle.program_ends.specs.Ends.{bracketed, end_of_objects, end_of_serving, end_of_settings, file_text, kind_field as kind_field_of, kind_word as kind_word_of, objects_text, settings_text, status_of};
+ghost use Rattle.program_ends.specs.Ends.{end_of_objects, end_of_serving, end_of_settings, status_of};
 
 use end_settings::SettingsFault;
 use mos_lexer::Kind;
