@@ -10,12 +10,7 @@ use std::alloc::Global;
 
 /// The line of a connection of this number that a peer opened at this port. Which device it belongs to isn't known yet.
 /// The only error is that memory runs out, here and in the other lines.
-pub fn accepted_line(
-    alloc: Global,
-    number: u64,
-    side: Side,
-    peer: &str,
-) -> Result<String, NoMemory>
+pub fn accepted_line(alloc: Global, number: u64, side: Side, peer: &str) -> Result<String, NoMemory>
     ensures { IfOk result (λ line. string_bytes line ≡ accepted_line_of number side peer.now) }
 {
     let mut line = String::new(alloc);

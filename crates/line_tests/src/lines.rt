@@ -27,22 +27,31 @@ fn all_lines(alloc: Global, side: Side, device: &str, number: u64) -> Result<Str
 fn each_line_has_its_form(rt: HostRuntime) -> Result<(), Fail> {
     let alloc = rt.alloc();
     let upper = all_lines(alloc, Side::Upper, "dev1", 3)?;
-    assert_eq!(rt; upper.as_str(), "connection 3 upper from [::1]:40122
+    assert_eq!(rt;
+        upper.as_str(),
+        "connection 3 upper from [::1]:40122
 connection 3 upper dev1 to gate 1.example:65535
 connection 3 upper dev1 ended: Stale
 dial upper dev1 to gate 1.example:0 failed: TimedOut
-");
+"
+    );
     let lower = all_lines(alloc, Side::Lower, "a\tb\r\nc\u{e9}", u64::MAX)?;
-    assert_eq!(rt; lower.as_str(), "connection 18446744073709551615 lower from [::1]:40122
+    assert_eq!(rt;
+        lower.as_str(),
+        "connection 18446744073709551615 lower from [::1]:40122
 connection 18446744073709551615 lower a b  c\u{e9} to gate 1.example:65535
 connection 18446744073709551615 lower a b  c\u{e9} ended: Stale
 dial lower a b  c\u{e9} to gate 1.example:0 failed: TimedOut
-");
+"
+    );
     let editor = all_lines(alloc, Side::Editor, "", 0)?;
-    assert_eq!(rt; editor.as_str(), "connection 0 editor from [::1]:40122
+    assert_eq!(rt;
+        editor.as_str(),
+        "connection 0 editor from [::1]:40122
 connection 0 editor to gate 1.example:65535
 connection 0 editor ended: Stale
 dial editor to gate 1.example:0 failed: TimedOut
-");
+"
+    );
     Ok(())
 }
