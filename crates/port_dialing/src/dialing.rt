@@ -96,8 +96,11 @@ fn dial_once<
     } = link;
     dialer.hear(port, place, News::Opened { number });
     let Ok(here) = link_port(port, number) else {
-        let end = End::NoMemory;
-        dialer.hear(port, place, News::Ended { number, end });
+        let news = News::Ended {
+            number,
+            end: End::NoMemory,
+        };
+        dialer.hear(port, place, news);
         let pace = pacer.pause();
         return Attempt {
             starved: true,

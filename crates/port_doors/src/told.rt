@@ -1,7 +1,7 @@
 //! Workers of whose connections something is said.
 use crate::copies::share_names;
 use connection_lines::{ended_line, say};
-use mos_fields::{Text, let_go};
+use mos_fields::{Id, Text, let_go};
 use mos_io::{Clock, Pacer, Sink, Source};
 use port_events::{PortAnswer, PortEvent, Side};
 use port_jobs::{Names, PortJob, Task, Work};
@@ -61,7 +61,7 @@ fn names_of(names: &Option<Arc<Names>>) -> Option<Arc<Names>> {
 }
 
 // What is known of the connection that the job serves, if it serves one.
-fn accepted<
+fn connection_of<
     M: StepRelation<Event = PortEvent, Answer = PortAnswer> + Machine<D>,
     D: Drop,
     S: Source + Drop,
@@ -82,17 +82,24 @@ fn accepted<
     }
 }
 
-// Says why the connection of this device ended.
+// The name of this device.
+fn named(names: &Option<Arc<Names>>, device: Option<u32>) -> Option<&Id> {
+    let names = names.as_ref()?;
+    names.ids().get(device? as usize)
+}
+
+// Says why the connection ended, which belonged to this device.
 fn say_ended<R: Eprint>(rt: &R, alloc: Global, accepted: &Accepted, device: Option<u32>, end: End) {
-    let mut name = &accepted.own;
-    if let Some(names) = &accepted.names {
-        if let Some(device) = device {
-            if let Some(id) = names.ids().get(device as usize) {
-                name = id.text();
-            }
-        }
-    }
-    let line = ended_line(alloc, accepted.number, accepted.side, name, end);
+    let Accepted {
+        number,
+        side,
+        names,
+        own,
+    } = accepted;
+    let line = match named(names, device) {
+        Some(id) => ended_line(alloc, *number, *side, id.text(), end),
+        None => ended_line(alloc, *number, *side, own, end),
+    };
     say(rt, line);
 }
 
@@ -114,7 +121,7 @@ impl<
         let ToldJob { job } = self;
         let rt = job.rt;
         let alloc = job.alloc;
-        let accepted = accepted(&job);
+        let accepted = connection_of(&job);
         let work = job.run();
         if let Some(accepted) = &accepted {
             if let Work::Served { device, end, .. } = &work {
