@@ -37,7 +37,7 @@ end_text NoMemory = codes "NoMemory\n"
 
 -- a connection, by its number, its port and its device
 abbrev pub connection_text : ℕ → Side → Text → List ℕ
-connection_text number side device = codes "connection " ++ decimal number ++ (32 ∷ side_text side) ++ device_text device
+connection_text number side device = codes "connection " ++ decimal number ++ codes " " ++ side_text side ++ device_text device
 
 -- a peer opened a connection
 abbrev pub accepted_line : ℕ → Side → List ℕ → List ℕ
