@@ -121,7 +121,8 @@ pub(crate) fn push_connection(
     push_number(alloc, out, number)?;
     push_word(out, " ")?;
     push_side(out, side)?;
-    push_device(alloc, out, device)
+    push_device(alloc, out, device)?;
+    Ok(())
 }
 
 // Appends the end of a line on a stream that ended inside a message.
