@@ -71,7 +71,9 @@ fn counter(numbers: &Arc<AtomicU64>) -> Result<Arc<AtomicU64>, ProgramEnd> {
 }
 
 // The two ports: for running orders, and for objects.
-fn ports_of<R: Net<Listener = TcpListener, Stream = TcpStream> + Clock + Copy + Drop>(
+fn ports_of<
+    R: Net<Listener = TcpListener, Stream = TcpStream> + Clock + AllocGlobal + Eprint + Copy + Drop,
+>(
     rt: R,
     settings: &GateSettings,
     numbers: &Arc<AtomicU64>,
@@ -89,6 +91,7 @@ fn serve<
         + Clock
         + Threads
         + Wait
+        + Eprint
         + Copy
         + Drop
         + Send
@@ -128,6 +131,7 @@ fn run_with<
         + Clock
         + Threads
         + Wait
+        + Eprint
         + Copy
         + Drop
         + Send
@@ -152,6 +156,7 @@ pub fn run_gateway<
         + Clock
         + Threads
         + Wait
+        + Eprint
         + Copy
         + Drop
         + Send

@@ -66,7 +66,7 @@ fn ports_of(
 }
 
 // Serves by these settings.
-fn serve<R: Threads + Wait + Copy + Drop + Send + Sync + 'static>(
+fn serve<R: Threads + Wait + Eprint + Copy + Drop + Send + Sync + 'static>(
     rt: HostRuntime,
     threads: R,
     settings: &ServerSettings,
@@ -97,7 +97,7 @@ fn serve<R: Threads + Wait + Copy + Drop + Send + Sync + 'static>(
 }
 
 // A run with the settings in a file.
-fn run_with<R: Threads + Wait + Copy + Drop + Send + Sync + 'static>(
+fn run_with<R: Threads + Wait + Eprint + Copy + Drop + Send + Sync + 'static>(
     rt: HostRuntime,
     threads: R,
     path: &str,
@@ -111,7 +111,7 @@ fn run_with<R: Threads + Wait + Copy + Drop + Send + Sync + 'static>(
 ///
 /// What isn't as it should be is looked for in this order: the words, the settings' file, the settings, the journal's file,
 /// the ports, the journal. Memory may run out at each.
-pub fn run_server<R: Threads + Wait + Copy + Drop + Send + Sync + 'static>(
+pub fn run_server<R: Threads + Wait + Eprint + Copy + Drop + Send + Sync + 'static>(
     rt: HostRuntime,
     threads: R,
     words: &[String],

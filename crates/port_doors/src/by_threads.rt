@@ -6,6 +6,7 @@ use crate::calls::Peer;
 use crate::door::{Door, DoorEnd};
 use crate::ports::{GatePorts, ServerPorts};
 use crate::serve::{serve_gate, serve_server};
+use crate::told::ToldJob;
 use mos_fields::Id;
 use mos_io::{Clock, Failed, Pacer};
 use port_events::{PortAnswer, PortEvent};
@@ -17,7 +18,8 @@ use std::alloc::Global;
 use std::sync::{Arc, Wait};
 use std::thread::Threads;
 
-/// Serves as `serve_server` does, with a thread for each worker.
+/// Serves as `serve_server` does, with a thread for each worker. On standard error it says why each connection ended that
+/// was accepted.
 pub fn serve_server_by_threads<
     M: StepRelation<Event = PortEvent, Answer = PortAnswer> + Machine<D> + Send + 'static,
     D: Drop + Send + 'static,
@@ -25,7 +27,7 @@ pub fn serve_server_by_threads<
     Di: Dialer + Send + 'static,
     P: Pacer + Drop + Send + 'static,
     C: Clock + Drop + Send + 'static,
-    R: Threads + Wait + Copy + Drop + Send + Sync + 'static,
+    R: Threads + Wait + Eprint + Copy + Drop + Send + Sync + 'static,
 >(
     rt: &R,
     alloc: Global,
@@ -49,7 +51,7 @@ where
     requires { length peers.now ≡ length (arc_value names) }
 {
     let start_job = |job: PortJob<M, D, L::S, L::K, Di, P, C, R>| -> Result<(), Failed> {
-        start_thread(rt, job)
+        start_thread(rt, ToldJob { job })
     };
     let mut ports = ServerPorts {
         upper: Door {
@@ -71,7 +73,8 @@ where
     )
 }
 
-/// Serves as `serve_gate` does, with a thread for each worker.
+/// Serves as `serve_gate` does, with a thread for each worker. On standard error it says why each connection ended that was
+/// accepted.
 pub fn serve_gate_by_threads<
     M: StepRelation<Event = PortEvent, Answer = PortAnswer> + Machine<D> + Send + 'static,
     D: Drop + Send + 'static,
@@ -79,7 +82,7 @@ pub fn serve_gate_by_threads<
     Di: Dialer + Send + 'static,
     P: Pacer + Drop + Send + 'static,
     C: Clock + Drop + Send + 'static,
-    R: Threads + Wait + Copy + Drop + Send + Sync + 'static,
+    R: Threads + Wait + Eprint + Copy + Drop + Send + Sync + 'static,
 >(
     rt: &R,
     alloc: Global,
@@ -101,7 +104,7 @@ where
     Di::K: Send + 'static,
 {
     let start_job = |job: PortJob<M, D, L::S, L::K, Di, P, C, R>| -> Result<(), Failed> {
-        start_thread(rt, job)
+        start_thread(rt, ToldJob { job })
     };
     let mut ports = GatePorts {
         upper: Door {

@@ -15,12 +15,9 @@ const BEAT: u64 = 300;
 
 /// The port of this number, on every address of this machine, for connections at this side. `NoPort` where it can't be
 /// opened.
-pub fn port_at<R: Net<Listener = TcpListener, Stream = TcpStream> + Clock + Copy + Drop>(
-    rt: R,
-    port: u16,
-    side: Side,
-    numbers: Arc<AtomicU64>,
-) -> Result<TcpPort<R>, ProgramEnd> {
+pub fn port_at<
+    R: Net<Listener = TcpListener, Stream = TcpStream> + Clock + AllocGlobal + Eprint + Copy + Drop,
+>(rt: R, port: u16, side: Side, numbers: Arc<AtomicU64>) -> Result<TcpPort<R>, ProgramEnd> {
     match TcpListener::bind(&rt, (Ipv4Addr::UNSPECIFIED, port)) {
         Ok(listener) => Ok(TcpPort::new(rt, listener, side, numbers)),
         Err(_) => Err(ProgramEnd::NoPort(port)),
