@@ -1,9 +1,14 @@
 //! A run of the gateway.
+ghost use Rattle.std.specs.Prelude.{◌≡◌, ◌≢◌, ◌⊎◌, IfErr, IfOk, length};
+ghost use Rattle.program_ends.specs.Ends.{IsGateRunEnd, IsNoObjects, IsNoSettings};
+ghost use Rattle.program_ends.specs.declared.program_end.ProgramEnd.TheVariants.{NoMemory, NoPort, Usage};
+
 use end_settings::{GateSettings, read_gate_settings};
 use gate_serving::gate_serve_by_threads;
 use mos_io::{Capped, StdSource};
 use object_reading::read_objects;
 use object_table::ObjectTable;
+use port_doors::GateListeners;
 use port_events::Side;
 use port_tcp::{SystemClock, TcpDialer, TcpPort};
 use program_ends::{FileOf, ProgramEnd, pacer, path_of, port_at, read_file};
@@ -16,8 +21,14 @@ use std::thread::Threads;
 use std::time::Clock;
 
 // The settings in a file.
-fn settings_in<R: Files + AllocGlobal>(rt: &R, path: &str) -> Result<GateSettings, ProgramEnd> {
-    let text = read_file(rt, path, FileOf::Settings)?;
+#[tactic(auto, using(program_ends::proofs::RunEnds::unread_settings, program_ends::proofs::RunEnds::refused_settings))]
+fn settings_in<R: Files + AllocGlobal>(rt: &R, path: &str) -> Result<GateSettings, ProgramEnd>
+    ensures { IfErr result (λ end. IsNoSettings end) }
+{
+    let text = match read_file(rt, path, FileOf::Settings) {
+        Ok(text) => text,
+        Err(end) => return Err(end),
+    };
     match read_gate_settings(rt.alloc(), &text) {
         Ok(settings) => Ok(settings),
         Err(fault) => Err(ProgramEnd::of_settings(fault)),
@@ -25,6 +36,7 @@ fn settings_in<R: Files + AllocGlobal>(rt: &R, path: &str) -> Result<GateSetting
 }
 
 // The objects in a file of at most so many bytes.
+#[tactic(auto, using(program_ends::proofs::RunEnds::refused_objects))]
 fn objects_in<R: Files + AllocGlobal>(
     rt: &R,
     path: &str,
@@ -32,6 +44,7 @@ fn objects_in<R: Files + AllocGlobal>(
 ) -> Result<ObjectTable, ProgramEnd>
 where
     R::File: Drop,
+    ensures { IfErr result (λ end. IsNoObjects end) }
 {
     match fs::open(rt, path) {
         Ok(file) => {
@@ -52,6 +65,7 @@ fn objects_of<R: Files + AllocGlobal>(
 ) -> Result<ObjectTable, ProgramEnd>
 where
     R::File: Drop,
+    ensures { IfErr result (λ end. IsNoObjects end) }
 {
     match &settings.objects {
         None => Ok(ObjectTable::new(rt.alloc())),
@@ -62,28 +76,46 @@ where
     }
 }
 
-// One more holder of the counter of connections.
-fn counter(numbers: &Arc<AtomicU64>) -> Result<Arc<AtomicU64>, ProgramEnd> {
-    match Arc::try_clone(numbers) {
-        Ok(numbers) => Ok(numbers),
-        Err(_) => Err(ProgramEnd::NoMemory),
+// One port more, for connections at this side.
+fn next_port<R: Net<Listener = TcpListener, Stream = TcpStream> + Clock + Copy + Drop>(
+    rt: R,
+    port: u16,
+    side: Side,
+    numbers: &Arc<AtomicU64>,
+) -> Result<TcpPort<R>, ProgramEnd>
+    ensures fault { IfErr result (λ end. (end ≡ NoMemory) ⊎ (end ≡ NoPort port)) }
+    ensures run { IfErr result (λ end. IsGateRunEnd end) }
+{
+    let Ok(numbers) = Arc::try_clone(numbers) else {
+        return Err(ProgramEnd::NoMemory);
+    };
+    match port_at(rt, port, side, numbers) {
+        Ok(port) => Ok(port),
+        Err(_) => Err(ProgramEnd::NoPort(port)),
     }
 }
 
-// The two ports: for running orders, and for objects.
+// The two ports: for running orders, and for objects. No worker is refused so far.
 fn ports_of<
     R: Net<Listener = TcpListener, Stream = TcpStream> + Clock + AllocGlobal + Eprint + Copy + Drop,
 >(
     rt: R,
     settings: &GateSettings,
     numbers: &Arc<AtomicU64>,
-) -> Result<(TcpPort<R>, TcpPort<R>), ProgramEnd> {
-    let upper = port_at(rt, settings.upper, Side::Upper, counter(numbers)?)?;
-    let lower = port_at(rt, settings.lower, Side::Lower, counter(numbers)?)?;
-    Ok((upper, lower))
+) -> Result<GateListeners<TcpPort<R>>, ProgramEnd>
+    ensures refused { IfOk result (λ l. l.refused ≡ 0) }
+    ensures fault { IfErr result (λ end. (end ≡ NoMemory) ⊎ ((end ≡ NoPort settings.now.upper) ⊎ (end ≡ NoPort settings.now.lower))) }
+    ensures run { IfErr result (λ end. IsGateRunEnd end) }
+{
+    Ok(GateListeners {
+        upper: next_port(rt, settings.upper, Side::Upper, numbers)?,
+        lower: next_port(rt, settings.lower, Side::Lower, numbers)?,
+        refused: 0,
+    })
 }
 
 // Serves by these settings.
+#[tactic(auto, using(program_ends::proofs::RunEnds::gate_objects, program_ends::proofs::RunEnds::gate_served))]
 fn serve<
     R: Files
         + AllocGlobal
@@ -97,33 +129,40 @@ fn serve<
         + Send
         + Sync
         + 'static,
->(rt: R, settings: &GateSettings) -> Result<ProgramEnd, ProgramEnd>
+>(rt: R, settings: &GateSettings) -> ProgramEnd
 where
     R::File: Drop,
+    ensures { IsGateRunEnd result }
 {
     let alloc = rt.alloc();
-    let objects = objects_of(&rt, settings)?;
-    let Ok(numbers) = Arc::new(alloc, AtomicU64::new(1)) else {
-        return Err(ProgramEnd::NoMemory);
+    let objects = match objects_of(&rt, settings) {
+        Ok(objects) => objects,
+        Err(end) => return end,
     };
-    let (upper, lower) = ports_of(rt, settings, &numbers)?;
+    let Ok(numbers) = Arc::new(alloc, AtomicU64::new(1)) else {
+        return ProgramEnd::NoMemory;
+    };
+    let listeners = match ports_of(rt, settings, &numbers) {
+        Ok(listeners) => listeners,
+        Err(end) => return end,
+    };
     let dialer = TcpDialer::new(rt, alloc, Side::Upper, numbers);
     let clock = SystemClock::new(rt);
-    let end = gate_serve_by_threads(
+    let (end, _listeners) = gate_serve_by_threads(
         &rt,
         alloc,
         settings,
         objects,
-        upper,
-        lower,
+        listeners,
         dialer,
         pacer(rt),
         clock,
     );
-    Ok(ProgramEnd::of_serving(end))
+    ProgramEnd::of_serving(end)
 }
 
 // A run with the settings in a file.
+#[tactic(auto, using(program_ends::proofs::RunEnds::gate_settings))]
 fn run_with<
     R: Files
         + AllocGlobal
@@ -137,18 +176,21 @@ fn run_with<
         + Send
         + Sync
         + 'static,
->(rt: R, path: &str) -> Result<ProgramEnd, ProgramEnd>
+>(rt: R, path: &str) -> ProgramEnd
 where
     R::File: Drop,
+    ensures { IsGateRunEnd result }
 {
-    let settings = settings_in(&rt, path)?;
-    serve(rt, &settings)
+    match settings_in(&rt, path) {
+        Ok(settings) => serve(rt, &settings),
+        Err(end) => end,
+    }
 }
 
 /// Runs the gateway with the words behind the program's name: the path of its settings.
 ///
-/// What isn't as it should be is looked for in this order: the words, the settings' file, the settings, the objects, the
-/// ports. Memory may run out at each.
+/// `Usage` comes exactly where these words aren't one. What else isn't as it should be is looked for in this order: the
+/// settings' file, the settings, the objects, the ports. Memory may run out at each.
 pub fn run_gateway<
     R: Files
         + AllocGlobal
@@ -165,12 +207,11 @@ pub fn run_gateway<
 >(rt: R, words: &[String]) -> ProgramEnd
 where
     R::File: Drop,
+    ensures usage { length words.now ≢ 1 → result ≡ Usage }
+    ensures run { length words.now ≡ 1 → IsGateRunEnd result }
 {
-    let [path] = words else {
-        return ProgramEnd::Usage;
-    };
-    match run_with(rt, path.as_str()) {
-        Ok(end) => end,
-        Err(end) => end,
+    match words {
+        [path] => run_with(rt, path.as_str()),
+        _ => ProgramEnd::Usage,
     }
 }

@@ -1,12 +1,13 @@
 //! The serving call of a gateway, with a thread for each worker.
-ghost use Rattle.serve_ends.specs.Ends.{IsGateEnd};
+ghost use Rattle.port_doors.specs.Listening.{CountsRise, gate_listening};
+ghost use Rattle.serve_ends.specs.Ends.{IsCaused, IsGateEnd};
 
 use crate::beginning::{Begun, prepared};
 use end_settings::GateSettings;
 use gateway_core::Gate;
 use mos_io::{Clock, Pacer};
 use object_table::ObjectTable;
-use port_doors::serve_gate_by_threads;
+use port_doors::{GateListeners, serve_gate_by_threads};
 use port_links::{Dialer, Listener};
 use port_nodes::GateNode;
 use serve_ends::ServeEnd;
@@ -17,8 +18,14 @@ use std::thread::Threads;
 /// Serves as the gateway of these settings, with these objects and without decks: at two doors side by side, with two workers
 /// that dial the server, and a thread for each worker.
 ///
-/// The ends are those that `port_doors::serve_gate_by_threads` answers; no clause says why they come. The call waits, and
-/// returns when each door's loop has ended; it doesn't wait for the workers.
+/// The call waits, and returns when each door's loop has ended; it doesn't wait for the workers. The listeners come back as it
+/// leaves them.
+///
+/// # Ends
+/// `Closed` where each listener said that none comes; `ListenFault` only where a listener's count of faults rose; `NoWorker`
+/// only where `refused` rose, the count of the workers for which no thread could be made; `NoMemory` where memory runs out. No
+/// count falls. A gateway keeps no journal, so no other end comes.
+#[tactic(auto, using(serve_ends::proofs::Doors::caused_by_doors))]
 pub fn gate_serve_by_threads<
     L: Listener + Send,
     Di: Dialer + Send + 'static,
@@ -30,21 +37,22 @@ pub fn gate_serve_by_threads<
     alloc: Global,
     settings: &GateSettings,
     objects: ObjectTable,
-    upper: L,
-    lower: L,
+    listeners: GateListeners<L>,
     dialer: Di,
     pacer: P,
     clock: C,
-) -> ServeEnd<()>
+) -> (ServeEnd<()>, GateListeners<L>)
 where
     L::S: Send + 'static,
     L::K: Send + 'static,
     Di::S: Send + 'static,
     Di::K: Send + 'static,
-    ensures { IsGateEnd result }
+    ensures gate { IsGateEnd result.0 }
+    ensures caused { IsCaused (gate_listening L.coming L.faults) listeners result.1 result.0 }
+    ensures rises { CountsRise (gate_listening L.coming L.faults listeners) (gate_listening L.coming L.faults result.1) }
 {
     let Ok(begun) = prepared(alloc, settings) else {
-        return ServeEnd::NoMemory;
+        return (ServeEnd::NoMemory, listeners);
     };
     let Begun {
         mos,
@@ -53,7 +61,7 @@ where
         info,
     } = begun;
     let node = GateNode::new(alloc, Gate::new(alloc), objects, info);
-    ServeEnd::of_door(serve_gate_by_threads(
+    let (end, listeners) = serve_gate_by_threads(
         rt,
         alloc,
         (node, ()),
@@ -61,10 +69,10 @@ where
         ncs,
         &peer,
         settings.budget,
-        upper,
-        lower,
+        listeners,
         dialer,
         pacer,
         clock,
-    ))
+    );
+    (ServeEnd::of_door(end), listeners)
 }

@@ -1,9 +1,13 @@
 //! A run of the server.
-ghost use Rattle.std.specs.Prelude.{IfOk};
+ghost use Rattle.std.specs.Prelude.{◌≡◌, ◌≢◌, ◌⊎◌, IfErr, IfOk, length};
 ghost use Rattle.end_settings.specs.Devices.{AreDevices};
+ghost use Rattle.program_ends.specs.Ends.{IsNoFile, IsNoSettings, IsServerRunEnd};
+ghost use Rattle.program_ends.specs.declared.program_end.FileOf.TheVariants.{Log};
+ghost use Rattle.program_ends.specs.declared.program_end.ProgramEnd.TheVariants.{NoMemory, NoPort, Usage};
 
 use end_settings::{ServerSettings, read_server_settings};
 use file_keeper::FileKeeper;
+use port_doors::ServerListeners;
 use port_events::Side;
 use port_tcp::{SystemClock, TcpDialer, TcpPort};
 use program_ends::{FileOf, ProgramEnd, pacer, path_of, port_at, read_file};
@@ -14,10 +18,15 @@ use std::sync::{Arc, Wait};
 use std::thread::Threads;
 
 // The settings in a file.
+#[tactic(auto, using(program_ends::proofs::RunEnds::unread_settings, program_ends::proofs::RunEnds::refused_settings))]
 fn settings_in(rt: &HostRuntime, path: &str) -> Result<ServerSettings, ProgramEnd>
-    ensures { IfOk result (λ s. AreDevices s.devices) }
+    ensures devices { IfOk result (λ s. AreDevices s.devices) }
+    ensures fault { IfErr result (λ end. IsNoSettings end) }
 {
-    let text = read_file(rt, path, FileOf::Settings)?;
+    let text = match read_file(rt, path, FileOf::Settings) {
+        Ok(text) => text,
+        Err(end) => return Err(end),
+    };
     match read_server_settings(rt.alloc(), &text) {
         Ok(settings) => Ok(settings),
         Err(fault) => Err(ProgramEnd::of_settings(fault)),
@@ -28,7 +37,9 @@ fn settings_in(rt: &HostRuntime, path: &str) -> Result<ServerSettings, ProgramEn
 fn keeper_of(
     rt: &HostRuntime,
     settings: &ServerSettings,
-) -> Result<FileKeeper<HostRuntime>, ProgramEnd> {
+) -> Result<FileKeeper<HostRuntime>, ProgramEnd>
+    ensures { IfErr result (λ end. IsNoFile Log end) }
+{
     let Ok(path) = path_of(rt.alloc(), &settings.log) else {
         return Err(ProgramEnd::NoMemory);
     };
@@ -39,88 +50,110 @@ fn keeper_of(
     }
 }
 
-// One more holder of the counter of connections.
-fn counter(numbers: &Arc<AtomicU64>) -> Result<Arc<AtomicU64>, ProgramEnd> {
-    match Arc::try_clone(numbers) {
-        Ok(numbers) => Ok(numbers),
-        Err(_) => Err(ProgramEnd::NoMemory),
+// One port more, for connections at this side.
+fn next_port(
+    rt: HostRuntime,
+    port: u16,
+    side: Side,
+    numbers: &Arc<AtomicU64>,
+) -> Result<TcpPort<HostRuntime>, ProgramEnd>
+    ensures fault { IfErr result (λ end. (end ≡ NoMemory) ⊎ (end ≡ NoPort port)) }
+    ensures run { IfErr result (λ end. IsServerRunEnd end) }
+{
+    let Ok(numbers) = Arc::try_clone(numbers) else {
+        return Err(ProgramEnd::NoMemory);
+    };
+    match port_at(rt, port, side, numbers) {
+        Ok(port) => Ok(port),
+        Err(_) => Err(ProgramEnd::NoPort(port)),
     }
 }
 
-// The three ports: for running orders, for objects, and for editors.
+// The three ports: for running orders, for objects, and for editors. No worker is refused so far.
 fn ports_of(
     rt: HostRuntime,
     settings: &ServerSettings,
     numbers: &Arc<AtomicU64>,
-) -> Result<
-    (
-        TcpPort<HostRuntime>,
-        (TcpPort<HostRuntime>, TcpPort<HostRuntime>),
-    ),
-    ProgramEnd,
-> {
-    let upper = port_at(rt, settings.upper, Side::Upper, counter(numbers)?)?;
-    let lower = port_at(rt, settings.lower, Side::Lower, counter(numbers)?)?;
-    let editor = port_at(rt, settings.editor, Side::Editor, counter(numbers)?)?;
-    Ok((upper, (lower, editor)))
+) -> Result<ServerListeners<TcpPort<HostRuntime>>, ProgramEnd>
+    ensures refused { IfOk result (λ l. l.refused ≡ 0) }
+    ensures fault { IfErr result (λ end. (end ≡ NoMemory) ⊎ ((end ≡ NoPort settings.now.upper) ⊎ ((end ≡ NoPort settings.now.lower) ⊎ (end ≡ NoPort settings.now.editor)))) }
+    ensures run { IfErr result (λ end. IsServerRunEnd end) }
+{
+    Ok(ServerListeners {
+        upper: next_port(rt, settings.upper, Side::Upper, numbers)?,
+        lower: next_port(rt, settings.lower, Side::Lower, numbers)?,
+        editor: next_port(rt, settings.editor, Side::Editor, numbers)?,
+        refused: 0,
+    })
 }
 
 // Serves by these settings.
+#[tactic(auto, using(program_ends::proofs::RunEnds::server_log, program_ends::proofs::RunEnds::server_served))]
 fn serve<R: Threads + Wait + Eprint + Copy + Drop + Send + Sync + 'static>(
     rt: HostRuntime,
     threads: R,
     settings: &ServerSettings,
-) -> Result<ProgramEnd, ProgramEnd>
+) -> ProgramEnd
     requires { AreDevices settings.now.devices }
+    ensures { IsServerRunEnd result }
 {
     let alloc = rt.alloc();
-    let keeper = keeper_of(&rt, settings)?;
-    let Ok(numbers) = Arc::new(alloc, AtomicU64::new(1)) else {
-        return Err(ProgramEnd::NoMemory);
+    let keeper = match keeper_of(&rt, settings) {
+        Ok(keeper) => keeper,
+        Err(end) => return end,
     };
-    let (upper, (lower, editor)) = ports_of(rt, settings, &numbers)?;
+    let Ok(numbers) = Arc::new(alloc, AtomicU64::new(1)) else {
+        return ProgramEnd::NoMemory;
+    };
+    let listeners = match ports_of(rt, settings, &numbers) {
+        Ok(listeners) => listeners,
+        Err(end) => return end,
+    };
     let dialer = TcpDialer::new(rt, alloc, Side::Upper, numbers);
     let clock = SystemClock::new(rt);
-    let end = ncs_serve_by_threads(
+    let (end, _listeners) = ncs_serve_by_threads(
         &threads,
         alloc,
         settings,
         keeper,
-        upper,
-        lower,
-        editor,
+        listeners,
         dialer,
         pacer(rt),
         clock,
     );
-    Ok(ProgramEnd::of_serving(end))
+    ProgramEnd::of_serving(end)
 }
 
 // A run with the settings in a file.
+#[tactic(auto, using(program_ends::proofs::RunEnds::server_settings))]
 fn run_with<R: Threads + Wait + Eprint + Copy + Drop + Send + Sync + 'static>(
     rt: HostRuntime,
     threads: R,
     path: &str,
-) -> Result<ProgramEnd, ProgramEnd> {
-    let settings = settings_in(&rt, path)?;
-    serve(rt, threads, &settings)
+) -> ProgramEnd
+    ensures { IsServerRunEnd result }
+{
+    match settings_in(&rt, path) {
+        Ok(settings) => serve(rt, threads, &settings),
+        Err(end) => end,
+    }
 }
 
 /// Runs the server, whose workers are started by `threads`, with the words behind the program's name: the path of its
 /// settings.
 ///
-/// What isn't as it should be is looked for in this order: the words, the settings' file, the settings, the journal's file,
-/// the ports, the journal. Memory may run out at each.
+/// `Usage` comes exactly where these words aren't one. What else isn't as it should be is looked for in this order: the
+/// settings' file, the settings, the journal's file, the ports, the journal. Memory may run out at each.
 pub fn run_server<R: Threads + Wait + Eprint + Copy + Drop + Send + Sync + 'static>(
     rt: HostRuntime,
     threads: R,
     words: &[String],
-) -> ProgramEnd {
-    let [path] = words else {
-        return ProgramEnd::Usage;
-    };
-    match run_with(rt, threads, path.as_str()) {
-        Ok(end) => end,
-        Err(end) => end,
+) -> ProgramEnd
+    ensures usage { length words.now ≢ 1 → result ≡ Usage }
+    ensures run { length words.now ≡ 1 → IsServerRunEnd result }
+{
+    match words {
+        [path] => run_with(rt, threads, path.as_str()),
+        _ => ProgramEnd::Usage,
     }
 }

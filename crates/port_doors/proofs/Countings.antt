@@ -2,7 +2,7 @@
 use Rattle.std.proofs.Common.{◌≡◌, ℕ, ◌+◌, ◌≤◌, Option, Some, None, refl, sym, ap, ◌∙◌, subst, arith, inl, inr}
 use Rattle.mos_io.specs.Counts.{Rose}
 use Rattle.port_links.specs.Links.{Fewer, More, NoneComes}
-use Rattle.port_doors.specs.Doors.{Seen, Opening, IsShut, DoorBy, NotStarted}
+use Rattle.port_doors.specs.Doors.{Seen, Opening, IsShut, DoorBy, DoorCause, NotStarted}
 use Rattle.port_doors.specs.declared.door.DoorEnd.{DoorEnd}
 use Rattle.port_doors.specs.declared.door.DoorEnd.TheVariants.{Closed, ListenFault, NoWorker, NoMemory}
 
@@ -49,12 +49,20 @@ opened_then was then now a b = record {
   spawns = let x = a.spawns in let y = b.spawns in omega arith;
 }
 
+-- so far, and then the cause of an end
+cause_then : (was then now : Seen) (end : DoorEnd) → Opening was then → DoorCause then now end → DoorCause was now end
+cause_then was then now Closed a b = (opened_then was then now a b.0, b.1)
+cause_then was then now ListenFault a b = rose_from was.listen_faults then.listen_faults now.listen_faults a.listens b
+cause_then was then now NoWorker a b = rose_from was.spawn_faults then.spawn_faults now.spawn_faults a.spawns b
+cause_then was then now NoMemory a b = tt
+
 -- so far, and then an end
 pub ended_then : (was then now : Seen) (end : DoorEnd) → Opening was then → DoorBy then now end → DoorBy was now end
-ended_then was then now Closed a b = (opened_then was then now a b.0, b.1)
-ended_then was then now ListenFault a b = rose_from was.listen_faults then.listen_faults now.listen_faults a.listens b
-ended_then was then now NoWorker a b = rose_from was.spawn_faults then.spawn_faults now.spawn_faults a.spawns b
-ended_then was then now NoMemory a b = tt
+ended_then was then now end a b = record {
+  listens = let x = a.listens in let y = b.listens in omega arith;
+  spawns = let x = a.spawns in let y = b.spawns in omega arith;
+  cause = cause_then was then now end a b.cause;
+}
 
 -- workers were started, and then one wasn't
 pub not_started_then : (was then now : ℕ) (end : DoorEnd) → was ≤ then → NotStarted then now end → NotStarted was now end

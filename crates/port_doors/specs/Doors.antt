@@ -29,12 +29,18 @@ pub record Opening (was now : Seen) : Type 0 where
 abbrev pub IsShut : Seen → Seen → Type 0
 IsShut was now = Opening was now × NoneComes now.coming
 
--- how a door's loop ended, and why
-abbrev pub DoorBy : Seen → Seen → DoorEnd → Type 0
-DoorBy was now Closed = IsShut was now
-DoorBy was now ListenFault = Rose was.listen_faults now.listen_faults
-DoorBy was now NoWorker = Rose was.spawn_faults now.spawn_faults
-DoorBy was now NoMemory = Unit {0}
+-- why a door's loop ended
+abbrev pub DoorCause : Seen → Seen → DoorEnd → Type 0
+DoorCause was now Closed = IsShut was now
+DoorCause was now ListenFault = Rose was.listen_faults now.listen_faults
+DoorCause was now NoWorker = Rose was.spawn_faults now.spawn_faults
+DoorCause was now NoMemory = Unit {0}
+
+-- how a door's loop ended: no count fell, and the end has its cause
+pub record DoorBy (was now : Seen) (end : DoorEnd) : Type 0 where
+  pub listens : was.listen_faults ≤ now.listen_faults
+  pub spawns : was.spawn_faults ≤ now.spawn_faults
+  pub cause : DoorCause was now end
 
 -- why a worker that dials wasn't started: the spawner counted a fault, or memory ran out
 abbrev pub NotStarted : ℕ → ℕ → DoorEnd → Type 0

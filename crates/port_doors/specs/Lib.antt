@@ -1,3 +1,4 @@
 pub mod Calls
 pub mod Doors
+pub mod Listening
 pub mod Serving

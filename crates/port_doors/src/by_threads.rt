@@ -1,9 +1,12 @@
 //! The two whole calls, with a thread for each worker.
-ghost use Rattle.std.specs.Prelude.{◌≡◌, length};
+ghost use Rattle.std.specs.Prelude.{◌≡◌, ◌≤◌, length};
 ghost use Rattle.std.specs.Arc.{arc_value};
+ghost use Rattle.mos_io.specs.Counts.{Rose};
+ghost use Rattle.port_doors.specs.Listening.{CausedByThreads, CountsRise, gate_listening, server_listening};
 
 use crate::calls::Peer;
 use crate::door::{Door, DoorEnd};
+use crate::listeners::{GateListeners, ServerListeners};
 use crate::ports::{GatePorts, ServerPorts};
 use crate::serve::{serve_gate, serve_server};
 use crate::told::ToldJob;
@@ -18,8 +21,87 @@ use std::alloc::Global;
 use std::sync::{Arc, Wait};
 use std::thread::Threads;
 
-/// Serves as `serve_server` does, with a thread for each worker. On standard error it says why each connection ended that
-/// was accepted.
+// The count after the faults of one spawner more.
+fn count_refused<F: Drop>(refused: u64, spawner: &StartSpawner<F>) -> u64
+    ensures rises { refused ≤ result }
+    ensures rose { Rose 0 spawner.now.faults → Rose refused result }
+{
+    refused.saturating_add(spawner.faults())
+}
+
+// The listener of a door, with the count after the faults of its spawner.
+fn leave_door<L: Drop, F: Drop>(door: Door<L, StartSpawner<F>>, refused: u64) -> (L, u64)
+    ensures listener { result.0 ≡ door.listener }
+    ensures rises { refused ≤ result.1 }
+    ensures rose { Rose 0 (door.spawner).faults → Rose refused result.1 }
+{
+    let Door { listener, spawner } = door;
+    (listener, count_refused(refused, &spawner))
+}
+
+// A server's listeners out of their doors, with the count after the faults of all four spawners.
+#[tactic(auto, using(crate::proofs::Listenings::rose_twice))]
+fn server_listeners<L: Drop, F: Drop>(
+    ports: ServerPorts<L, StartSpawner<F>>,
+    refused: u64,
+) -> ServerListeners<L>
+    ensures listeners { (result.upper ≡ (ports.upper).listener) × (result.lower ≡ (ports.lower).listener) × (result.editor ≡ (ports.editor).listener) }
+    ensures rises { refused ≤ result.refused }
+    ensures upper { Rose 0 ((ports.upper).spawner).faults → Rose refused result.refused }
+    ensures lower { Rose 0 ((ports.lower).spawner).faults → Rose refused result.refused }
+    ensures editor { Rose 0 ((ports.editor).spawner).faults → Rose refused result.refused }
+    ensures drivers { Rose 0 (ports.drivers).faults → Rose refused result.refused }
+{
+    let ServerPorts {
+        upper,
+        lower,
+        editor,
+        drivers,
+    } = ports;
+    let (upper, by_upper) = leave_door(upper, refused);
+    let (lower, by_lower) = leave_door(lower, by_upper);
+    let (editor, by_editor) = leave_door(editor, by_lower);
+    ServerListeners {
+        upper,
+        lower,
+        editor,
+        refused: count_refused(by_editor, &drivers),
+    }
+}
+
+// A gateway's listeners out of their doors, with the count after the faults of all three spawners.
+#[tactic(auto, using(crate::proofs::Listenings::rose_twice))]
+fn gate_listeners<L: Drop, F: Drop>(
+    ports: GatePorts<L, StartSpawner<F>>,
+    refused: u64,
+) -> GateListeners<L>
+    ensures listeners { (result.upper ≡ (ports.upper).listener) × (result.lower ≡ (ports.lower).listener) }
+    ensures rises { refused ≤ result.refused }
+    ensures upper { Rose 0 ((ports.upper).spawner).faults → Rose refused result.refused }
+    ensures lower { Rose 0 ((ports.lower).spawner).faults → Rose refused result.refused }
+    ensures drivers { Rose 0 (ports.drivers).faults → Rose refused result.refused }
+{
+    let GatePorts {
+        upper,
+        lower,
+        drivers,
+    } = ports;
+    let (upper, by_upper) = leave_door(upper, refused);
+    let (lower, by_lower) = leave_door(lower, by_upper);
+    GateListeners {
+        upper,
+        lower,
+        refused: count_refused(by_lower, &drivers),
+    }
+}
+
+/// Serves as `serve_server` does, with a thread for each worker. The listeners come back as the call leaves them. On standard
+/// error it says why each connection ended that was accepted.
+///
+/// # Ends
+/// Closed where each listener said that none comes; ListenFault only where a listener's count of faults rose; NoWorker only
+/// where `refused` rose, the count of the workers for which no thread could be made; NoMemory where memory runs out. No
+/// count falls.
 pub fn serve_server_by_threads<
     M: StepRelation<Event = PortEvent, Answer = PortAnswer> + Machine<D> + Send + 'static,
     D: Drop + Send + 'static,
@@ -36,45 +118,46 @@ pub fn serve_server_by_threads<
     ncs: Id,
     peers: &[Peer],
     budget: u64,
-    upper: L,
-    lower: L,
-    editor: L,
+    listeners: ServerListeners<L>,
     dialer: Di,
     pacer: P,
     clock: C,
-) -> DoorEnd
+) -> (DoorEnd, ServerListeners<L>)
 where
     L::S: Send + 'static,
     L::K: Send + 'static,
     Di::S: Send + 'static,
     Di::K: Send + 'static,
     requires { length peers.now ≡ length (arc_value names) }
+    ensures caused { CausedByThreads (server_listening L.coming L.faults listeners) (server_listening L.coming L.faults result.1) result.0 }
+    ensures rises { CountsRise (server_listening L.coming L.faults listeners) (server_listening L.coming L.faults result.1) }
 {
     let start_job = |job: PortJob<M, D, L::S, L::K, Di, P, C, R>| -> Result<(), Failed> {
         start_thread(rt, ToldJob { job })
     };
     let mut ports = ServerPorts {
         upper: Door {
-            listener: upper,
+            listener: listeners.upper,
             spawner: StartSpawner::new(&start_job),
         },
         lower: Door {
-            listener: lower,
+            listener: listeners.lower,
             spawner: StartSpawner::new(&start_job),
         },
         editor: Door {
-            listener: editor,
+            listener: listeners.editor,
             spawner: StartSpawner::new(&start_job),
         },
         drivers: StartSpawner::new(&start_job),
     };
-    serve_server(
+    let end = serve_server(
         rt, alloc, machine, names, ncs, peers, budget, &mut ports, dialer, pacer, clock,
-    )
+    );
+    (end, server_listeners(ports, listeners.refused))
 }
 
-/// Serves as `serve_gate` does, with a thread for each worker. On standard error it says why each connection ended that was
-/// accepted.
+/// Serves as `serve_gate` does, with a thread for each worker. The listeners come back as the call leaves them, and the ends
+/// are those of `serve_server_by_threads`. On standard error it says why each connection ended that was accepted.
 pub fn serve_gate_by_threads<
     M: StepRelation<Event = PortEvent, Answer = PortAnswer> + Machine<D> + Send + 'static,
     D: Drop + Send + 'static,
@@ -91,33 +174,35 @@ pub fn serve_gate_by_threads<
     ncs: Id,
     peer: &Peer,
     budget: u64,
-    upper: L,
-    lower: L,
+    listeners: GateListeners<L>,
     dialer: Di,
     pacer: P,
     clock: C,
-) -> DoorEnd
+) -> (DoorEnd, GateListeners<L>)
 where
     L::S: Send + 'static,
     L::K: Send + 'static,
     Di::S: Send + 'static,
     Di::K: Send + 'static,
+    ensures caused { CausedByThreads (gate_listening L.coming L.faults listeners) (gate_listening L.coming L.faults result.1) result.0 }
+    ensures rises { CountsRise (gate_listening L.coming L.faults listeners) (gate_listening L.coming L.faults result.1) }
 {
     let start_job = |job: PortJob<M, D, L::S, L::K, Di, P, C, R>| -> Result<(), Failed> {
         start_thread(rt, ToldJob { job })
     };
     let mut ports = GatePorts {
         upper: Door {
-            listener: upper,
+            listener: listeners.upper,
             spawner: StartSpawner::new(&start_job),
         },
         lower: Door {
-            listener: lower,
+            listener: listeners.lower,
             spawner: StartSpawner::new(&start_job),
         },
         drivers: StartSpawner::new(&start_job),
     };
-    serve_gate(
+    let end = serve_gate(
         rt, alloc, machine, mos, ncs, peer, budget, &mut ports, dialer, pacer, clock,
-    )
+    );
+    (end, gate_listeners(ports, listeners.refused))
 }

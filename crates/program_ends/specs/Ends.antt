@@ -1,5 +1,18 @@
--- How a program ended.
-use Rattle.std.specs.Prelude.{ℕ}
+-- How a program ended, and what it says of that.
+use Rattle.std.specs.Prelude.{◌≡◌, ◌⊎◌, ℕ, List, [], ◌∷◌, ◌++◌, codes}
+use Rattle.std.specs.Fmt.{decimal}
+use Rattle.mos_fields.specs.Fields.{name_of}
+use Rattle.mos_lexer.specs.declared.kind.Kind.{Kind}
+use Rattle.mos_lexer.specs.declared.kind.Kind.TheVariants as kinds
+use Rattle.end_settings.specs.Keys.{key_name}
+use Rattle.end_settings.specs.declared.fault.SettingsFault.{SettingsFault}
+use Rattle.end_settings.specs.declared.fault.SettingsFault.TheVariants as settings
+use Rattle.object_reading.specs.declared.fault.ObjectsFault.{ObjectsFault}
+use Rattle.object_reading.specs.declared.fault.ObjectsFault.TheVariants as objects
+use Rattle.serve_ends.specs.declared.serve_end.ServeEnd.{ServeEnd}
+use Rattle.serve_ends.specs.declared.serve_end.ServeEnd.TheVariants as serving
+use Rattle.program_ends.specs.declared.program_end.FileOf.{FileOf}
+use Rattle.program_ends.specs.declared.program_end.FileOf.TheVariants as files
 use Rattle.program_ends.specs.declared.program_end.ProgramEnd.{ProgramEnd}
 use Rattle.program_ends.specs.declared.program_end.ProgramEnd.TheVariants as ends
 
@@ -16,3 +29,162 @@ status_of ends.StoreFault = 6
 status_of (ends.BadEntry number) = 7
 status_of ends.NoMemory = 8
 status_of (ends.BadObjects fault) = 9
+
+-- ---- which end stands for which
+
+-- that of a program whose serving call ended so
+abbrev pub end_of_serving : {K : Type 0} → ServeEnd K → ProgramEnd
+end_of_serving serving.Closed = ends.Closed
+end_of_serving serving.ListenFault = ends.ListenFault
+end_of_serving serving.NoWorker = ends.NoWorker
+end_of_serving (serving.StoreFault keeper) = ends.StoreFault
+end_of_serving (serving.BadEntry number keeper) = ends.BadEntry number
+end_of_serving serving.NoMemory = ends.NoMemory
+
+-- that of a program whose settings are refused so
+abbrev pub end_of_settings : SettingsFault → ProgramEnd
+end_of_settings settings.NotToml = ends.BadSettings settings.NotToml
+end_of_settings (settings.Missing key) = ends.BadSettings (settings.Missing key)
+end_of_settings (settings.BadValue key) = ends.BadSettings (settings.BadValue key)
+end_of_settings settings.NoMemory = ends.NoMemory
+
+-- that of a program whose objects are refused so
+abbrev pub end_of_objects : ObjectsFault → ProgramEnd
+end_of_objects (objects.Refused place kind) = ends.BadObjects (objects.Refused place kind)
+end_of_objects (objects.NotObject number) = ends.BadObjects (objects.NotObject number)
+end_of_objects (objects.Full number units) = ends.BadObjects (objects.Full number units)
+end_of_objects objects.ReadFault = ends.NoFile files.Objects
+end_of_objects objects.NoMemory = ends.NoMemory
+
+-- a file can't be had: it can't be opened or read, or memory ran out
+abbrev pub IsNoFile : FileOf → ProgramEnd → Type 0
+IsNoFile file end = (end ≡ ends.NoFile file) ⊎ (end ≡ ends.NoMemory)
+
+-- the settings of a file can't be had: it can't be opened or read, they are refused, or memory ran out
+abbrev pub IsNoSettings : ProgramEnd → Type 0
+IsNoSettings ends.Closed = ⊥
+IsNoSettings ends.Usage = ⊥
+IsNoSettings (ends.NoFile files.Settings) = Unit {0}
+IsNoSettings (ends.NoFile files.Log) = ⊥
+IsNoSettings (ends.NoFile files.Objects) = ⊥
+IsNoSettings (ends.NoPort port) = ⊥
+IsNoSettings (ends.BadSettings fault) = Unit {0}
+IsNoSettings ends.ListenFault = ⊥
+IsNoSettings ends.NoWorker = ⊥
+IsNoSettings ends.StoreFault = ⊥
+IsNoSettings (ends.BadEntry number) = ⊥
+IsNoSettings ends.NoMemory = Unit {0}
+IsNoSettings (ends.BadObjects fault) = ⊥
+
+-- the same of the objects of a file
+abbrev pub IsNoObjects : ProgramEnd → Type 0
+IsNoObjects ends.Closed = ⊥
+IsNoObjects ends.Usage = ⊥
+IsNoObjects (ends.NoFile files.Settings) = ⊥
+IsNoObjects (ends.NoFile files.Log) = ⊥
+IsNoObjects (ends.NoFile files.Objects) = Unit {0}
+IsNoObjects (ends.NoPort port) = ⊥
+IsNoObjects (ends.BadSettings fault) = ⊥
+IsNoObjects ends.ListenFault = ⊥
+IsNoObjects ends.NoWorker = ⊥
+IsNoObjects ends.StoreFault = ⊥
+IsNoObjects (ends.BadEntry number) = ⊥
+IsNoObjects ends.NoMemory = Unit {0}
+IsNoObjects (ends.BadObjects fault) = Unit {0}
+
+-- how the program of a server may end that was given a file: not by its words, and not by objects
+abbrev pub IsServerRunEnd : ProgramEnd → Type 0
+IsServerRunEnd ends.Closed = Unit {0}
+IsServerRunEnd ends.Usage = ⊥
+IsServerRunEnd (ends.NoFile files.Settings) = Unit {0}
+IsServerRunEnd (ends.NoFile files.Log) = Unit {0}
+IsServerRunEnd (ends.NoFile files.Objects) = ⊥
+IsServerRunEnd (ends.NoPort port) = Unit {0}
+IsServerRunEnd (ends.BadSettings fault) = Unit {0}
+IsServerRunEnd ends.ListenFault = Unit {0}
+IsServerRunEnd ends.NoWorker = Unit {0}
+IsServerRunEnd ends.StoreFault = Unit {0}
+IsServerRunEnd (ends.BadEntry number) = Unit {0}
+IsServerRunEnd ends.NoMemory = Unit {0}
+IsServerRunEnd (ends.BadObjects fault) = ⊥
+
+-- how that of a gateway may end: not by its words, and not by a journal
+abbrev pub IsGateRunEnd : ProgramEnd → Type 0
+IsGateRunEnd ends.Closed = Unit {0}
+IsGateRunEnd ends.Usage = ⊥
+IsGateRunEnd (ends.NoFile files.Settings) = Unit {0}
+IsGateRunEnd (ends.NoFile files.Log) = ⊥
+IsGateRunEnd (ends.NoFile files.Objects) = Unit {0}
+IsGateRunEnd (ends.NoPort port) = Unit {0}
+IsGateRunEnd (ends.BadSettings fault) = Unit {0}
+IsGateRunEnd ends.ListenFault = Unit {0}
+IsGateRunEnd ends.NoWorker = Unit {0}
+IsGateRunEnd ends.StoreFault = ⊥
+IsGateRunEnd (ends.BadEntry number) = ⊥
+IsGateRunEnd ends.NoMemory = Unit {0}
+IsGateRunEnd (ends.BadObjects fault) = Unit {0}
+
+-- ---- what is said of an end
+
+-- the word of a kind of rejection
+abbrev pub kind_word : Kind → List ℕ
+kind_word kinds.BadUnit = codes "BadUnit"
+kind_word kinds.BadChar = codes "BadChar"
+kind_word kinds.Entity = codes "Entity"
+kind_word (kinds.Twice field) = codes "Twice"
+kind_word (kinds.Order field) = codes "Order"
+kind_word (kinds.Missing field) = codes "Missing"
+kind_word (kinds.Value field) = codes "Value"
+kind_word kinds.Tag = codes "Tag"
+kind_word kinds.TooLong = codes "TooLong"
+kind_word kinds.End = codes "End"
+
+-- the name of its field, if it has one
+abbrev pub kind_field : Kind → List ℕ
+kind_field kinds.BadUnit = []
+kind_field kinds.BadChar = []
+kind_field kinds.Entity = []
+kind_field (kinds.Twice field) = name_of field
+kind_field (kinds.Order field) = name_of field
+kind_field (kinds.Missing field) = name_of field
+kind_field (kinds.Value field) = name_of field
+kind_field kinds.Tag = []
+kind_field kinds.TooLong = []
+kind_field kinds.End = []
+
+-- a text in parentheses, nothing where it is empty
+abbrev pub bracketed : List ℕ → List ℕ
+bracketed [] = []
+bracketed (c ∷ cs) = codes "(" ++ (c ∷ cs) ++ codes ")"
+
+abbrev pub settings_text : SettingsFault → List ℕ
+settings_text settings.NotToml = codes "NotToml"
+settings_text (settings.Missing key) = codes "Missing(" ++ key_name key ++ codes ")"
+settings_text (settings.BadValue key) = codes "BadValue(" ++ key_name key ++ codes ")"
+settings_text settings.NoMemory = codes "NoMemory"
+
+abbrev pub objects_text : ObjectsFault → List ℕ
+objects_text (objects.Refused place kind) = codes "Refused " ++ decimal place ++ codes " " ++ kind_word kind ++ bracketed (kind_field kind)
+objects_text (objects.NotObject number) = codes "NotObject " ++ decimal number
+objects_text (objects.Full number units) = codes "Full " ++ decimal number ++ codes " " ++ decimal units
+objects_text objects.ReadFault = codes "ReadFault"
+objects_text objects.NoMemory = codes "NoMemory"
+
+abbrev pub file_text : FileOf → List ℕ
+file_text files.Settings = codes "NoFile: the settings"
+file_text files.Log = codes "NoFile: log"
+file_text files.Objects = codes "NoFile: objects"
+
+-- how a program says that it ended
+abbrev pub end_text : ProgramEnd → List ℕ
+end_text ends.Closed = codes "Closed"
+end_text ends.Usage = codes "Usage"
+end_text (ends.NoFile file) = file_text file
+end_text (ends.NoPort port) = codes "NoPort " ++ decimal port
+end_text (ends.BadSettings fault) = settings_text fault
+end_text ends.ListenFault = codes "ListenFault"
+end_text ends.NoWorker = codes "NoWorker"
+end_text ends.StoreFault = codes "StoreFault"
+end_text (ends.BadEntry number) = codes "BadEntry " ++ decimal number
+end_text ends.NoMemory = codes "NoMemory"
+end_text (ends.BadObjects fault) = objects_text fault

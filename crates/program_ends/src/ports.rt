@@ -1,4 +1,7 @@
 //! The ports of this machine, and the pauses of its workers.
+ghost use Rattle.std.specs.Prelude.{◌≡◌, IfErr};
+ghost use Rattle.program_ends.specs.declared.program_end.ProgramEnd.TheVariants.{NoPort};
+
 use crate::program_end::ProgramEnd;
 use port_events::Side;
 use port_tcp::{SleepPacer, TcpPort};
@@ -13,11 +16,13 @@ const PAUSE: u64 = 100;
 // After so many pauses a worker that dials sends a heartbeat: after half a minute.
 const BEAT: u64 = 300;
 
-/// The port of this number, on every address of this machine, for connections at this side. `NoPort` where it can't be
-/// opened.
+/// The port of this number, on every address of this machine, for connections at this side. The only error is `NoPort`,
+/// where it can't be opened.
 pub fn port_at<
     R: Net<Listener = TcpListener, Stream = TcpStream> + Clock + AllocGlobal + Eprint + Copy + Drop,
->(rt: R, port: u16, side: Side, numbers: Arc<AtomicU64>) -> Result<TcpPort<R>, ProgramEnd> {
+>(rt: R, port: u16, side: Side, numbers: Arc<AtomicU64>) -> Result<TcpPort<R>, ProgramEnd>
+    ensures { IfErr result (λ end. end ≡ NoPort port) }
+{
     match TcpListener::bind(&rt, (Ipv4Addr::UNSPECIFIED, port)) {
         Ok(listener) => Ok(TcpPort::new(rt, listener, side, numbers)),
         Err(_) => Err(ProgramEnd::NoPort(port)),

@@ -1,6 +1,8 @@
 //! How a program ended.
 ghost use Rattle.std.specs.Prelude.{◌≡◌};
-ghost use Rattle.program_ends.specs.Ends.{status_of};
+ghost use Rattle.std.specs.Fmt.{WritesOnOk};
+ghost use Rattle.object_reading.specs.declared.fault.ObjectsFault.TheVariants.{Refused};
+ghost use Rattle.program_ends.specs.Ends.{bracketed, end_of_objects, end_of_serving, end_of_settings, file_text, kind_field as kind_field_of, kind_word as kind_word_of, objects_text, settings_text, status_of};
 
 use end_settings::SettingsFault;
 use mos_lexer::Kind;
@@ -68,7 +70,9 @@ impl ProgramEnd {
     }
 
     /// The end of a program whose serving call ended so.
-    pub fn of_serving<K: Drop>(end: ServeEnd<K>) -> Self {
+    pub fn of_serving<K: Drop>(end: ServeEnd<K>) -> Self
+        ensures { result ≡ end_of_serving end }
+    {
         match end {
             ServeEnd::Closed => ProgramEnd::Closed,
             ServeEnd::ListenFault => ProgramEnd::ListenFault,
@@ -79,8 +83,10 @@ impl ProgramEnd {
         }
     }
 
-    /// The end of a program whose settings are refused so.
-    pub fn of_settings(fault: SettingsFault) -> Self {
+    /// The end of a program whose settings are refused so: `NoMemory` stays that, and all others are `BadSettings`.
+    pub fn of_settings(fault: SettingsFault) -> Self
+        ensures { result ≡ end_of_settings fault }
+    {
         match fault {
             SettingsFault::NoMemory => ProgramEnd::NoMemory,
             SettingsFault::NotToml
@@ -89,8 +95,11 @@ impl ProgramEnd {
         }
     }
 
-    /// The end of a program whose objects are refused so.
-    pub fn of_objects(fault: ObjectsFault) -> Self {
+    /// The end of a program whose objects are refused so: `NoMemory` stays that, `ReadFault` is `NoFile`, and all others are
+    /// `BadObjects`.
+    pub fn of_objects(fault: ObjectsFault) -> Self
+        ensures { result ≡ end_of_objects fault }
+    {
         match fault {
             ObjectsFault::NoMemory => ProgramEnd::NoMemory,
             ObjectsFault::ReadFault => ProgramEnd::NoFile(FileOf::Objects),
@@ -105,7 +114,9 @@ impl ProgramEnd {
 }
 
 // The word of a kind of rejection.
-fn kind_word(kind: Kind) -> &'static str {
+fn kind_word(kind: Kind) -> &'static str
+    ensures { result.now ≡ kind_word_of kind }
+{
     match kind {
         Kind::BadUnit => "BadUnit",
         Kind::BadChar => "BadChar",
@@ -121,7 +132,9 @@ fn kind_word(kind: Kind) -> &'static str {
 }
 
 // The name of the field of a kind, or nothing.
-fn kind_field(kind: Kind) -> &'static str {
+fn kind_field(kind: Kind) -> &'static str
+    ensures { result.now ≡ kind_field_of kind }
+{
     match kind {
         Kind::Twice(field) | Kind::Order(field) | Kind::Missing(field) | Kind::Value(field) => {
             field.name()
@@ -130,8 +143,20 @@ fn kind_field(kind: Kind) -> &'static str {
     }
 }
 
+// Writes a text in parentheses, nothing where it is empty.
+fn show_bracketed<W: fmt::Write>(f: &mut fmt::Formatter<W>, text: &str) -> fmt::Result
+    ensures { WritesOnOk W.write_str_gives f.old result (bracketed text.now) f.new }
+{
+    match text {
+        "" => Ok(()),
+        text => write!(f, "({text})"),
+    }
+}
+
 // Writes why settings are refused.
-fn show_settings<W: fmt::Write>(f: &mut fmt::Formatter<W>, fault: SettingsFault) -> fmt::Result {
+fn show_settings<W: fmt::Write>(f: &mut fmt::Formatter<W>, fault: SettingsFault) -> fmt::Result
+    ensures { WritesOnOk W.write_str_gives f.old result (settings_text fault) f.new }
+{
     match fault {
         SettingsFault::NotToml => f.write_str("NotToml"),
         SettingsFault::Missing { key } => {
@@ -146,16 +171,21 @@ fn show_settings<W: fmt::Write>(f: &mut fmt::Formatter<W>, fault: SettingsFault)
     }
 }
 
+// Writes at which place objects are refused, and why.
+fn show_refused<W: fmt::Write>(f: &mut fmt::Formatter<W>, place: u64, kind: Kind) -> fmt::Result
+    ensures { WritesOnOk W.write_str_gives f.old result (objects_text (Refused place kind)) f.new }
+{
+    let word = kind_word(kind);
+    write!(f, "Refused {place} {word}")?;
+    show_bracketed(f, kind_field(kind))
+}
+
 // Writes why objects are refused.
-fn show_objects<W: fmt::Write>(f: &mut fmt::Formatter<W>, fault: ObjectsFault) -> fmt::Result {
+fn show_objects<W: fmt::Write>(f: &mut fmt::Formatter<W>, fault: ObjectsFault) -> fmt::Result
+    ensures { WritesOnOk W.write_str_gives f.old result (objects_text fault) f.new }
+{
     match fault {
-        ObjectsFault::Refused { place, kind } => {
-            let word = kind_word(kind);
-            match kind_field(kind) {
-                "" => write!(f, "Refused {place} {word}"),
-                field => write!(f, "Refused {place} {word}({field})"),
-            }
-        }
+        ObjectsFault::Refused { place, kind } => show_refused(f, place, kind),
         ObjectsFault::NotObject { number } => write!(f, "NotObject {number}"),
         ObjectsFault::Full { number, units } => write!(f, "Full {number} {units}"),
         ObjectsFault::ReadFault => f.write_str("ReadFault"),
@@ -163,14 +193,28 @@ fn show_objects<W: fmt::Write>(f: &mut fmt::Formatter<W>, fault: ObjectsFault) -
     }
 }
 
+// Writes which file can't be opened or read.
+fn show_file<W: fmt::Write>(f: &mut fmt::Formatter<W>, file: FileOf) -> fmt::Result
+    ensures { WritesOnOk W.write_str_gives f.old result (file_text file) f.new }
+{
+    match file {
+        FileOf::Settings => f.write_str("NoFile: the settings"),
+        FileOf::Log => f.write_str("NoFile: log"),
+        FileOf::Objects => f.write_str("NoFile: objects"),
+    }
+}
+
 impl fmt::Display for ProgramEnd {
+    ghost use Rattle.std.specs.Prelude.{Some};
+    ghost use Rattle.program_ends.specs.Ends.{end_text};
+
+    ghost output = { λ end. Some (end_text end) };
+
     fn fmt<W: fmt::Write>(&self, f: &mut fmt::Formatter<W>) -> fmt::Result {
         match *self {
             ProgramEnd::Closed => f.write_str("Closed"),
             ProgramEnd::Usage => f.write_str("Usage"),
-            ProgramEnd::NoFile(FileOf::Settings) => f.write_str("NoFile: the settings"),
-            ProgramEnd::NoFile(FileOf::Log) => f.write_str("NoFile: log"),
-            ProgramEnd::NoFile(FileOf::Objects) => f.write_str("NoFile: objects"),
+            ProgramEnd::NoFile(file) => show_file(f, file),
             ProgramEnd::NoPort(port) => write!(f, "NoPort {port}"),
             ProgramEnd::BadSettings(fault) => show_settings(f, fault),
             ProgramEnd::ListenFault => f.write_str("ListenFault"),

@@ -3,7 +3,7 @@ use Rattle.std.specs.Prelude.{◌≡◌, ℕ, List, Option}
 use Rattle.mos_edits.specs.Entries.{Entry}
 use Rattle.mos_io.specs.Counts.{Rose}
 use Rattle.ncs_core.specs.Starting.{IsBadEntry}
-use Rattle.port_doors.specs.Serving.{Caused, PortsSeen}
+use Rattle.port_doors.specs.Listening.{AllListening, CausedByThreads}
 use Rattle.port_doors.specs.declared.door.DoorEnd.{DoorEnd}
 use Rattle.port_doors.specs.declared.door.DoorEnd.TheVariants as doors
 use Rattle.serve_ends.specs.declared.serve_end.ServeEnd.{ServeEnd}
@@ -35,15 +35,15 @@ IsStarted kept faults keeper (StoreFault later) = Rose (faults keeper) (faults l
 IsStarted kept faults keeper (BadEntry number later) = IsBadEntry (kept keeper) number
 IsStarted kept faults keeper NoMemory = Unit {0}
 
--- The causes of an end at these ports, with n peers that were to be dialed: those of the doors' loops, where these ran. Where
--- the server wasn't started, nothing happened at the ports.
-abbrev pub IsCaused : {K : Type 0} → ℕ → PortsSeen → PortsSeen → ServeEnd K → Type 0
-IsCaused n was now Closed = Caused n was now doors.Closed
-IsCaused n was now ListenFault = Caused n was now doors.ListenFault
-IsCaused n was now NoWorker = Caused n was now doors.NoWorker
-IsCaused n was now (StoreFault later) = now ≡ was
-IsCaused n was now (BadEntry number later) = now ≡ was
-IsCaused n was now NoMemory = Unit {0}
+-- The causes of an end at listeners, of which this much is seen: those of the doors' loops, where these ran. Where the server
+-- wasn't started, the listeners are as they were.
+abbrev pub IsCaused : {K X : Type 0} → (X → AllListening) → X → X → ServeEnd K → Type 0
+IsCaused seen was now Closed = CausedByThreads (seen was) (seen now) doors.Closed
+IsCaused seen was now ListenFault = CausedByThreads (seen was) (seen now) doors.ListenFault
+IsCaused seen was now NoWorker = CausedByThreads (seen was) (seen now) doors.NoWorker
+IsCaused seen was now (StoreFault later) = now ≡ was
+IsCaused seen was now (BadEntry number later) = now ≡ was
+IsCaused seen was now NoMemory = Unit {0}
 
 -- a gateway keeps no journal
 abbrev pub IsGateEnd : {K : Type 0} → ServeEnd K → Type 0

@@ -1,13 +1,14 @@
 //! The serving call of a server, with a thread for each worker.
 ghost use Rattle.std.specs.Prelude.{◌≡◌};
 ghost use Rattle.end_settings.specs.Devices.{AreDevices};
-ghost use Rattle.serve_ends.specs.Ends.{IsStarted};
+ghost use Rattle.port_doors.specs.Listening.{CountsRise, server_listening};
+ghost use Rattle.serve_ends.specs.Ends.{IsCaused, IsStarted};
 
 use crate::beginning::{Begun, prepared};
 use crate::starting::start_node;
 use end_settings::ServerSettings;
 use mos_io::{Clock, Pacer};
-use port_doors::serve_server_by_threads;
+use port_doors::{ServerListeners, serve_server_by_threads};
 use port_links::{Dialer, Listener};
 use rundown_log::Keeper;
 use serve_ends::ServeEnd;
@@ -18,10 +19,15 @@ use std::thread::Threads;
 /// Serves as the newsroom system of these settings, whose journal the keeper keeps: at three doors side by side, with two
 /// workers that dial each device, and a thread for each worker.
 ///
-/// The journal is loaded first. Where that fails the keeper comes back: `StoreFault` only where it failed and counted that,
-/// `BadEntry` exactly at the first entry that isn't accepted after those before it. The other ends are those that
-/// `port_doors::serve_server_by_threads` answers; no clause says why they come. The call waits, and returns when each door's
-/// loop has ended; it doesn't wait for the workers.
+/// The journal is loaded first. The call waits, and returns when each door's loop has ended; it doesn't wait for the workers.
+/// The listeners come back as it leaves them.
+///
+/// # Ends
+/// `StoreFault` only where the keeper failed and counted that, and `BadEntry` exactly at the first entry that isn't accepted
+/// after those before it; the keeper comes back with both, and nothing happened at the listeners. `Closed` where each listener
+/// said that none comes; `ListenFault` only where a listener's count of faults rose; `NoWorker` only where `refused` rose, the
+/// count of the workers for which no thread could be made; `NoMemory` where memory runs out. No count falls.
+#[tactic(auto, using(serve_ends::proofs::Doors::caused_by_doors))]
 pub fn ncs_serve_by_threads<
     K: Keeper + Drop + Send + 'static,
     L: Listener + Send,
@@ -34,23 +40,23 @@ pub fn ncs_serve_by_threads<
     alloc: Global,
     settings: &ServerSettings,
     keeper: K,
-    upper: L,
-    lower: L,
-    editor: L,
+    listeners: ServerListeners<L>,
     dialer: Di,
     pacer: P,
     clock: C,
-) -> ServeEnd<K>
+) -> (ServeEnd<K>, ServerListeners<L>)
 where
     L::S: Send + 'static,
     L::K: Send + 'static,
     Di::S: Send + 'static,
     Di::K: Send + 'static,
     requires { AreDevices settings.now.devices }
-    ensures { IsStarted K.kept K.faults keeper result }
+    ensures started { IsStarted K.kept K.faults keeper result.0 }
+    ensures caused { IsCaused (server_listening L.coming L.faults) listeners result.1 result.0 }
+    ensures rises { CountsRise (server_listening L.coming L.faults listeners) (server_listening L.coming L.faults result.1) }
 {
     let Ok(begun) = prepared(alloc, settings) else {
-        return ServeEnd::NoMemory;
+        return (ServeEnd::NoMemory, listeners);
     };
     let Begun {
         names,
@@ -60,9 +66,9 @@ where
     } = begun;
     let node = match start_node(alloc, keeper, settings.devices.len() as u32, info) {
         Ok(node) => node,
-        Err(end) => return end,
+        Err(end) => return (end, listeners),
     };
-    ServeEnd::of_door(serve_server_by_threads(
+    let (end, listeners) = serve_server_by_threads(
         rt,
         alloc,
         (node, ()),
@@ -70,11 +76,10 @@ where
         ncs,
         &peers,
         settings.budget,
-        upper,
-        lower,
-        editor,
+        listeners,
         dialer,
         pacer,
         clock,
-    ))
+    );
+    (ServeEnd::of_door(end), listeners)
 }

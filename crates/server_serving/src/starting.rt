@@ -1,7 +1,11 @@
 //! The server's machine, from its journal.
-ghost use Rattle.std.specs.Prelude.{◌≡◌, ◌≤◌, IfErr, IfOk};
+ghost use Rattle.std.specs.Prelude.{◌≡◌, ◌≤◌, [], IfErr, IfOk};
+ghost use Rattle.mos_edits.specs.Entries.{IsAccepted};
+ghost use Rattle.rundown_log.specs.Keeping.{AreKept};
+ghost use Rattle.mos_machines.specs.Steps.{started};
 ghost use Rattle.ncs_core.specs.Starting.{IsStartCause};
-ghost use Rattle.ncs_core.specs.State.{devices_of};
+ghost use Rattle.ncs_core.specs.State.{devices_of, ncs_of};
+ghost use Rattle.port_nodes.specs.ServerNodes.{AreNewSides};
 ghost use Rattle.serve_ends.specs.Ends.{IsStarted};
 
 use mos_values::MachInfo;
@@ -23,7 +27,8 @@ fn not_started<K: Keeper + Drop>(fault: StartFault<K>) -> ServeEnd<K>
     }
 }
 
-/// The machine of a server of 1 to 64 devices that says this of itself, with the entries that its keeper loads.
+/// The machine of a server of 1 to 64 devices that says this of itself, after its start with the entries that its keeper
+/// loads, each of which is accepted after those before it. No device has objects yet.
 ///
 /// `StoreFault` comes only where the keeper failed and counted that, `BadEntry` exactly at the first entry that isn't
 /// accepted after those before it; both give the keeper back. Else the only error is that memory runs out.
@@ -34,7 +39,12 @@ pub fn start_node<K: Keeper + Drop>(
     info: MachInfo,
 ) -> Result<NcsNode<K>, ServeEnd<K>>
     requires { (1 ≤ devices) × (devices ≤ 64) }
+    ensures state { IfOk result (λ n. ncs_of n.ncs ≡ started n.ncs.server.journal n.ncs.server.faults) }
     ensures devices { IfOk result (λ n. devices_of n.ncs ≡ devices) }
+    ensures loaded { IfOk result (λ n. AreKept (K.kept keeper) n.ncs.server.journal) }
+    ensures accepted { IfOk result (λ n. IsAccepted [] n.ncs.server.journal) }
+    ensures objects { IfOk result (λ n. AreNewSides n.ports) }
+    ensures info { IfOk result (λ n. n.info ≡ info) }
     ensures fault { IfErr result (λ end. IsStarted K.kept K.faults keeper end) }
 {
     let ncs = match Ncs::start(alloc, keeper, devices) {

@@ -45,12 +45,20 @@ pub struct StartSpawner<F: Drop> {
 impl<F: Drop> StartSpawner<F> {
     /// A spawner over this function, with no fault so far.
     pub fn new(start_job: F) -> Self
-        ensures { result.start_job ≡ start_job }
+        ensures start_job { result.start_job ≡ start_job }
+        ensures faults { result.faults ≡ 0 }
     {
         StartSpawner {
             start_job,
             faults: 0,
         }
+    }
+
+    /// How many jobs it couldn't start. The count stays at the last value of its 64 bits.
+    pub fn faults(&self) -> u64
+        ensures { result ≡ self.now.faults }
+    {
+        self.faults
     }
 }
 

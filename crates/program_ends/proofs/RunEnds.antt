@@ -1,0 +1,101 @@
+-- How runs of the programs end.
+use Rattle.std.proofs.Common.{inl, inr, sym, subst}
+use Rattle.end_settings.specs.declared.fault.SettingsFault.{SettingsFault}
+use Rattle.end_settings.specs.declared.fault.SettingsFault.TheVariants as settings
+use Rattle.object_reading.specs.declared.fault.ObjectsFault.{ObjectsFault}
+use Rattle.object_reading.specs.declared.fault.ObjectsFault.TheVariants as objects
+use Rattle.serve_ends.specs.Ends.{IsGateEnd}
+use Rattle.serve_ends.specs.declared.serve_end.ServeEnd.{ServeEnd}
+use Rattle.serve_ends.specs.declared.serve_end.ServeEnd.TheVariants as serving
+use Rattle.program_ends.specs.Ends.{end_of_settings, end_of_objects, end_of_serving, IsNoFile, IsNoSettings, IsNoObjects, IsServerRunEnd, IsGateRunEnd}
+use Rattle.program_ends.specs.declared.program_end.FileOf.TheVariants as files
+use Rattle.program_ends.specs.declared.program_end.ProgramEnd.{ProgramEnd}
+use Rattle.program_ends.specs.declared.program_end.ProgramEnd.TheVariants as ends
+
+-- ---- settings and objects
+
+pub unread_settings : (end : ProgramEnd) → IsNoFile files.Settings end → IsNoSettings end
+unread_settings end (inl e) = subst IsNoSettings (sym e) tt
+unread_settings end (inr e) = subst IsNoSettings (sym e) tt
+
+pub refused_settings : (fault : SettingsFault) → IsNoSettings (end_of_settings fault)
+refused_settings settings.NotToml = tt
+refused_settings (settings.Missing key) = tt
+refused_settings (settings.BadValue key) = tt
+refused_settings settings.NoMemory = tt
+
+pub refused_objects : (fault : ObjectsFault) → IsNoObjects (end_of_objects fault)
+refused_objects (objects.Refused place kind) = tt
+refused_objects (objects.NotObject number) = tt
+refused_objects (objects.Full number units) = tt
+refused_objects objects.ReadFault = tt
+refused_objects objects.NoMemory = tt
+
+-- ---- a server's
+
+pub server_settings : (end : ProgramEnd) → IsNoSettings end → IsServerRunEnd end
+server_settings ends.Closed no = tt
+server_settings ends.Usage no = absurd no
+server_settings (ends.NoFile files.Settings) no = tt
+server_settings (ends.NoFile files.Log) no = tt
+server_settings (ends.NoFile files.Objects) no = absurd no
+server_settings (ends.NoPort port) no = tt
+server_settings (ends.BadSettings fault) no = tt
+server_settings ends.ListenFault no = tt
+server_settings ends.NoWorker no = tt
+server_settings ends.StoreFault no = tt
+server_settings (ends.BadEntry number) no = tt
+server_settings ends.NoMemory no = tt
+server_settings (ends.BadObjects fault) no = absurd no
+
+pub server_log : (end : ProgramEnd) → IsNoFile files.Log end → IsServerRunEnd end
+server_log end (inl e) = subst IsServerRunEnd (sym e) tt
+server_log end (inr e) = subst IsServerRunEnd (sym e) tt
+
+pub server_served : {K : Type 0} (end : ServeEnd K) → IsServerRunEnd (end_of_serving end)
+server_served serving.Closed = tt
+server_served serving.ListenFault = tt
+server_served serving.NoWorker = tt
+server_served (serving.StoreFault keeper) = tt
+server_served (serving.BadEntry number keeper) = tt
+server_served serving.NoMemory = tt
+
+-- ---- a gateway's
+
+pub gate_settings : (end : ProgramEnd) → IsNoSettings end → IsGateRunEnd end
+gate_settings ends.Closed no = tt
+gate_settings ends.Usage no = absurd no
+gate_settings (ends.NoFile files.Settings) no = tt
+gate_settings (ends.NoFile files.Log) no = absurd no
+gate_settings (ends.NoFile files.Objects) no = tt
+gate_settings (ends.NoPort port) no = tt
+gate_settings (ends.BadSettings fault) no = tt
+gate_settings ends.ListenFault no = tt
+gate_settings ends.NoWorker no = tt
+gate_settings ends.StoreFault no = absurd no
+gate_settings (ends.BadEntry number) no = absurd no
+gate_settings ends.NoMemory no = tt
+gate_settings (ends.BadObjects fault) no = tt
+
+pub gate_objects : (end : ProgramEnd) → IsNoObjects end → IsGateRunEnd end
+gate_objects ends.Closed no = tt
+gate_objects ends.Usage no = absurd no
+gate_objects (ends.NoFile files.Settings) no = tt
+gate_objects (ends.NoFile files.Log) no = absurd no
+gate_objects (ends.NoFile files.Objects) no = tt
+gate_objects (ends.NoPort port) no = tt
+gate_objects (ends.BadSettings fault) no = tt
+gate_objects ends.ListenFault no = tt
+gate_objects ends.NoWorker no = tt
+gate_objects ends.StoreFault no = absurd no
+gate_objects (ends.BadEntry number) no = absurd no
+gate_objects ends.NoMemory no = tt
+gate_objects (ends.BadObjects fault) no = tt
+
+pub gate_served : {K : Type 0} (end : ServeEnd K) → IsGateEnd end → IsGateRunEnd (end_of_serving end)
+gate_served serving.Closed by = tt
+gate_served serving.ListenFault by = tt
+gate_served serving.NoWorker by = tt
+gate_served (serving.StoreFault keeper) by = absurd by
+gate_served (serving.BadEntry number keeper) by = absurd by
+gate_served serving.NoMemory by = tt
