@@ -316,3 +316,57 @@ fn want_of_memory_is_kept(rt: HostRuntime) -> Result<(), Fail> {
     assert!(rt; is_kept);
     Ok(())
 }
+
+/// The metadata of an item, of 2,000 characters: a comment, a reference, an end tag in CDATA, a line feed, and letters.
+fn metadata(alloc: Global) -> Result<Vec<u8>, NoMemory> {
+    let mut raw = bytes_of(
+        alloc,
+        "<mosExternalMetadata><!-- a -->1 &amp; 2<![CDATA[</b>]]>",
+    )?;
+    raw.extend_from_slice(&[0, b'\n'])?;
+    for _ in 0..1921 {
+        raw.extend_from_slice(&[0, b'x'])?;
+    }
+    raw.extend_from_slice(bytes_of(alloc, "</mosExternalMetadata>")?.as_slice())?;
+    Ok(raw)
+}
+
+/// Adds a story of three items, each with this metadata.
+fn push_story(alloc: Global, bytes: &mut Vec<u8>, story: u32, raw: &[u8]) -> Result<(), NoMemory> {
+    let head = format!(in alloc; "<story><storyID>{story}</storyID>")?;
+    bytes.extend_from_slice(bytes_of(alloc, head.as_str())?.as_slice())?;
+    for item in 0..3u32 {
+        let front = format!(in alloc;
+            "<item><itemID>{item}</itemID><objID>O</objID><mosID>d</mosID>"
+        )?;
+        bytes.extend_from_slice(bytes_of(alloc, front.as_str())?.as_slice())?;
+        bytes.extend_from_slice(raw)?;
+        bytes.extend_from_slice(bytes_of(alloc, "</item>")?.as_slice())?;
+    }
+    bytes.extend_from_slice(bytes_of(alloc, "</story>")?.as_slice())?;
+    Ok(())
+}
+
+/// A roCreate of 40 stories with 120 items in all.
+fn long_order(alloc: Global) -> Result<Vec<u8>, NoMemory> {
+    let raw = metadata(alloc)?;
+    let mut bytes = bytes_of(
+        alloc,
+        "<mos><mosID>d</mosID><ncsID>n</ncsID><roCreate><roID>R</roID><roSlug>S</roSlug>",
+    )?;
+    for story in 0..40u32 {
+        push_story(alloc, &mut bytes, story, raw.as_slice())?;
+    }
+    bytes.extend_from_slice(bytes_of(alloc, "</roCreate></mos>")?.as_slice())?;
+    Ok(bytes)
+}
+
+#[test]
+fn a_long_order_comes_back(rt: HostRuntime) -> Result<(), Fail> {
+    let alloc = rt.alloc();
+    assert_eq!(rt; metadata(alloc)?.len(), 4_000);
+    let order = long_order(alloc)?;
+    assert!(rt; comes_back(alloc, order.as_slice(), 65_536));
+    assert!(rt; comes_back(alloc, order.as_slice(), 1));
+    Ok(())
+}

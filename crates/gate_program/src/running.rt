@@ -96,7 +96,9 @@ fn next_port<R: Net<Listener = TcpListener, Stream = TcpStream> + Clock + Copy +
 }
 
 // The two ports: for running orders, and for objects. No worker is refused so far.
-fn ports_of<R: Net<Listener = TcpListener, Stream = TcpStream> + Clock + Copy + Drop>(
+fn ports_of<
+    R: Net<Listener = TcpListener, Stream = TcpStream> + Clock + AllocGlobal + Eprint + Copy + Drop,
+>(
     rt: R,
     settings: &GateSettings,
     numbers: &Arc<AtomicU64>,
@@ -121,6 +123,7 @@ fn serve<
         + Clock
         + Threads
         + Wait
+        + Eprint
         + Copy
         + Drop
         + Send
@@ -167,6 +170,7 @@ fn run_with<
         + Clock
         + Threads
         + Wait
+        + Eprint
         + Copy
         + Drop
         + Send
@@ -194,6 +198,7 @@ pub fn run_gateway<
         + Clock
         + Threads
         + Wait
+        + Eprint
         + Copy
         + Drop
         + Send

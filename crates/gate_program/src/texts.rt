@@ -20,7 +20,8 @@ FILE is TOML:
                 given
 
 It listens on every address of the machine, and dials the server's two ports.
-On standard error it says how it ended, in one line.
+On standard error it says which connections come and why they end, which dials
+fail, and at last how it ended itself, a line each.
 
 The program ends with
   0  no further connection can come

@@ -31,7 +31,7 @@ pub fn gate_serve_by_threads<
     Di: Dialer + Send + 'static,
     P: Pacer + Drop + Send + 'static,
     C: Clock + Drop + Send + 'static,
-    R: Threads + Wait + Copy + Drop + Send + Sync + 'static,
+    R: Threads + Wait + Eprint + Copy + Drop + Send + Sync + 'static,
 >(
     rt: &R,
     alloc: Global,

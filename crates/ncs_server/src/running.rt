@@ -89,7 +89,7 @@ fn ports_of(
 
 // Serves by these settings.
 #[tactic(auto, using(program_ends::proofs::RunEnds::server_log, program_ends::proofs::RunEnds::server_served))]
-fn serve<R: Threads + Wait + Copy + Drop + Send + Sync + 'static>(
+fn serve<R: Threads + Wait + Eprint + Copy + Drop + Send + Sync + 'static>(
     rt: HostRuntime,
     threads: R,
     settings: &ServerSettings,
@@ -126,7 +126,7 @@ fn serve<R: Threads + Wait + Copy + Drop + Send + Sync + 'static>(
 
 // A run with the settings in a file.
 #[tactic(auto, using(program_ends::proofs::RunEnds::server_settings))]
-fn run_with<R: Threads + Wait + Copy + Drop + Send + Sync + 'static>(
+fn run_with<R: Threads + Wait + Eprint + Copy + Drop + Send + Sync + 'static>(
     rt: HostRuntime,
     threads: R,
     path: &str,
@@ -144,7 +144,7 @@ fn run_with<R: Threads + Wait + Copy + Drop + Send + Sync + 'static>(
 ///
 /// `Usage` comes exactly where these words aren't one. What else isn't as it should be is looked for in this order: the
 /// settings' file, the settings, the journal's file, the ports, the journal. Memory may run out at each.
-pub fn run_server<R: Threads + Wait + Copy + Drop + Send + Sync + 'static>(
+pub fn run_server<R: Threads + Wait + Eprint + Copy + Drop + Send + Sync + 'static>(
     rt: HostRuntime,
     threads: R,
     words: &[String],

@@ -21,7 +21,8 @@ FILE is TOML:
 
 It listens on every address of the machine, and dials each device's two ports.
 A command is in the journal, on the disk, before it is answered OK. On standard
-error it says how it ended, in one line.
+error it says which connections come and why they end, which dials fail, and at
+last how it ended itself, a line each.
 
 The program ends with
   0  no further connection can come

@@ -7,7 +7,7 @@ ghost use Rattle.port_dialing.specs.Dialing.{Dialed, Tries, Try, is_last as is_l
 use mos_fields::{NoMemory, pair_ok};
 use mos_io::{Clock, Pace, Pacer};
 use port_events::{PortAnswer, PortEvent};
-use port_links::{Dialer, Link, Place};
+use port_links::{Dialer, Link, News, Place};
 use port_session::{End, Port, drive_port};
 use shared_machine::{Hub, Machine, Pass, StepRelation};
 use std::alloc::Global;
@@ -81,6 +81,7 @@ fn dial_once<
     ensures tries { (x : Try) × Tries M.steps M.refusal M.decks_left hub.now.start.0 pass.old.caller port.now budget (worker (Di.links dialer.old) (Di.calls dialer.old) (P.paces pacer.old) (P.stops pacer.old) (C.time clock.old) pass.old.seen) (worker (Di.links dialer.new) (Di.calls dialer.new) (P.paces pacer.new) (P.stops pacer.new) (C.time clock.new) pass.new.seen) x × (result.over ≡ is_last_of x) × (result.starved ≡ is_starved_of x) }
 {
     let Ok(link) = dialer.dial(place) else {
+        dialer.hear(port, place, News::Failed);
         let pace = pacer.pause();
         return Attempt {
             starved: false,
@@ -93,7 +94,13 @@ fn dial_once<
         mut source,
         mut sink,
     } = link;
+    dialer.hear(port, place, News::Opened { number });
     let Ok(here) = link_port(port, number) else {
+        let news = News::Ended {
+            number,
+            end: End::NoMemory,
+        };
+        dialer.hear(port, place, news);
         let pace = pacer.pause();
         return Attempt {
             starved: true,
@@ -112,6 +119,7 @@ fn dial_once<
         clock,
         budget,
     );
+    dialer.hear(port, place, News::Ended { number, end });
     if is_stopped(&end) {
         return Attempt {
             starved: false,

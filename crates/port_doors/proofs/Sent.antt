@@ -1,8 +1,6 @@
 -- A lane and a job may go to another thread.
 use denote.RattleType.{RattleType}
 use denote.Param.Send.{IsSend, sendable}
-use denote.Param.SendFields.{variants_send, as_row_send}
-use denote.Struct.Field.{row_field}
 use Rattle.std.proofs.Crossing.{crosses}
 use Rattle.mos_io.specs.declared.source.Source as source
 use Rattle.mos_io.specs.declared.sink.Sink as sink
@@ -17,15 +15,15 @@ use Rattle.port_session.proofs.port.Port.TheSendSync.{the_send as port_send}
 use Rattle.port_session.proofs.end.End.TheSendSync.{the_send as end_send}
 use Rattle.port_jobs.proofs.names.Names.TheSendSync.{the_send as names_send, the_sync as names_sync}
 use Rattle.port_jobs.specs.contracts.task.Task as task
-use Rattle.port_jobs.specs.contracts.task.Work as work
 use Rattle.port_jobs.specs.contracts.job.PortJob as job
 use Rattle.port_doors.proofs.door.DoorPort.TheSendSync.{the_send as door_port_send}
 use Rattle.port_doors.proofs.door.DoorEnd.TheSendSync.{the_send as door_end_send}
 use Rattle.port_doors.specs.contracts.door.Door as door
 use Rattle.port_doors.specs.contracts.lane.Host as host
 use Rattle.port_doors.specs.contracts.lane.DoorLane as lane
+use Rattle.port_doors.specs.contracts.told.ToldJob as told
 use Rattle.shared_machine.specs.declared.machine.StepRelation as machine
-use Rattle.shared_machine.proofs.Sent.{hub_crosses, pass_send}
+use Rattle.shared_machine.proofs.Sent.{hub_crosses}
 
 pub ruleset door_crosses = (side_send, place_send, port_send, end_send, names_send, names_sync, door_port_send, door_end_send)
 
@@ -48,8 +46,6 @@ pub job_send : (M D S K Di P C R T U : RattleType) (f : source.Ghosts S.Denot) (
     → IsSend M → IsSend D → IsSend S → IsSend K → IsSend Di → IsSend P → IsSend C → IsSend R → IsSend (job.the_row M D S K Di P C R T U f t h i o q w k)
 job_send M D S K Di P C R T U f t h i o q w k m d s sk di p c r = search (sendable, crosses, hub_crosses, door_crosses) depth 60
 
-pub work_send : (M D S K Di P E A : RattleType) (k : machine.Ghosts M.Denot E.Denot A.Denot)
-    → IsSend M → IsSend D → IsSend S → IsSend K → IsSend Di → IsSend P → IsSend (work.the_row M D S K Di P E A k)
-work_send M D S K Di P E A k m d s sk di p =
-    let q = pass_send M D E A k m d in
-    variants_send (work.enum M D S K Di P E A k) ((q, (as_row_send (row_field S) s, (as_row_send (row_field K) sk, (end_send, tt)))), ((q, (as_row_send (row_field Di) di, (as_row_send (row_field P) p, (search (sendable, crosses), tt)))), tt))
+pub told_send : (M D S K Di P C R T U : RattleType) (f : source.Ghosts S.Denot) (t : sink.Ghosts K.Denot) (h : dialer.Ghosts Di.Denot T.Denot U.Denot) (i : source.Ghosts T.Denot) (o : sink.Ghosts U.Denot) (q : pacer.Ghosts P.Denot) (w : clock.Ghosts C.Denot) (k : machine.Ghosts M.Denot PortEvent PortAnswer)
+    → IsSend M → IsSend D → IsSend S → IsSend K → IsSend Di → IsSend P → IsSend C → IsSend R → IsSend (told.the_row M D S K Di P C R T U f t h i o q w k)
+told_send M D S K Di P C R T U f t h i o q w k m d s sk di p c r = search (sendable, crosses, hub_crosses, door_crosses, job_send) depth 60

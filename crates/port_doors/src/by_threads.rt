@@ -9,6 +9,7 @@ use crate::door::{Door, DoorEnd};
 use crate::listeners::{GateListeners, ServerListeners};
 use crate::ports::{GatePorts, ServerPorts};
 use crate::serve::{serve_gate, serve_server};
+use crate::told::ToldJob;
 use mos_fields::Id;
 use mos_io::{Clock, Failed, Pacer};
 use port_events::{PortAnswer, PortEvent};
@@ -94,7 +95,8 @@ fn gate_listeners<L: Drop, F: Drop>(
     }
 }
 
-/// Serves as `serve_server` does, with a thread for each worker. The listeners come back as the call leaves them.
+/// Serves as `serve_server` does, with a thread for each worker. The listeners come back as the call leaves them. On standard
+/// error it says why each connection ended that was accepted.
 ///
 /// # Ends
 /// Closed where each listener said that none comes; ListenFault only where a listener's count of faults rose; NoWorker only
@@ -107,7 +109,7 @@ pub fn serve_server_by_threads<
     Di: Dialer + Send + 'static,
     P: Pacer + Drop + Send + 'static,
     C: Clock + Drop + Send + 'static,
-    R: Threads + Wait + Copy + Drop + Send + Sync + 'static,
+    R: Threads + Wait + Eprint + Copy + Drop + Send + Sync + 'static,
 >(
     rt: &R,
     alloc: Global,
@@ -131,7 +133,7 @@ where
     ensures rises { CountsRise (server_listening L.coming L.faults listeners) (server_listening L.coming L.faults result.1) }
 {
     let start_job = |job: PortJob<M, D, L::S, L::K, Di, P, C, R>| -> Result<(), Failed> {
-        start_thread(rt, job)
+        start_thread(rt, ToldJob { job })
     };
     let mut ports = ServerPorts {
         upper: Door {
@@ -155,7 +157,7 @@ where
 }
 
 /// Serves as `serve_gate` does, with a thread for each worker. The listeners come back as the call leaves them, and the ends
-/// are those of `serve_server_by_threads`.
+/// are those of `serve_server_by_threads`. On standard error it says why each connection ended that was accepted.
 pub fn serve_gate_by_threads<
     M: StepRelation<Event = PortEvent, Answer = PortAnswer> + Machine<D> + Send + 'static,
     D: Drop + Send + 'static,
@@ -163,7 +165,7 @@ pub fn serve_gate_by_threads<
     Di: Dialer + Send + 'static,
     P: Pacer + Drop + Send + 'static,
     C: Clock + Drop + Send + 'static,
-    R: Threads + Wait + Copy + Drop + Send + Sync + 'static,
+    R: Threads + Wait + Eprint + Copy + Drop + Send + Sync + 'static,
 >(
     rt: &R,
     alloc: Global,
@@ -186,7 +188,7 @@ where
     ensures rises { CountsRise (gate_listening L.coming L.faults listeners) (gate_listening L.coming L.faults result.1) }
 {
     let start_job = |job: PortJob<M, D, L::S, L::K, Di, P, C, R>| -> Result<(), Failed> {
-        start_thread(rt, job)
+        start_thread(rt, ToldJob { job })
     };
     let mut ports = GatePorts {
         upper: Door {

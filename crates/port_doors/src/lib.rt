@@ -15,6 +15,7 @@ mod listeners;
 mod ports;
 mod run;
 mod serve;
+mod told;
 
 pub use by_threads::{serve_gate_by_threads, serve_server_by_threads};
 pub use calls::Peer;

@@ -1,5 +1,5 @@
 -- What an accepted connection came to, by what was looked at before.
-use Rattle.std.proofs.Common.{◌≡◌, ℕ, ◌≤◌, ◌⊎◌, inl, inr, List, Option, Some, refl, sym, ap, subst, arith}
+use Rattle.std.proofs.Common.{◌≡◌, ℕ, ◌≤◌, ◌⊎◌, inl, inr, List, Option, Some, None, refl, sym, ap, subst, arith}
 use Rattle.mos_fields.specs.Characters.{Text}
 use Rattle.mos_io.specs.Bytes.{Takes}
 use Rattle.mos_io.specs.Counts.{Rose}
@@ -84,13 +84,14 @@ module _ {M : Type 0} (steps : M → PortEvent → PortAnswer → M → Type 0) 
     end_is = a.end_is;
   }
 
-  module _ (p : Port) (names : List Text) (link budget : ℕ) (l l1 : Option (List ℕ)) (f f1 : ℕ) (k : Option (List ℕ)) (n : ℕ) (now : Sides) (end : End) where
+  module _ (p : Port) (names : List Text) (link budget : ℕ) (l l1 : Option (List ℕ)) (f f1 : ℕ) (k : Option (List ℕ)) (n : ℕ) (now : Sides) (found : Option ℕ) (end : End) where
     -- a device was found
     pub served_found : (device : ℕ) (read : List ℕ) → Takes l l1 read → before read l1 ≡ l → f ≤ f1 → Looks names l1 budget read device
-        → AtKnown steps refused decks_left start by seen later p names device link budget (sides (before read l1) f1 k n) now end ⊎ AtUnnamed seen later (sides l1 f1 k n) now end
-        → IsServed steps refused decks_left start by seen later p (Some names) link budget (sides l f k n) now end
+        → AtKnown steps refused decks_left start by seen later p names device link budget (sides (before read l1) f1 k n) now found end ⊎ AtUnnamed seen later (sides l1 f1 k n) now found end
+        → IsServed steps refused decks_left start by seen later p (Some names) link budget (sides l f k n) now found end
     served_found device read t e le looks (inl a) = inl (record {
       device = device;
+      found_is = a.found_is;
       mos = a.mos;
       read = read;
       left = l1;
@@ -102,6 +103,7 @@ module _ {M : Type 0} (steps : M → PortEvent → PortAnswer → M → Type 0) 
           (subst (λ (x : Option (List ℕ)). Accepted steps refused decks_left start by seen later (at_device p link device a.mos) budget (sides x f1 k n) (sides (before a.kept now.left) now.source_faults now.written now.sink_faults) end) e a.accepted);
     })
     served_found device read t e le looks (inr a) = inr (record {
+      found_is = a.found_is;
       read = read;
       took = subst (λ (x : Option (List ℕ)). Takes l x read) (sym (ap (λ (s : Sides). s.left) a.same)) t;
       rises = let same : now.source_faults ≡ f1 = ap (λ (s : Sides). s.source_faults) a.same in omega arith;
@@ -113,8 +115,8 @@ module _ {M : Type 0} (steps : M → PortEvent → PortAnswer → M → Type 0) 
 
 -- no device was found
 module _ {M : Type 0} (steps : M → PortEvent → PortAnswer → M → Type 0) (refused : M → M → Type 0) (decks_left : M → ℕ) (start : M) (by : ℕ) (seen : List (Entry PortEvent PortAnswer)) (p : Port) (names : List Text) (link budget : ℕ) (l l1 : Option (List ℕ)) (f f1 : ℕ) (k : Option (List ℕ)) (n : ℕ) (took : (read : List ℕ) × Takes l l1 read) (le : f ≤ f1) where
-  pub served_failed : Rose f f1 → IsServed steps refused decks_left start by seen seen p (Some names) link budget (sides l f k n) (sides l1 f1 k n) ReadFault
-  served_failed rose = inr (record { read = took.0; took = took.1; rises = le; unseen = refl; unwritten = refl; unfailed = refl; cause = rose })
+  pub served_failed : Rose f f1 → IsServed steps refused decks_left start by seen seen p (Some names) link budget (sides l f k n) (sides l1 f1 k n) None ReadFault
+  served_failed rose = inr (record { found_is = refl; read = took.0; took = took.1; rises = le; unseen = refl; unwritten = refl; unfailed = refl; cause = rose })
 
-  pub served_starved : IsServed steps refused decks_left start by seen seen p (Some names) link budget (sides l f k n) (sides l1 f1 k n) NoMemory
-  served_starved = inr (record { read = took.0; took = took.1; rises = le; unseen = refl; unwritten = refl; unfailed = refl; cause = tt })
+  pub served_starved : IsServed steps refused decks_left start by seen seen p (Some names) link budget (sides l f k n) (sides l1 f1 k n) None NoMemory
+  served_starved = inr (record { found_is = refl; read = took.0; took = took.1; rises = le; unseen = refl; unwritten = refl; unfailed = refl; cause = tt })

@@ -67,14 +67,14 @@ impl<
 
     ghost reports = { λ job report. elim job.task [
       | Serve link ↦ elim report [
-        | Served pass source sink end ↦ IsPassOf (arc_value job.hub) pass × (pass.caller ≡ job.pass.caller)
+        | Served pass source sink device end ↦ IsPassOf (arc_value job.hub) pass × (pass.caller ≡ job.pass.caller)
             × IsServed M.steps M.refusal M.decks_left (arc_value job.hub).start.0 job.pass.caller job.pass.seen pass.seen job.port (option_map arc_value job.names) link.number job.budget
             (sides (S.left link.source) (S.faults link.source) (K.written link.sink) (K.faults link.sink))
-            (sides (S.left source) (S.faults source) (K.written sink) (K.faults sink)) end
+            (sides (S.left source) (S.faults source) (K.written sink) (K.faults sink)) device end
         | Drove pass dialer pacer starved ↦ ⊥
       ]
       | Dial place di p c ↦ elim report [
-        | Served pass source sink end ↦ ⊥
+        | Served pass source sink device end ↦ ⊥
         | Drove pass dialer pacer starved ↦ IsPassOf (arc_value job.hub) pass × (pass.caller ≡ job.pass.caller)
             × Dialed M.steps M.refusal M.decks_left (arc_value job.hub).start.0 job.pass.caller job.port job.budget
             (worker (Di.links di) (Di.calls di) (P.paces p) (P.stops p) (C.time c) job.pass.seen)
@@ -101,13 +101,14 @@ impl<
                     source,
                     mut sink,
                 } = link;
-                let (source, end) = serve(
+                let (source, device, end) = serve(
                     &rt, alloc, &hub, &mut pass, port, &names, number, source, &mut sink, budget,
                 );
                 Work::Served {
                     pass,
                     source,
                     sink,
+                    device,
                     end,
                 }
             }

@@ -1,5 +1,5 @@
 //! A worker that serves a connection.
-ghost use Rattle.std.specs.Prelude.{◌≡◌, ◌<◌, ◌⊎◌, Some, IfOk, length, slice_get};
+ghost use Rattle.std.specs.Prelude.{◌≡◌, ◌<◌, ◌⊎◌, Some, None, IfOk, length, slice_get};
 ghost use Rattle.std.specs.Option.{option_map};
 ghost use Rattle.std.specs.Arc.{arc_value};
 ghost use Rattle.shared_machine.specs.Passes.{IsPassOf};
@@ -31,7 +31,7 @@ fn name_at(names: &Ids, device: u32) -> Result<Id, NoMemory>
     }
 }
 
-// Serves the connection at the port of this device.
+// Serves the connection at the port of this device, and gives that device again, unless there was no memory for its name.
 fn serve_device<
     M: StepRelation<Event = PortEvent, Answer = PortAnswer> + Machine<D>,
     D: Drop,
@@ -50,14 +50,14 @@ fn serve_device<
     source: Fronted<S>,
     sink: &mut K,
     budget: u64,
-) -> (S, End)
+) -> (S, Option<u32>, End)
     requires pass { IsPassOf hub.now pass.old }
     requires device { device < length names.now }
     ensures pass { IsPassOf hub.now pass.new × (pass.new.caller ≡ pass.old.caller) }
-    ensures served { AtKnown M.steps M.refusal M.decks_left hub.now.start.0 pass.old.caller pass.old.seen pass.new.seen port names.now device number budget (sides (before source.bytes (S.left source.source)) (S.faults source.source) (K.written sink.old) (K.faults sink.old)) (sides (S.left result.0) (S.faults result.0) (K.written sink.new) (K.faults sink.new)) result.1 ⊎ AtUnnamed pass.old.seen pass.new.seen (sides (S.left source.source) (S.faults source.source) (K.written sink.old) (K.faults sink.old)) (sides (S.left result.0) (S.faults result.0) (K.written sink.new) (K.faults sink.new)) result.1 }
+    ensures served { AtKnown M.steps M.refusal M.decks_left hub.now.start.0 pass.old.caller pass.old.seen pass.new.seen port names.now device number budget (sides (before source.bytes (S.left source.source)) (S.faults source.source) (K.written sink.old) (K.faults sink.old)) (sides (S.left result.0) (S.faults result.0) (K.written sink.new) (K.faults sink.new)) result.1 result.2 ⊎ AtUnnamed pass.old.seen pass.new.seen (sides (S.left source.source) (S.faults source.source) (K.written sink.old) (K.faults sink.old)) (sides (S.left result.0) (S.faults result.0) (K.written sink.new) (K.faults sink.new)) result.1 result.2 }
 {
     let Ok(mos) = name_at(names, device) else {
-        return (source.into_source(), End::NoMemory);
+        return (source.into_source(), None, End::NoMemory);
     };
     let here = Port {
         side: port.side,
@@ -68,7 +68,7 @@ fn serve_device<
     };
     let mut source = source;
     let end = answer_port(rt, alloc, hub, pass, here, &mut source, sink, budget);
-    (source.into_source(), end)
+    (source.into_source(), Some(device), end)
 }
 
 // Serves the connection at the port of the device that its first message names.
@@ -89,18 +89,18 @@ fn serve_named<
     source: S,
     sink: &mut K,
     budget: u64,
-) -> (S, End)
+) -> (S, Option<u32>, End)
     requires pass { IsPassOf hub.now pass.old }
     requires names { AreNames names.now }
     ensures pass { IsPassOf hub.now pass.new × (pass.new.caller ≡ pass.old.caller) }
-    ensures served { IsServed M.steps M.refusal M.decks_left hub.now.start.0 pass.old.caller pass.old.seen pass.new.seen port (Some names.now) number budget (sides (S.left source) (S.faults source) (K.written sink.old) (K.faults sink.old)) (sides (S.left result.0) (S.faults result.0) (K.written sink.new) (K.faults sink.new)) result.1 }
+    ensures served { IsServed M.steps M.refusal M.decks_left hub.now.start.0 pass.old.caller pass.old.seen pass.new.seen port (Some names.now) number budget (sides (S.left source) (S.faults source) (K.written sink.old) (K.faults sink.old)) (sides (S.left result.0) (S.faults result.0) (K.written sink.new) (K.faults sink.new)) result.1 result.2 }
 {
     match look(alloc, source, names, budget) {
         Ok((device, source)) => serve_device(
             rt, alloc, hub, pass, port, names, device, number, source, sink, budget,
         ),
-        Err(LookFault::ReadFault { source }) => (source, End::ReadFault),
-        Err(LookFault::NoMemory { source }) => (source, End::NoMemory),
+        Err(LookFault::ReadFault { source }) => (source, None, End::ReadFault),
+        Err(LookFault::NoMemory { source }) => (source, None, End::NoMemory),
     }
 }
 
@@ -121,10 +121,10 @@ fn serve_plain<
     source: S,
     sink: &mut K,
     budget: u64,
-) -> (S, End)
+) -> (S, Option<u32>, End)
     requires { IsPassOf hub.now pass.old }
     ensures pass { IsPassOf hub.now pass.new × (pass.new.caller ≡ pass.old.caller) }
-    ensures served { Accepted M.steps M.refusal M.decks_left hub.now.start.0 pass.old.caller pass.old.seen pass.new.seen (at_link port number) budget (sides (S.left source) (S.faults source) (K.written sink.old) (K.faults sink.old)) (sides (S.left result.0) (S.faults result.0) (K.written sink.new) (K.faults sink.new)) result.1 }
+    ensures served { (result.1 ≡ None) × Accepted M.steps M.refusal M.decks_left hub.now.start.0 pass.old.caller pass.old.seen pass.new.seen (at_link port number) budget (sides (S.left source) (S.faults source) (K.written sink.old) (K.faults sink.old)) (sides (S.left result.0) (S.faults result.0) (K.written sink.new) (K.faults sink.new)) result.2 }
 {
     let here = Port {
         side: port.side,
@@ -135,11 +135,11 @@ fn serve_plain<
     };
     let mut source = source;
     let end = answer_port(rt, alloc, hub, pass, here, &mut source, sink, budget);
-    (source, end)
+    (source, None, end)
 }
 
 /// Serves a connection that was accepted: at the port as it is, or, where the devices have names, at that of the device
-/// that its first message names. The source comes back, and why it ended.
+/// that its first message names. The source comes back, that device, and why it ended.
 pub(crate) fn serve<
     M: StepRelation<Event = PortEvent, Answer = PortAnswer> + Machine<D>,
     D: Drop,
@@ -157,10 +157,10 @@ pub(crate) fn serve<
     source: S,
     sink: &mut K,
     budget: u64,
-) -> (S, End)
+) -> (S, Option<u32>, End)
     requires { IsPassOf hub.now pass.old }
     ensures pass { IsPassOf hub.now pass.new × (pass.new.caller ≡ pass.old.caller) }
-    ensures served { IsServed M.steps M.refusal M.decks_left hub.now.start.0 pass.old.caller pass.old.seen pass.new.seen port (option_map arc_value names.now) number budget (sides (S.left source) (S.faults source) (K.written sink.old) (K.faults sink.old)) (sides (S.left result.0) (S.faults result.0) (K.written sink.new) (K.faults sink.new)) result.1 }
+    ensures served { IsServed M.steps M.refusal M.decks_left hub.now.start.0 pass.old.caller pass.old.seen pass.new.seen port (option_map arc_value names.now) number budget (sides (S.left source) (S.faults source) (K.written sink.old) (K.faults sink.old)) (sides (S.left result.0) (S.faults result.0) (K.written sink.new) (K.faults sink.new)) result.1 result.2 }
 {
     match names {
         Some(names) => serve_named(

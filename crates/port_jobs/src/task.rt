@@ -27,6 +27,9 @@ pub enum Work<M: StepRelation, D: Drop, S: Drop, K: Drop, Di: Drop, P: Drop> {
         pass: Pass<M, D>,
         source: S,
         sink: K,
+        /// the device, from 0, that its first message named and at whose port it was served; None where it was served at the
+        /// port as it is, and where none was found
+        device: Option<u32>,
         /// why it ended
         end: End,
     },

@@ -4,9 +4,11 @@ ghost use Rattle.mos_io.specs.Counts.{Rose};
 ghost use Rattle.port_links.specs.Links.{Gives};
 
 use crate::link::Link;
+use crate::news::News;
 use crate::place::Place;
 use mos_fields::NoMemory;
 use mos_io::{Failed, Sink, Source};
+use port_session::Port;
 
 /// Opens connections.
 ///
@@ -31,6 +33,11 @@ pub trait Dialer: Drop {
         ensures rises { faults self.old ≤ faults self.new }
         ensures failed { OnErr result (Rose (faults self.old) (faults self.new)) }
         ensures kept { OnErr result (links self.new ≡ links self.old) };
+
+    /// Is told what came of a dial to the place, for this port; the port's own number of a connection stands for none. A
+    /// dialer may pass it on, as to a log. Nothing that is seen of the dialer changes by it, and it can't fail. Unless a
+    /// dialer does otherwise, it does nothing.
+    fn hear(&self, _port: &Port, _place: &Place, _news: News) {}
 
     /// One more dialer of the kind, for another worker. What it tells of its connections begins as it is told here. The
     /// only error is that memory runs out.

@@ -10,6 +10,7 @@ mod listener;
 mod mem_dialer;
 mod mem_listener;
 mod mem_spawner;
+mod news;
 mod place;
 mod spawner;
 
@@ -20,5 +21,6 @@ pub use listener::Listener;
 pub use mem_dialer::MemDialer;
 pub use mem_listener::MemListener;
 pub use mem_spawner::MemSpawner;
+pub use news::News;
 pub use place::Place;
 pub use spawner::Spawner;

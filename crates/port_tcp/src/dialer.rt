@@ -1,29 +1,39 @@
 //! Connections that this machine opens.
 ghost use Rattle.std.specs.Prelude.{◌≡◌};
 
+use crate::cause::Cause;
 use crate::counting::count_one;
 use crate::stream::{TcpSink, TcpSource, link_of};
+use connection_lines::{dialed_line, ended_line, failed_line, say};
 use mos_fields::{NoMemory, Text};
 use mos_io::Failed;
 use port_events::Side;
-use port_links::{Dialer, Link, Place};
+use port_links::{Dialer, Link, News, Place};
+use port_session::Port;
 use std::alloc::Global;
 use std::net::{Net, TcpStream};
 use std::sync::Arc;
 use std::sync::atomic::AtomicU64;
 
 /// Connects to other machines. The connections aren't observable.
+///
+/// What it hears of its dials it says on standard error: each connection that was opened, and how it ended; of dials that
+/// fail one after the other the first, and each whose cause is another one than that before it. A twin begins anew.
 #[derive(Drop)]
-pub struct TcpDialer<R: Net<Stream = TcpStream> + Copy + Drop> {
+pub struct TcpDialer<R: Net<Stream = TcpStream> + Eprint + Copy + Drop> {
     rt: R,
     alloc: Global,
     side: Side,
     numbers: Arc<AtomicU64>,
     calls: u64,
     faults: u64,
+    // why the last dial failed, if it did
+    cause: Option<Cause>,
+    // whether the one before it didn't, or had another cause
+    is_news: bool,
 }
 
-impl<R: Net<Stream = TcpStream> + Copy + Drop> TcpDialer<R> {
+impl<R: Net<Stream = TcpStream> + Eprint + Copy + Drop> TcpDialer<R> {
     /// A dialer, whose connections are at `side` and have the next numbers of `numbers`.
     pub fn new(rt: R, alloc: Global, side: Side, numbers: Arc<AtomicU64>) -> Self {
         TcpDialer {
@@ -33,18 +43,60 @@ impl<R: Net<Stream = TcpStream> + Copy + Drop> TcpDialer<R> {
             numbers,
             calls: 0,
             faults: 0,
+            cause: None,
+            is_news: false,
         }
     }
 
-    // A connection to the place; None where there is none, and where there is no memory for the name.
-    fn connect(&self, place: &Place) -> Option<Link<TcpSource, TcpSink>> {
+    // A connection to the place, or why there is none.
+    fn connect(&self, place: &Place) -> Result<Link<TcpSource, TcpSink>, Cause> {
         let Ok(host) = host_name(self.alloc, &place.host) else {
-            return None;
+            return Err(Cause::NO_MEMORY);
         };
-        match TcpStream::connect(&self.rt, (host.as_str(), place.port)) {
+        let opened = match TcpStream::connect(&self.rt, (host.as_str(), place.port)) {
             Ok(stream) => link_of(&self.numbers, self.side, stream),
-            Err(_) => None,
+            Err(fault) => Err(fault),
+        };
+        match opened {
+            Ok(link) => Ok(link),
+            Err(fault) => Err(Cause::of_fault(&fault)),
         }
+    }
+
+    // Says why the last dial failed, where that is news.
+    fn say_failed(&self, port: &Port, place: &Place) {
+        let Some(cause) = self.cause else {
+            return;
+        };
+        if !self.is_news {
+            return;
+        }
+        if let Ok(word) = cause.word(self.alloc) {
+            let device = port.mos.text();
+            let line = failed_line(
+                self.alloc,
+                port.side,
+                device,
+                &place.host,
+                place.port,
+                word.as_str(),
+            );
+            say(&self.rt, line);
+        }
+    }
+
+    // Says that the connection of this number was opened.
+    fn say_opened(&self, port: &Port, place: &Place, number: u64) {
+        let device = port.mos.text();
+        let line = dialed_line(
+            self.alloc,
+            number,
+            port.side,
+            device,
+            &place.host,
+            place.port,
+        );
+        say(&self.rt, line);
     }
 }
 
@@ -59,7 +111,7 @@ fn host_name(alloc: Global, host: &Text) -> Result<String, NoMemory> {
     Ok(name)
 }
 
-impl<R: Net<Stream = TcpStream> + Copy + Drop> Dialer for TcpDialer<R> {
+impl<R: Net<Stream = TcpStream> + Eprint + Copy + Drop> Dialer for TcpDialer<R> {
     ghost use Rattle.std.specs.Prelude.{None};
 
     type S = TcpSource;
@@ -75,10 +127,26 @@ impl<R: Net<Stream = TcpStream> + Copy + Drop> Dialer for TcpDialer<R> {
     fn dial(&mut self, place: &Place) -> Result<Link<TcpSource, TcpSink>, Failed> {
         count_one(&mut self.calls);
         match self.connect(place) {
-            Some(link) => Ok(link),
-            None => {
+            Ok(link) => {
+                self.cause = None;
+                Ok(link)
+            }
+            Err(cause) => {
+                self.is_news = self.cause != Some(cause);
+                self.cause = Some(cause);
                 count_one(&mut self.faults);
                 Err(Failed)
+            }
+        }
+    }
+
+    fn hear(&self, port: &Port, place: &Place, news: News) {
+        match news {
+            News::Failed => self.say_failed(port, place),
+            News::Opened { number } => self.say_opened(port, place, number),
+            News::Ended { number, end } => {
+                let line = ended_line(self.alloc, number, port.side, port.mos.text(), end);
+                say(&self.rt, line);
             }
         }
     }
@@ -92,6 +160,8 @@ impl<R: Net<Stream = TcpStream> + Copy + Drop> Dialer for TcpDialer<R> {
             numbers,
             calls: 0,
             faults: 0,
+            cause: None,
+            is_news: false,
         })
     }
 }

@@ -2,6 +2,7 @@
 //! contracts can't see, and are trusted to do what their texts say.
 #![tactic(auto)]
 
+mod cause;
 mod clock;
 mod counting;
 mod dialer;

@@ -3,10 +3,11 @@ ghost use Rattle.std.specs.Prelude.{◌≡◌};
 
 use crate::counting::count_one;
 use crate::stream::{TcpSink, TcpSource, link_of};
+use connection_lines::{accepted_line, say};
 use mos_io::Failed;
 use port_events::Side;
 use port_links::{Link, Listener};
-use std::net::TcpListener;
+use std::net::{SocketAddr, TcpListener};
 use std::sync::Arc;
 use std::sync::atomic::AtomicU64;
 use std::thread::sleep;
@@ -23,8 +24,10 @@ const PAUSE: u64 = 50;
 ///
 /// A connection that is gone before it is accepted, or for which the system has no descriptor, is no fault of the port:
 /// it tries again after 50 milliseconds, and fails after 100 attempts in a row.
+///
+/// Of each connection it says on standard error that it came, and from where.
 #[derive(Drop)]
-pub struct TcpPort<R: Clock + Drop> {
+pub struct TcpPort<R: Clock + AllocGlobal + Eprint + Drop> {
     rt: R,
     listener: TcpListener,
     side: Side,
@@ -32,7 +35,7 @@ pub struct TcpPort<R: Clock + Drop> {
     faults: u64,
 }
 
-impl<R: Clock + Drop> TcpPort<R> {
+impl<R: Clock + AllocGlobal + Eprint + Drop> TcpPort<R> {
     /// The port at which `listener` listens. Its connections are at `side`, and have the next numbers of `numbers`.
     pub fn new(rt: R, listener: TcpListener, side: Side, numbers: Arc<AtomicU64>) -> Self {
         TcpPort {
@@ -44,10 +47,24 @@ impl<R: Clock + Drop> TcpPort<R> {
         }
     }
 
+    // Says that the connection of this number came.
+    fn say_accepted(&self, number: u64, from: SocketAddr) {
+        if let Ok(from) = from.to_string(self.rt.alloc()) {
+            let line = accepted_line(self.rt.alloc(), number, self.side, from.as_str());
+            say(&self.rt, line);
+        }
+    }
+
     // One attempt.
     fn try_accept(&self) -> Option<Link<TcpSource, TcpSink>> {
-        match self.listener.accept() {
-            Ok((stream, _address)) => link_of(&self.numbers, self.side, stream),
+        let Ok((stream, from)) = self.listener.accept() else {
+            return None;
+        };
+        match link_of(&self.numbers, self.side, stream) {
+            Ok(link) => {
+                self.say_accepted(link.number, from);
+                Some(link)
+            }
             Err(_) => None,
         }
     }
@@ -64,7 +81,7 @@ impl<R: Clock + Drop> TcpPort<R> {
     }
 }
 
-impl<R: Clock + Drop> Listener for TcpPort<R> {
+impl<R: Clock + AllocGlobal + Eprint + Drop> Listener for TcpPort<R> {
     ghost use Rattle.std.specs.Prelude.{None};
 
     type S = TcpSource;

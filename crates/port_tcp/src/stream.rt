@@ -2,6 +2,7 @@
 use mos_io::{StdSink, StdSource};
 use port_events::Side;
 use port_links::Link;
+use std::io;
 use std::net::TcpStream;
 use std::sync::atomic::{AtomicU64, Ordering};
 
@@ -11,19 +12,17 @@ pub type TcpSource = StdSource<TcpStream>;
 /// What goes out on a connection over TCP. The bytes aren't observable.
 pub type TcpSink = StdSink<TcpStream>;
 
-/// A connection of the next number. What is written goes out at once, without waiting for more. None where the system
-/// has no second descriptor for the stream; the connection is then closed.
+/// A connection of the next number. What is written goes out at once, without waiting for more. The error is the system's,
+/// where it has no second descriptor for the stream; the connection is then closed.
 pub(crate) fn link_of(
     numbers: &AtomicU64,
     side: Side,
     stream: TcpStream,
-) -> Option<Link<TcpSource, TcpSink>> {
-    let Ok(other) = stream.try_clone() else {
-        return None;
-    };
+) -> io::Result<Link<TcpSource, TcpSink>> {
+    let other = stream.try_clone()?;
     // A connection that gathers what it sends is slower and no less right.
     let _ = stream.set_nodelay(true);
-    Some(Link {
+    Ok(Link {
         number: numbers.fetch_add(1, Ordering::SeqCst),
         side,
         source: StdSource::new(stream),

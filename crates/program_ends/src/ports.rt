@@ -18,12 +18,9 @@ const BEAT: u64 = 300;
 
 /// The port of this number, on every address of this machine, for connections at this side. The only error is `NoPort`,
 /// where it can't be opened.
-pub fn port_at<R: Net<Listener = TcpListener, Stream = TcpStream> + Clock + Copy + Drop>(
-    rt: R,
-    port: u16,
-    side: Side,
-    numbers: Arc<AtomicU64>,
-) -> Result<TcpPort<R>, ProgramEnd>
+pub fn port_at<
+    R: Net<Listener = TcpListener, Stream = TcpStream> + Clock + AllocGlobal + Eprint + Copy + Drop,
+>(rt: R, port: u16, side: Side, numbers: Arc<AtomicU64>) -> Result<TcpPort<R>, ProgramEnd>
     ensures { IfErr result (λ end. end ≡ NoPort port) }
 {
     match TcpListener::bind(&rt, (Ipv4Addr::UNSPECIFIED, port)) {

@@ -1,0 +1,56 @@
+-- The lines that are said of connections.
+use Rattle.std.specs.Prelude.{ℕ, List, [], ◌∷◌, ◌++◌, codes}
+use Rattle.std.specs.Fmt.{decimal}
+use Rattle.mos_fields.specs.Characters.{Text}
+use Rattle.port_events.specs.declared.event.Side.{Side}
+use Rattle.port_events.specs.declared.event.Side.TheVariants.{Upper, Lower, Editor}
+use Rattle.port_session.specs.declared.end.End.{End}
+use Rattle.port_session.specs.declared.end.End.TheVariants.{Closed, Truncated, BadMessage, ReadFault, WriteFault, Budget, Stale, Unasked, Stopped, NoMemory}
+use Rattle.stream_commands.specs.Lines.{printed_text, refused_line}
+
+abbrev pub side_text : Side → List ℕ
+side_text Upper = codes "upper"
+side_text Lower = codes "lower"
+side_text Editor = codes "editor"
+
+-- a device's name with a space before it, or nothing where there is none
+abbrev pub device_text : Text → List ℕ
+device_text [] = []
+device_text (c ∷ cs) = 32 ∷ printed_text (c ∷ cs)
+
+-- a machine and a TCP port
+abbrev pub place_text : Text → ℕ → List ℕ
+place_text host port = printed_text host ++ (58 ∷ decimal port)
+
+-- Why a connection ended, to the end of its line. Of a stream that is refused it has the words that `mos_replay` has.
+abbrev pub end_text : End → List ℕ
+end_text Closed = codes "Closed\n"
+end_text (Truncated bytes) = codes "Truncated " ++ decimal bytes ++ 10 ∷ []
+end_text (BadMessage place kind) = refused_line place kind
+end_text ReadFault = codes "ReadFault\n"
+end_text WriteFault = codes "WriteFault\n"
+end_text Budget = codes "Budget\n"
+end_text Stale = codes "Stale\n"
+end_text Unasked = codes "Unasked\n"
+end_text Stopped = codes "Stopped\n"
+end_text NoMemory = codes "NoMemory\n"
+
+-- a connection, by its number, its port and its device
+abbrev pub connection_text : ℕ → Side → Text → List ℕ
+connection_text number side device = codes "connection " ++ decimal number ++ codes " " ++ side_text side ++ device_text device
+
+-- a peer opened a connection
+abbrev pub accepted_line : ℕ → Side → List ℕ → List ℕ
+accepted_line number side peer = connection_text number side [] ++ codes " from " ++ peer ++ 10 ∷ []
+
+-- this end opened one
+abbrev pub dialed_line : ℕ → Side → Text → Text → ℕ → List ℕ
+dialed_line number side device host port = connection_text number side device ++ codes " to " ++ place_text host port ++ 10 ∷ []
+
+-- it ended
+abbrev pub ended_line : ℕ → Side → Text → End → List ℕ
+ended_line number side device end = connection_text number side device ++ codes " ended: " ++ end_text end
+
+-- none could be opened
+abbrev pub failed_line : Side → Text → Text → ℕ → List ℕ → List ℕ
+failed_line side device host port cause = codes "dial " ++ side_text side ++ device_text device ++ codes " to " ++ place_text host port ++ codes " failed: " ++ cause ++ 10 ∷ []

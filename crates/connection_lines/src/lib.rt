@@ -1,0 +1,17 @@
+//! What a program says of its connections, a line each on standard error.
+//!
+//! ```text
+//! connection 3 upper from 127.0.0.1:40122
+//! connection 3 upper dev1 ended: REFUSED 91 Twice(roID)
+//! connection 4 upper dev1 to 127.0.0.1:10541
+//! connection 4 upper dev1 ended: Closed
+//! dial upper dev1 to 127.0.0.1:10541 failed: ConnectionRefused
+//! ```
+#![tactic(auto)]
+
+mod lines;
+mod parts;
+mod saying;
+
+pub use lines::{accepted_line, dialed_line, ended_line, failed_line};
+pub use saying::say;
