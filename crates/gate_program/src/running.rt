@@ -77,12 +77,9 @@ where
 }
 
 // One port more, for connections at this side.
-fn next_port<R: Net<Listener = TcpListener, Stream = TcpStream> + Clock + Copy + Drop>(
-    rt: R,
-    port: u16,
-    side: Side,
-    numbers: &Arc<AtomicU64>,
-) -> Result<TcpPort<R>, ProgramEnd>
+fn next_port<
+    R: Net<Listener = TcpListener, Stream = TcpStream> + Clock + AllocGlobal + Eprint + Copy + Drop,
+>(rt: R, port: u16, side: Side, numbers: &Arc<AtomicU64>) -> Result<TcpPort<R>, ProgramEnd>
     ensures fault { IfErr result (λ end. (end ≡ NoMemory) ⊎ (end ≡ NoPort port)) }
     ensures run { IfErr result (λ end. IsGateRunEnd end) }
 {
