@@ -112,7 +112,8 @@ fn push_numbered(alloc: Global, out: &mut String, number: u64) -> Result<(), NoM
     ensures { OnOk result (string_bytes out.new ≡ string_bytes out.old ++ numbered_text number) }
 {
     push_word(out, "connection ")?;
-    push_number(alloc, out, number)
+    push_number(alloc, out, number)?;
+    Ok(())
 }
 
 // Appends a port and a device, with a space before each.
