@@ -10,9 +10,11 @@ use port_jobs::Task;
 use port_links::{MemListener, MemSpawner};
 use std::alloc::Global;
 use std::collections::VecDeque;
+use std::sync::Wait;
 use std::test::Fail;
+use std::thread::Threads;
 
-type Spawns = MemSpawner<MemJob>;
+type Spawns<R> = MemSpawner<MemJob<R>>;
 
 /// A budget that no connection here comes to.
 const BUDGET: u64 = 1_000_000;
@@ -36,7 +38,11 @@ fn numbers(alloc: Global, word: &str, letter: char) -> Result<Vec<u64>, NoMemory
 
 // A door of a word: as many connections come as its digit says, with the numbers from this one on. Behind an `L` stands the
 // number of the call of the listener that fails, and behind a `W` that of the spawner.
-fn door(alloc: Global, word: &str, number: u64) -> Result<Door<Listens, Spawns>, NoMemory> {
+fn door<R: Wait + Drop>(
+    alloc: Global,
+    word: &str,
+    number: u64,
+) -> Result<Door<Listens, Spawns<R>>, NoMemory> {
     let count = number_of(word.chars().next());
     let listens = numbers(alloc, word, 'L')?;
     Ok(Door {
@@ -45,12 +51,15 @@ fn door(alloc: Global, word: &str, number: u64) -> Result<Door<Listens, Spawns>,
     })
 }
 
-fn spawner(alloc: Global, word: &str) -> Result<Spawns, NoMemory> {
+fn spawner<R: Wait + Drop>(alloc: Global, word: &str) -> Result<Spawns<R>, NoMemory> {
     Ok(MemSpawner::new(alloc, numbers(alloc, word, 'W')?))
 }
 
 // The doors of four words, for the upper one, the lower one, the editors' one and the workers that dial.
-fn server_ports(alloc: Global, row: &str) -> Result<ServerPorts<Listens, Spawns>, NoMemory> {
+fn server_ports<R: Wait + Drop>(
+    alloc: Global,
+    row: &str,
+) -> Result<ServerPorts<Listens, Spawns<R>>, NoMemory> {
     let mut words = row.split(' ');
     let upper = door(alloc, words.next().unwrap_or(""), 10)?;
     let lower = door(alloc, words.next().unwrap_or(""), 20)?;
@@ -65,7 +74,10 @@ fn server_ports(alloc: Global, row: &str) -> Result<ServerPorts<Listens, Spawns>
 }
 
 // The same of three words, for the upper one, the lower one and the workers that dial.
-fn gate_ports(alloc: Global, row: &str) -> Result<GatePorts<Listens, Spawns>, NoMemory> {
+fn gate_ports<R: Wait + Drop>(
+    alloc: Global,
+    row: &str,
+) -> Result<GatePorts<Listens, Spawns<R>>, NoMemory> {
     let mut words = row.split(' ');
     let upper = door(alloc, words.next().unwrap_or(""), 10)?;
     let lower = door(alloc, words.next().unwrap_or(""), 20)?;
@@ -78,10 +90,10 @@ fn gate_ports(alloc: Global, row: &str) -> Result<GatePorts<Listens, Spawns>, No
 }
 
 // Serves as a server of the devices `a`, `b` and `c`.
-fn serve_three(
-    rt: &HostRuntime,
+fn serve_three<R: Threads + Wait + Copy + Drop + Send + Sync>(
+    rt: &R,
     alloc: Global,
-    ports: &mut ServerPorts<Listens, Spawns>,
+    ports: &mut ServerPorts<Listens, Spawns<R>>,
 ) -> Result<DoorEnd, Fail> {
     let names = names(alloc)?;
     let ncs = Id::try_new(alloc, &['n'])?;
@@ -105,10 +117,10 @@ fn serve_three(
 }
 
 // Serves as the gateway `g` of a server.
-fn serve_one(
-    rt: &HostRuntime,
+fn serve_one<R: Threads + Wait + Copy + Drop + Send + Sync>(
+    rt: &R,
     alloc: Global,
-    ports: &mut GatePorts<Listens, Spawns>,
+    ports: &mut GatePorts<Listens, Spawns<R>>,
 ) -> Result<DoorEnd, Fail> {
     let mos = Id::try_new(alloc, &['c'])?;
     let ncs = Id::try_new(alloc, &['n'])?;
@@ -132,7 +144,11 @@ fn serve_one(
 }
 
 // How a server ended, and how many jobs each spawner took.
-fn server_ended(rt: &HostRuntime, alloc: Global, row: &str) -> Result<String, Fail> {
+fn server_ended<R: Threads + Wait + Copy + Drop + Send + Sync>(
+    rt: &R,
+    alloc: Global,
+    row: &str,
+) -> Result<String, Fail> {
     let mut ports = server_ports(alloc, row)?;
     let end = serve_three(rt, alloc, &mut ports)?;
     let upper = ports.upper.spawner.into_jobs().len();
@@ -143,7 +159,11 @@ fn server_ended(rt: &HostRuntime, alloc: Global, row: &str) -> Result<String, Fa
 }
 
 // The same of a gateway.
-fn gate_ended(rt: &HostRuntime, alloc: Global, row: &str) -> Result<String, Fail> {
+fn gate_ended<R: Threads + Wait + Copy + Drop + Send + Sync>(
+    rt: &R,
+    alloc: Global,
+    row: &str,
+) -> Result<String, Fail> {
     let mut ports = gate_ports(alloc, row)?;
     let end = serve_one(rt, alloc, &mut ports)?;
     let upper = ports.upper.spawner.into_jobs().len();
@@ -200,7 +220,11 @@ fn a_gateway_ends_as_its_first_door_does(rt: HostRuntime) -> Result<(), Fail> {
 }
 
 // Where a job dials, and at which port.
-fn push_place(alloc: Global, out: &mut String, job: &MemJob) -> Result<(), NoMemory> {
+fn push_place<R: Wait + Drop>(
+    alloc: Global,
+    out: &mut String,
+    job: &MemJob<R>,
+) -> Result<(), NoMemory> {
     if let Task::Dial {
         place,
         dialer: _,
@@ -228,7 +252,7 @@ fn push_place(alloc: Global, out: &mut String, job: &MemJob) -> Result<(), NoMem
 }
 
 // What each job is, and what comes of it.
-fn run_all(alloc: Global, jobs: Vec<MemJob>) -> Result<String, NoMemory> {
+fn run_all<R: Wait + Drop>(alloc: Global, jobs: Vec<MemJob<R>>) -> Result<String, NoMemory> {
     let mut out = String::new(alloc);
     for job in jobs {
         push_place(alloc, &mut out, &job)?;
@@ -238,7 +262,10 @@ fn run_all(alloc: Global, jobs: Vec<MemJob>) -> Result<String, NoMemory> {
     Ok(out)
 }
 
-fn server_ran(rt: &HostRuntime, alloc: Global) -> Result<String, Fail> {
+fn server_ran<R: Threads + Wait + Copy + Drop + Send + Sync>(
+    rt: &R,
+    alloc: Global,
+) -> Result<String, Fail> {
     let mut ports = server_ports(alloc, "2 1 1 0")?;
     let _end = serve_three(rt, alloc, &mut ports)?;
     let mut out = run_all(alloc, ports.upper.spawner.into_jobs())?;
@@ -248,7 +275,10 @@ fn server_ran(rt: &HostRuntime, alloc: Global) -> Result<String, Fail> {
     Ok(out)
 }
 
-fn gate_ran(rt: &HostRuntime, alloc: Global) -> Result<String, Fail> {
+fn gate_ran<R: Threads + Wait + Copy + Drop + Send + Sync>(
+    rt: &R,
+    alloc: Global,
+) -> Result<String, Fail> {
     let mut ports = gate_ports(alloc, "1 2 0")?;
     let _end = serve_one(rt, alloc, &mut ports)?;
     let mut out = run_all(alloc, ports.upper.spawner.into_jobs())?;

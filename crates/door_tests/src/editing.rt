@@ -15,16 +15,18 @@ use port_session::End;
 use rundown_log::MemKeeper;
 use shared_machine::{Hub, Pass};
 use std::alloc::Global;
-use std::sync::Arc;
+use std::sync::{Arc, Wait};
 use std::test::Fail;
 
 type Server = ServerMachine<MemKeeper>;
 
-type EditorJob = PortJob<Server, (), MemSource, MemSink, Dials, MemPacer, FixedClock, HostRuntime>;
+type EditorJob<R> = PortJob<Server, (), MemSource, MemSink, Dials, MemPacer, FixedClock, R>;
 
-const MESSAGES: &str = "<mos><mosID>b</mosID><ncsID>n</ncsID><messageID>1</messageID><heartbeat><time>2026-11-30T12:00:00Z</time></heartbeat></mos><mos><mosID>b</mosID><ncsID>n</ncsID><messageID>2</messageID><roCreate><roID>R</roID><roSlug>S</roSlug></roCreate></mos><mos><mosID>b</mosID><ncsID>n</ncsID><messageID>3</messageID><roReq><roID>R</roID></roReq></mos>";
+const MESSAGES: &str =
+    "<mos><mosID>b</mosID><ncsID>n</ncsID><messageID>1</messageID><heartbeat><time>2026-11-30T12:00:00Z</time></heartbeat></mos><mos><mosID>b</mosID><ncsID>n</ncsID><messageID>2</messageID><roCreate><roID>R</roID><roSlug>S</roSlug></roCreate></mos><mos><mosID>b</mosID><ncsID>n</ncsID><messageID>3</messageID><roReq><roID>R</roID></roReq></mos>";
 
-const ANSWERS: &str = "<mos><mosID>b</mosID><ncsID>n</ncsID><messageID>1</messageID><heartbeat><time>2026-11-30T12:00:00Z</time></heartbeat></mos><mos><mosID>b</mosID><ncsID>n</ncsID><messageID>2</messageID><roAck><roID>R</roID><roStatus>OK</roStatus></roAck></mos><mos><mosID>b</mosID><ncsID>n</ncsID><messageID>3</messageID><roList><roID>R</roID><roSlug>S</roSlug></roList></mos>";
+const ANSWERS: &str =
+    "<mos><mosID>b</mosID><ncsID>n</ncsID><messageID>1</messageID><heartbeat><time>2026-11-30T12:00:00Z</time></heartbeat></mos><mos><mosID>b</mosID><ncsID>n</ncsID><messageID>2</messageID><roAck><roID>R</roID><roStatus>OK</roStatus></roAck></mos><mos><mosID>b</mosID><ncsID>n</ncsID><messageID>3</messageID><roList><roID>R</roID><roSlug>S</roSlug></roList></mos>";
 
 // A server of one device, without entries.
 fn server(alloc: Global) -> Result<Server, NoMemory> {
@@ -62,12 +64,12 @@ fn link(alloc: Global) -> Result<Link<MemSource, MemSink>, NoMemory> {
     })
 }
 
-fn job(rt: HostRuntime, alloc: Global) -> Result<EditorJob, Fail> {
+fn job<R: Wait + Copy + Drop>(rt: &R, alloc: Global) -> Result<EditorJob<R>, Fail> {
     let port = port(alloc, Side::Editor)?;
     let task = Task::Serve(link(alloc)?);
     let (hub, pass) = hub(alloc)?;
     Ok(PortJob {
-        rt,
+        rt: *rt,
         alloc,
         hub,
         pass,
@@ -79,10 +81,7 @@ fn job(rt: HostRuntime, alloc: Global) -> Result<EditorJob, Fail> {
 }
 
 // Whether the connection was served to its end, with these bytes written.
-fn is_served(
-    work: &Work<Server, (), MemSource, MemSink, Dials, MemPacer>,
-    bytes: &[u8],
-) -> bool {
+fn is_served(work: &Work<Server, (), MemSource, MemSink, Dials, MemPacer>, bytes: &[u8]) -> bool {
     match work {
         Work::Served {
             pass: _,
@@ -104,7 +103,7 @@ fn a_worker_serves_an_editor_of_a_server(rt: HostRuntime) -> Result<(), Fail> {
     let alloc = rt.alloc();
     let mut wanted = Vec::new(alloc);
     push_wide(&mut wanted, ANSWERS)?;
-    let work = job(rt, alloc)?.run();
+    let work = job(&rt, alloc)?.run();
     let is_served = is_served(&work, wanted.as_slice());
     let_go(work);
     assert!(rt; is_served);

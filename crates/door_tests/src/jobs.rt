@@ -14,7 +14,7 @@ use port_links::Place;
 use shared_machine::{Hub, Pass};
 use std::alloc::Global;
 use std::collections::VecDeque;
-use std::sync::Arc;
+use std::sync::{Arc, Wait};
 use std::test::Fail;
 
 type MemTask = Task<MemSource, MemSink, Dials, MemPacer, FixedClock>;
@@ -33,18 +33,18 @@ fn hub(alloc: Global) -> Result<(Arc<Hub<Mirror>>, Pass<Mirror>), NoMemory>
 }
 
 // A job at a mirror of its own.
-fn job(
-    rt: HostRuntime,
+fn job<R: Wait + Copy + Drop>(
+    rt: &R,
     alloc: Global,
     side: Side,
     names: Option<Arc<Names>>,
     budget: u64,
     task: MemTask,
-) -> Result<MemJob, Fail> {
+) -> Result<MemJob<R>, Fail> {
     let port = port(alloc, side)?;
     let (hub, pass) = hub(alloc)?;
     Ok(PortJob {
-        rt,
+        rt: *rt,
         alloc,
         hub,
         pass,
@@ -56,8 +56,8 @@ fn job(
 }
 
 // What comes of a connection on which these heartbeats come, at the upper port of devices that have names.
-fn at_names(
-    rt: HostRuntime,
+fn at_names<R: Wait + Copy + Drop>(
+    rt: &R,
     alloc: Global,
     letters: &str,
     fails: &[u64],
@@ -69,7 +69,12 @@ fn at_names(
 }
 
 // The same at a port that is one device's.
-fn at_port(rt: HostRuntime, alloc: Global, side: Side, letters: &str) -> Result<String, Fail> {
+fn at_port<R: Wait + Copy + Drop>(
+    rt: &R,
+    alloc: Global,
+    side: Side,
+    letters: &str,
+) -> Result<String, Fail> {
     let task = Task::Serve(link(alloc, 8, letters, &[])?);
     let job = job(rt, alloc, side, None, 1_000_000, task)?;
     Ok(run(alloc, job)?)
@@ -93,10 +98,10 @@ fn a_worker_serves_the_device_that_is_named_first(rt: HostRuntime) -> Result<(),
     let alloc = rt.alloc();
     for row in NAMED.lines() {
         let (letters, wanted) = row.split_once(" -> ").ok_or("no arrow")?;
-        let told = at_names(rt, alloc, letters, &[], 1_000_000)?;
+        let told = at_names(&rt, alloc, letters, &[], 1_000_000)?;
         assert_eq!(rt; told.as_str(), wanted, "{row}");
     }
-    let told = at_names(rt, alloc, "", &[], 1_000_000)?;
+    let told = at_names(&rt, alloc, "", &[], 1_000_000)?;
     assert_eq!(rt; told.as_str(), "Closed");
     Ok(())
 }
@@ -104,9 +109,9 @@ fn a_worker_serves_the_device_that_is_named_first(rt: HostRuntime) -> Result<(),
 #[test]
 fn a_look_that_fails_ends_the_connection(rt: HostRuntime) -> Result<(), Fail> {
     let alloc = rt.alloc();
-    let told = at_names(rt, alloc, "c", &[0], 1_000_000)?;
+    let told = at_names(&rt, alloc, "c", &[0], 1_000_000)?;
     assert_eq!(rt; told.as_str(), "ReadFault");
-    let told = at_names(rt, alloc, "c", &[1], 1_000_000)?;
+    let told = at_names(&rt, alloc, "c", &[1], 1_000_000)?;
     assert_eq!(rt; told.as_str(), "c 01:07:02; ReadFault");
     for (budget, wanted) in [
         (0, "Budget"),
@@ -116,7 +121,7 @@ fn a_look_that_fails_ends_the_connection(rt: HostRuntime) -> Result<(), Fail> {
         (392, "c 01:07:02; c 01:07:02; Budget"),
         (393, "c 01:07:02; c 01:07:02; Closed"),
     ] {
-        let told = at_names(rt, alloc, "cc", &[], budget)?;
+        let told = at_names(&rt, alloc, "cc", &[], budget)?;
         assert_eq!(rt; told.as_str(), wanted, "by {budget}");
     }
     Ok(())
@@ -125,11 +130,11 @@ fn a_look_that_fails_ends_the_connection(rt: HostRuntime) -> Result<(), Fail> {
 #[test]
 fn a_worker_serves_a_port_without_names_as_it_is(rt: HostRuntime) -> Result<(), Fail> {
     let alloc = rt.alloc();
-    let told = at_port(rt, alloc, Side::Lower, "bb")?;
+    let told = at_port(&rt, alloc, Side::Lower, "bb")?;
     assert_eq!(rt; told.as_str(), "b 02:08:00; b 02:08:00; Closed");
-    let told = at_port(rt, alloc, Side::Upper, "cb")?;
+    let told = at_port(&rt, alloc, Side::Upper, "cb")?;
     assert_eq!(rt; told.as_str(), "c NOT FOR ME; b 01:08:00; Closed");
-    let told = at_port(rt, alloc, Side::Editor, "cb")?;
+    let told = at_port(&rt, alloc, Side::Editor, "cb")?;
     assert_eq!(rt; told.as_str(), "c 03:08:00; b 03:08:00; Closed");
     Ok(())
 }
@@ -143,7 +148,11 @@ fn two_links(alloc: Global) -> Result<VecDeque<MemLink>, NoMemory> {
 }
 
 // What comes of a job that dials by these paces, and which events its machine noted.
-fn dials(rt: HostRuntime, alloc: Global, paces: &str) -> Result<(String, String), Fail> {
+fn dials<R: Wait + Copy + Drop>(
+    rt: &R,
+    alloc: Global,
+    paces: &str,
+) -> Result<(String, String), Fail> {
     let place = Place {
         host: Text::try_new(alloc, &['h'])?,
         port: 10_541,
@@ -161,7 +170,7 @@ fn dials(rt: HostRuntime, alloc: Global, paces: &str) -> Result<(String, String)
     };
     let theirs = Arc::try_clone(&hub)?;
     let job = PortJob {
-        rt,
+        rt: *rt,
         alloc,
         hub: theirs,
         pass,
@@ -174,8 +183,12 @@ fn dials(rt: HostRuntime, alloc: Global, paces: &str) -> Result<(String, String)
     let Some(hub) = Arc::into_inner(hub) else {
         return Err(Fail::from(std::fmt::Error));
     };
-    let (mirror, ()) = hub.close(&rt, first);
-    let log = mirror.log.iter().map(|b| char::from(*b)).collect::<String>(alloc);
+    let (mirror, ()) = hub.close(rt, first);
+    let log = mirror
+        .log
+        .iter()
+        .map(|b| char::from(*b))
+        .collect::<String>(alloc);
     let_go(mirror);
     Ok((told, log?))
 }
@@ -185,15 +198,15 @@ fn a_worker_dials_until_its_pacer_stops(rt: HostRuntime) -> Result<(), Fail> {
     let alloc = rt.alloc();
 
     // The first connection ends while an answer is awaited.
-    let (told, log) = dials(rt, alloc, "")?;
+    let (told, log) = dials(&rt, alloc, "")?;
     assert_eq!(rt; told.as_str(), "opened 3");
     assert_eq!(rt; log.as_str(), "D3N3W3N3W3N3O3");
-    let (told, log) = dials(rt, alloc, "a")?;
+    let (told, log) = dials(&rt, alloc, "a")?;
     assert_eq!(rt; told.as_str(), "opened 3 4");
     assert_eq!(rt; log.as_str(), "D3N3W3N3W3N3O3D4N4O4");
 
     // A dial that fails has its pause too.
-    let (told, log) = dials(rt, alloc, "abaaa")?;
+    let (told, log) = dials(&rt, alloc, "abaaa")?;
     assert_eq!(rt; told.as_str(), "opened 3 4");
     assert_eq!(rt; log.as_str(), "D3N3W3N3W3N3O3D4N4O4");
     Ok(())

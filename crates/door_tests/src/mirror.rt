@@ -25,13 +25,18 @@ impl Mirror {
 
 /// The time of all clocks here.
 pub fn time() -> MosTime {
+    time_of(0, 0, 0)
+}
+
+// A time of one day.
+fn time_of(hour: u8, minute: u8, second: u8) -> MosTime {
     MosTime {
         year: 2000,
         month: 1,
         day: 1,
-        hour: 0,
-        minute: 0,
-        second: 0,
+        hour,
+        minute,
+        second,
         millis: None,
         zone: Zone::None,
     }
@@ -39,16 +44,12 @@ pub fn time() -> MosTime {
 
 // Where it was asked.
 fn told_time(event: &PortEvent) -> MosTime {
-    MosTime {
-        hour: match event.side {
-            Side::Upper => 1,
-            Side::Lower => 2,
-            Side::Editor => 3,
-        },
-        minute: (event.link % 60) as u8,
-        second: (event.device % 60) as u8,
-        ..time()
-    }
+    let hour = match event.side {
+        Side::Upper => 1,
+        Side::Lower => 2,
+        Side::Editor => 3,
+    };
+    time_of(hour, (event.link % 60) as u8, (event.device % 60) as u8)
 }
 
 fn letter(what: &What) -> u8 {

@@ -7,10 +7,10 @@ use port_jobs::{PortJob, Work};
 use port_links::Job;
 use port_session::End;
 use std::alloc::Global;
+use std::sync::Wait;
 
 /// A job at a mirror.
-pub type MemJob =
-    PortJob<Mirror, (), MemSource, MemSink, Dials, MemPacer, FixedClock, HostRuntime>;
+pub type MemJob<R> = PortJob<Mirror, (), MemSource, MemSink, Dials, MemPacer, FixedClock, R>;
 
 // The low byte of each pair.
 fn narrow(alloc: Global, bytes: &[u8]) -> Result<String, NoMemory> {
@@ -89,7 +89,7 @@ fn drove(alloc: Global, dialer: &Dials, starved: bool) -> Result<String, NoMemor
 }
 
 /// Runs a job, and tells what came of it.
-pub fn run(alloc: Global, job: MemJob) -> Result<String, NoMemory> {
+pub fn run<R: Wait + Drop>(alloc: Global, job: MemJob<R>) -> Result<String, NoMemory> {
     let work = job.run();
     let text = match &work {
         Work::Served {

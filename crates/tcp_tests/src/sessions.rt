@@ -93,8 +93,8 @@ fn serve<R: Wait>(
 }
 
 // The same by a server of its own.
-fn serve_anew(
-    rt: &HostRuntime,
+fn serve_anew<R: Wait>(
+    rt: &R,
     alloc: Global,
     link: Link<TcpSource, TcpSink>,
 ) -> Result<End, Fail> {
@@ -108,10 +108,15 @@ fn serve_anew(
 }
 
 // How a connection ends on which this comes, and what is written on it.
-fn played(rt: &HostRuntime, alloc: Global, text: &str) -> Result<(End, Vec<u8>), Fail> {
+fn played<R: Wait>(
+    host: &HostRuntime,
+    rt: &R,
+    alloc: Global,
+    text: &str,
+) -> Result<(End, Vec<u8>), Fail> {
     let numbers = Arc::new(alloc, AtomicU64::new(1))?;
-    let (mut listener, number) = open(rt, Side::Editor, &numbers)?;
-    let mut peer = connect(rt, number)?;
+    let (mut listener, number) = open(host, Side::Editor, &numbers)?;
+    let mut peer = connect(host, number)?;
     let mut bytes = Vec::new(alloc);
     push_wide(&mut bytes, text)?;
     writes(&mut peer, bytes.as_slice())?;
@@ -128,15 +133,15 @@ fn a_server_answers_over_tcp(rt: HostRuntime) -> Result<(), Fail> {
     let alloc = rt.alloc();
     let mut wanted = Vec::new(alloc);
     push_wide(&mut wanted, ANSWERS)?;
-    let (end, written) = played(&rt, alloc, MESSAGES)?;
+    let (end, written) = played(&rt, &rt, alloc, MESSAGES)?;
     assert!(rt; matches!(end, End::Closed));
     assert!(rt; written.as_slice() == wanted.as_slice());
     let mut text = String::from_str(alloc, MESSAGES)?;
     text.push_str(CUT)?;
-    let (end, written) = played(&rt, alloc, text.as_str())?;
+    let (end, written) = played(&rt, &rt, alloc, text.as_str())?;
     assert!(rt; matches!(end, End::Truncated { bytes: 20 }));
     assert!(rt; written.as_slice() == wanted.as_slice());
-    let (end, written) = played(&rt, alloc, "")?;
+    let (end, written) = played(&rt, &rt, alloc, "")?;
     assert!(rt; matches!(end, End::Closed));
     assert!(rt; written.is_empty());
     Ok(())
