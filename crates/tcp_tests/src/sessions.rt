@@ -19,9 +19,11 @@ use std::test::Fail;
 
 type Server = ServerMachine<MemKeeper>;
 
-const MESSAGES: &str = "<mos><mosID>m</mosID><ncsID>n</ncsID><messageID>1</messageID><heartbeat><time>2026-11-30T12:00:00Z</time></heartbeat></mos><mos><mosID>m</mosID><ncsID>n</ncsID><messageID>2</messageID><roCreate><roID>R</roID><roSlug>S</roSlug></roCreate></mos><mos><mosID>m</mosID><ncsID>n</ncsID><messageID>3</messageID><roReq><roID>R</roID></roReq></mos>";
+const MESSAGES: &str =
+    "<mos><mosID>m</mosID><ncsID>n</ncsID><messageID>1</messageID><heartbeat><time>2026-11-30T12:00:00Z</time></heartbeat></mos><mos><mosID>m</mosID><ncsID>n</ncsID><messageID>2</messageID><roCreate><roID>R</roID><roSlug>S</roSlug></roCreate></mos><mos><mosID>m</mosID><ncsID>n</ncsID><messageID>3</messageID><roReq><roID>R</roID></roReq></mos>";
 
-const ANSWERS: &str = "<mos><mosID>m</mosID><ncsID>n</ncsID><messageID>1</messageID><heartbeat><time>2026-11-30T12:00:00Z</time></heartbeat></mos><mos><mosID>m</mosID><ncsID>n</ncsID><messageID>2</messageID><roAck><roID>R</roID><roStatus>OK</roStatus></roAck></mos><mos><mosID>m</mosID><ncsID>n</ncsID><messageID>3</messageID><roList><roID>R</roID><roSlug>S</roSlug></roList></mos>";
+const ANSWERS: &str =
+    "<mos><mosID>m</mosID><ncsID>n</ncsID><messageID>1</messageID><heartbeat><time>2026-11-30T12:00:00Z</time></heartbeat></mos><mos><mosID>m</mosID><ncsID>n</ncsID><messageID>2</messageID><roAck><roID>R</roID><roStatus>OK</roStatus></roAck></mos><mos><mosID>m</mosID><ncsID>n</ncsID><messageID>3</messageID><roList><roID>R</roID><roSlug>S</roSlug></roList></mos>";
 
 /// A message that is cut off behind 20 bytes.
 const CUT: &str = "<mos><mosI";
@@ -93,11 +95,7 @@ fn serve<R: Wait>(
 }
 
 // The same by a server of its own.
-fn serve_anew<R: Wait>(
-    rt: &R,
-    alloc: Global,
-    link: Link<TcpSource, TcpSink>,
-) -> Result<End, Fail> {
+fn serve_anew<R: Wait>(rt: &R, alloc: Global, link: Link<TcpSource, TcpSink>) -> Result<End, Fail> {
     let Ok((hub, mut pass)) = Hub::new(alloc, (server(alloc)?, ())) else {
         return Err(nothing());
     };
