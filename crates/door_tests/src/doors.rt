@@ -116,7 +116,7 @@ fn serve_three<R: Threads + Wait + Copy + Drop + Send + Sync>(
     ))
 }
 
-// Serves as the gateway `g` of a server.
+// Serves as the gateway `c` of a server.
 fn serve_one<R: Threads + Wait + Copy + Drop + Send + Sync>(
     rt: &R,
     alloc: Global,

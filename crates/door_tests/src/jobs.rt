@@ -6,7 +6,7 @@ ghost use Rattle.shared_machine.specs.Passes.{IsPassOf};
 use crate::mirror::{Mirror, time};
 use crate::parts::{Dials, MemLink, dialer, link, names, pacer, port};
 use crate::running::{MemJob, run};
-use mos_fields::{Id, NoMemory, Text, let_go};
+use mos_fields::{NoMemory, Text, let_go};
 use mos_io::{FixedClock, MemPacer, MemSink, MemSource};
 use port_events::Side;
 use port_jobs::{Names, PortJob, Task};

@@ -1,7 +1,6 @@
 //! What doors and workers are made of: names, bytes of connections, dialers and pacers in memory.
 ghost use Rattle.std.specs.Prelude.{◌≡◌, IfOk, length};
 ghost use Rattle.std.specs.Arc.{arc_value};
-ghost use Rattle.door_tests.specs.Three.{three};
 ghost use Rattle.port_looking.specs.Looking.{AreNames};
 
 use mos_fields::{FieldFault, Id, Ids, NoMemory, Text};

@@ -1,5 +1,4 @@
 //! What sources give.
-use crate::texts::bytes_of;
 use mos_fields::NoMemory;
 use mos_io::{Failed, MemSource, Source};
 use port_fronts::Fronted;
