@@ -48,10 +48,7 @@ fn info_words(alloc: Global, info: &MachInfo) -> Result<(String, bool), NoMemory
     Ok((words, is_bare(info)))
 }
 
-fn words_of(
-    alloc: Global,
-    info: Result<MachInfo, NoMemory>,
-) -> Result<(String, bool), NoMemory> {
+fn words_of(alloc: Global, info: Result<MachInfo, NoMemory>) -> Result<(String, bool), NoMemory> {
     let info = info?;
     let words = info_words(alloc, &info);
     let_go(info);
@@ -78,7 +75,8 @@ fn each_end_tells_its_name_and_the_four_profiles(rt: HostRuntime) -> Result<(), 
     let (words, is_bare) = gate_words(alloc, text)?;
     assert_eq!(rt; words.as_str(), "=m1 - - =2.8.5 MOS 0+1+2+3-4+5-6-7-");
     assert!(rt; is_bare);
-    let text = "mos_id = \"m1\"\nncs_id = \"ncs\"\nhost = \"h\"\nmodel = \"\"\nmanufacturer = \"Acme\"";
+    let text =
+        "mos_id = \"m1\"\nncs_id = \"ncs\"\nhost = \"h\"\nmodel = \"\"\nmanufacturer = \"Acme\"";
     let (words, is_bare) = gate_words(alloc, text)?;
     assert_eq!(rt; words.as_str(), "=m1 =Acme = =2.8.5 MOS 0+1+2+3-4+5-6-7-");
     assert!(rt; is_bare);

@@ -6,7 +6,8 @@ use std::alloc::Global;
 use std::test::Fail;
 
 // The keys that have to be there.
-const KEYS: &str = "ncs_id = \"ncs1\"\nlog = \"log\"\ndevices = [{ mos_id = \"m1\", host = \"h1\" }]";
+const KEYS: &str =
+    "ncs_id = \"ncs1\"\nlog = \"log\"\ndevices = [{ mos_id = \"m1\", host = \"h1\" }]";
 
 // A text on each line, and behind the arrow what is read of it: ncs_id, log, the devices, upper, lower, editor and budget, or
 // why it is refused.
@@ -129,7 +130,10 @@ fn the_server_reads_its_settings_or_tells_the_first_fault(rt: HostRuntime) -> Re
         let text = toml_of(alloc, text, KEYS)?;
         assert_eq!(rt; read(alloc, text.as_bytes())?.as_str(), wanted, "{row}");
     }
-    assert_eq!(rt; read(alloc, &[b'a', b'=', b'"', 0xFF, b'"'])?.as_str(), "NotToml");
+    assert_eq!(rt;
+        read(alloc, &[b'a', b'=', b'"', 0xFF, b'"'])?.as_str(),
+        "NotToml"
+    );
     Ok(())
 }
 
