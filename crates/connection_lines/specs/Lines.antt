@@ -35,9 +35,17 @@ end_text Unasked = codes "Unasked\n"
 end_text Stopped = codes "Stopped\n"
 end_text NoMemory = codes "NoMemory\n"
 
+-- a connection, by its number
+abbrev pub numbered_text : ℕ → List ℕ
+numbered_text number = codes "connection " ++ decimal number
+
+-- a port and a device, with a space before each
+abbrev pub at_text : Side → Text → List ℕ
+at_text side device = codes " " ++ side_text side ++ device_text device
+
 -- a connection, by its number, its port and its device
 abbrev pub connection_text : ℕ → Side → Text → List ℕ
-connection_text number side device = codes "connection " ++ decimal number ++ codes " " ++ side_text side ++ device_text device
+connection_text number side device = numbered_text number ++ at_text side device
 
 -- a peer opened a connection
 abbrev pub accepted_line : ℕ → Side → List ℕ → List ℕ

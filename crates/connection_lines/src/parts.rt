@@ -3,7 +3,7 @@ ghost use Rattle.std.specs.Prelude.{◌≡◌, ◌++◌, IfOk, OnOk, string_byte
 ghost use Rattle.std.specs.Fmt.{decimal};
 ghost use Rattle.port_session.specs.declared.end.End.TheVariants.{Truncated};
 ghost use Rattle.stream_commands.specs.Lines.{printed as printed_of, printed_text};
-ghost use Rattle.connection_lines.specs.Lines.{connection_text, device_text, end_text, place_text, side_text};
+ghost use Rattle.connection_lines.specs.Lines.{at_text, connection_text, device_text, end_text, numbered_text, place_text, side_text};
 
 use mos_fields::{NoMemory, Text};
 use port_events::Side;
@@ -107,6 +107,24 @@ pub(crate) fn push_place(
     push_number(alloc, out, port.into())
 }
 
+// Appends a connection, by its number.
+fn push_numbered(alloc: Global, out: &mut String, number: u64) -> Result<(), NoMemory>
+    ensures { OnOk result (string_bytes out.new ≡ string_bytes out.old ++ numbered_text number) }
+{
+    push_word(out, "connection ")?;
+    push_number(alloc, out, number)?;
+    Ok(())
+}
+
+// Appends a port and a device, with a space before each.
+fn push_at(alloc: Global, out: &mut String, side: Side, device: &Text) -> Result<(), NoMemory>
+    ensures { OnOk result (string_bytes out.new ≡ string_bytes out.old ++ at_text side device.now) }
+{
+    push_word(out, " ")?;
+    push_side(out, side)?;
+    push_device(alloc, out, device)
+}
+
 /// Appends a connection, by its number, its port and its device.
 pub(crate) fn push_connection(
     alloc: Global,
@@ -117,12 +135,8 @@ pub(crate) fn push_connection(
 ) -> Result<(), NoMemory>
     ensures { OnOk result (string_bytes out.new ≡ string_bytes out.old ++ connection_text number side device.now) }
 {
-    push_word(out, "connection ")?;
-    push_number(alloc, out, number)?;
-    push_word(out, " ")?;
-    push_side(out, side)?;
-    push_device(alloc, out, device)?;
-    Ok(())
+    push_numbered(alloc, out, number)?;
+    push_at(alloc, out, side, device)
 }
 
 // Appends the end of a line on a stream that ended inside a message.
