@@ -25,7 +25,7 @@ use std::thread::Threads;
 /// `Closed` where each listener said that none comes; `ListenFault` only where a listener's count of faults rose; `NoWorker`
 /// only where `refused` rose, the count of the workers for which no thread could be made; `NoMemory` where memory runs out. No
 /// count falls. A gateway keeps no journal, so no other end comes.
-#[tactic(auto, using(serve_ends::proofs::Doors::caused_by_doors))]
+#[tactic(auto, using(serve_ends::proofs::Doors::counts_stay))]
 pub fn gate_serve_by_threads<
     L: Listener + Send,
     Di: Dialer + Send + 'static,
@@ -61,7 +61,7 @@ where
         info,
     } = begun;
     let node = GateNode::new(alloc, Gate::new(alloc), objects, info);
-    let (end, listeners) = serve_gate_by_threads(
+    let ended = serve_gate_by_threads(
         rt,
         alloc,
         (node, ()),
@@ -74,5 +74,5 @@ where
         pacer,
         clock,
     );
-    (ServeEnd::of_door(end), listeners)
+    (ServeEnd::of_door(ended.0), ended.1)
 }

@@ -35,6 +35,15 @@ IsStarted kept faults keeper (StoreFault later) = Rose (faults keeper) (faults l
 IsStarted kept faults keeper (BadEntry number later) = IsBadEntry (kept keeper) number
 IsStarted kept faults keeper NoMemory = Unit {0}
 
+-- it is an end of a server that wasn't started
+abbrev pub IsNotStarted : {K : Type 0} → ServeEnd K → Type 0
+IsNotStarted Closed = ⊥
+IsNotStarted ListenFault = ⊥
+IsNotStarted NoWorker = ⊥
+IsNotStarted (StoreFault later) = Unit {0}
+IsNotStarted (BadEntry number later) = Unit {0}
+IsNotStarted NoMemory = Unit {0}
+
 -- The causes of an end at listeners, of which this much is seen: those of the doors' loops, where these ran. Where the server
 -- wasn't started, the listeners are as they were.
 abbrev pub IsCaused : {K X : Type 0} → (X → AllListening) → X → X → ServeEnd K → Type 0

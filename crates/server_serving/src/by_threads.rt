@@ -2,7 +2,7 @@
 ghost use Rattle.std.specs.Prelude.{◌≡◌};
 ghost use Rattle.end_settings.specs.Devices.{AreDevices};
 ghost use Rattle.port_doors.specs.Listening.{CountsRise, server_listening};
-ghost use Rattle.serve_ends.specs.Ends.{IsCaused, IsStarted};
+ghost use Rattle.serve_ends.specs.Ends.{IsCaused, IsNotStarted, IsStarted};
 
 use crate::beginning::{Begun, prepared};
 use crate::starting::start_node;
@@ -16,6 +16,19 @@ use std::alloc::Global;
 use std::sync::Wait;
 use std::thread::Threads;
 
+// What comes back where the server isn't started: nothing happened at the listeners.
+fn unstarted<K: Keeper + Drop, L: Listener>(
+    end: ServeEnd<K>,
+    listeners: ServerListeners<L>,
+) -> (ServeEnd<K>, ServerListeners<L>)
+    requires { IsNotStarted end }
+    ensures end { result.0 ≡ end }
+    ensures caused { IsCaused (server_listening L.coming L.faults) listeners result.1 result.0 }
+    ensures rises { CountsRise (server_listening L.coming L.faults listeners) (server_listening L.coming L.faults result.1) }
+{
+    (end, listeners)
+}
+
 /// Serves as the newsroom system of these settings, whose journal the keeper keeps: at three doors side by side, with two
 /// workers that dial each device, and a thread for each worker.
 ///
@@ -27,7 +40,6 @@ use std::thread::Threads;
 /// after those before it; the keeper comes back with both, and nothing happened at the listeners. `Closed` where each listener
 /// said that none comes; `ListenFault` only where a listener's count of faults rose; `NoWorker` only where `refused` rose, the
 /// count of the workers for which no thread could be made; `NoMemory` where memory runs out. No count falls.
-#[tactic(auto, using(serve_ends::proofs::Doors::caused_by_doors))]
 pub fn ncs_serve_by_threads<
     K: Keeper + Drop + Send + 'static,
     L: Listener + Send,
@@ -56,7 +68,7 @@ where
     ensures rises { CountsRise (server_listening L.coming L.faults listeners) (server_listening L.coming L.faults result.1) }
 {
     let Ok(begun) = prepared(alloc, settings) else {
-        return (ServeEnd::NoMemory, listeners);
+        return unstarted(ServeEnd::NoMemory, listeners);
     };
     let Begun {
         names,
@@ -66,9 +78,9 @@ where
     } = begun;
     let node = match start_node(alloc, keeper, settings.devices.len() as u32, info) {
         Ok(node) => node,
-        Err(end) => return (end, listeners),
+        Err(end) => return unstarted(end, listeners),
     };
-    let (end, listeners) = serve_server_by_threads(
+    let ended = serve_server_by_threads(
         rt,
         alloc,
         (node, ()),
@@ -81,5 +93,5 @@ where
         pacer,
         clock,
     );
-    (ServeEnd::of_door(end), listeners)
+    (ServeEnd::of_door(ended.0), ended.1)
 }

@@ -6,7 +6,7 @@ ghost use Rattle.mos_machines.specs.Steps.{started};
 ghost use Rattle.ncs_core.specs.Starting.{IsStartCause};
 ghost use Rattle.ncs_core.specs.State.{devices_of, ncs_of};
 ghost use Rattle.port_nodes.specs.ServerNodes.{AreNewSides};
-ghost use Rattle.serve_ends.specs.Ends.{IsStarted};
+ghost use Rattle.serve_ends.specs.Ends.{IsNotStarted, IsStarted};
 
 use mos_values::MachInfo;
 use ncs_core::{Ncs, StartCause, StartFault};
@@ -17,7 +17,8 @@ use std::alloc::Global;
 
 // Why the server isn't started.
 fn not_started<K: Keeper + Drop>(fault: StartFault<K>) -> ServeEnd<K>
-    ensures { (keeper : K) → IsStartCause (K.kept keeper) (K.faults keeper) (K.faults fault.keeper) fault.cause → IsStarted K.kept K.faults keeper result }
+    ensures cause { (keeper : K) → IsStartCause (K.kept keeper) (K.faults keeper) (K.faults fault.keeper) fault.cause → IsStarted K.kept K.faults keeper result }
+    ensures not_started { IsNotStarted result }
 {
     let StartFault { keeper, cause } = fault;
     match cause {
@@ -46,6 +47,7 @@ pub fn start_node<K: Keeper + Drop>(
     ensures objects { IfOk result (λ n. AreNewSides n.ports) }
     ensures info { IfOk result (λ n. n.info ≡ info) }
     ensures fault { IfErr result (λ end. IsStarted K.kept K.faults keeper end) }
+    ensures not_started { IfErr result (λ end. IsNotStarted end) }
 {
     let ncs = match Ncs::start(alloc, keeper, devices) {
         Ok(ncs) => ncs,
