@@ -13,9 +13,9 @@ use running_order::Order;
 /// Each call goes to every deck once, and drops exactly the decks that answer `Failed` or `NoMemory`. The rack itself takes no
 /// memory.
 #[derive(Drop)]
-pub struct Rack {
+pub struct Rack<D> {
     /// The decks that are left, in the order in which they were handed in.
-    pub decks: Vec<Box<dyn Deck + Send>>,
+    pub decks: Vec<D>,
     /// The mosID of the device.
     pub mos: Id,
     /// Whether decks were handed in at all.
@@ -23,9 +23,9 @@ pub struct Rack {
     ghost few: { length decks.items < 2 ^ 32 },
 }
 
-impl Rack {
+impl<D: Deck> Rack<D> {
     /// A rack of these decks, fewer than 2^32, for the items of the device `mos`.
-    pub fn new(decks: Vec<Box<dyn Deck + Send>>, mos: Id) -> Rack
+    pub fn new(decks: Vec<D>, mos: Id) -> Self
         requires { length decks.items < 2 ^ 32 }
         ensures decks { result.decks.items ≡ decks.items }
         ensures mos { result.mos ≡ mos }
@@ -37,7 +37,7 @@ impl Rack {
 
     /// Makes the playlist of an order, or of none, that of `ro` in every deck.
     pub fn load(&mut self, ro: &Id, order: Option<&Order>)
-        ensures called { AreCalled ⟦<Box<dyn Deck + Send> as Deck>⟧.view (loaded (playlist_of (option_copied order.entry) self.old.mos)) ro.now self.old.decks.items self.new.decks.items }
+        ensures called { AreCalled D.view (loaded (playlist_of (option_copied order.entry) self.old.mos)) ro.now self.old.decks.items self.new.decks.items }
         ensures mos { self.new.mos ≡ self.old.mos }
         ensures handed { self.new.handed ≡ self.old.handed }
     {
@@ -46,7 +46,7 @@ impl Rack {
 
     /// Arms every deck for `ro`.
     pub fn arm(&mut self, ro: &Id)
-        ensures called { AreCalled ⟦<Box<dyn Deck + Send> as Deck>⟧.view (marked true) ro.now self.old.decks.items self.new.decks.items }
+        ensures called { AreCalled D.view (marked true) ro.now self.old.decks.items self.new.decks.items }
         ensures mos { self.new.mos ≡ self.old.mos }
         ensures handed { self.new.handed ≡ self.old.handed }
     {
@@ -55,7 +55,7 @@ impl Rack {
 
     /// Takes the mark off in every deck that it is armed for `ro`.
     pub fn disarm(&mut self, ro: &Id)
-        ensures called { AreCalled ⟦<Box<dyn Deck + Send> as Deck>⟧.view (marked false) ro.now self.old.decks.items self.new.decks.items }
+        ensures called { AreCalled D.view (marked false) ro.now self.old.decks.items self.new.decks.items }
         ensures mos { self.new.mos ≡ self.old.mos }
         ensures handed { self.new.handed ≡ self.old.handed }
     {

@@ -4,7 +4,7 @@ ghost use Rattle.std.specs.Prelude.{◌≡◌, length};
 use crate::rack::Rack;
 use gateway_core::DeckState;
 
-impl Rack {
+impl<D> Rack<D> {
     /// Whether decks were handed in, and how many are left.
     pub fn state(&self) -> DeckState
         ensures handed { result.handed ≡ self.now.handed }

@@ -10,6 +10,8 @@ use std::test::Fail;
 
 type Shared = Arc<Mutex<MemDeck>>;
 
+type Boxes = Rack<Box<dyn Deck + Send>>;
+
 // A deck in memory that fails at one call.
 fn failing(alloc: Global, call: u64) -> Result<MemDeck, Fail> {
     Ok(MemDeck::new(alloc, Vec::from_slice(alloc, &[call])?))
@@ -24,7 +26,7 @@ fn rack_of(
     alloc: Global,
     first: Box<dyn Deck + Send>,
     second: Box<dyn Deck + Send>,
-) -> Result<Rack, Fail> {
+) -> Result<Boxes, Fail> {
     let mos = id(alloc, "dev1")?;
     let mut decks = Vec::new(alloc);
     decks.push(first)?;
@@ -32,7 +34,7 @@ fn rack_of(
     Ok(Rack::new(decks, mos))
 }
 
-fn load(rack: &mut Rack, alloc: Global, numbers: &str) -> Result<(), Fail> {
+fn load<D: Deck>(rack: &mut Rack<D>, alloc: Global, numbers: &str) -> Result<(), Fail> {
     let ro = id(alloc, "R1")?;
     let order = order(alloc, numbers)?;
     rack.load(&ro, Some(&order));
@@ -40,12 +42,12 @@ fn load(rack: &mut Rack, alloc: Global, numbers: &str) -> Result<(), Fail> {
     Ok(())
 }
 
-fn arm(rack: &mut Rack, alloc: Global) -> Result<(), Fail> {
+fn arm<D: Deck>(rack: &mut Rack<D>, alloc: Global) -> Result<(), Fail> {
     rack.arm(&id(alloc, "R1")?);
     Ok(())
 }
 
-fn disarm(rack: &mut Rack, alloc: Global) -> Result<(), Fail> {
+fn disarm<D: Deck>(rack: &mut Rack<D>, alloc: Global) -> Result<(), Fail> {
     rack.disarm(&id(alloc, "R1")?);
     Ok(())
 }
@@ -75,9 +77,9 @@ fn note_list(alloc: Global, deck: &MemDeck, notes: &mut Vec<char>) -> Result<(),
 }
 
 // Loads twice, arms and takes the mark off. Notes the decks after each call, and says how many are left after each load.
-fn play(
+fn play<D: Deck>(
     alloc: Global,
-    rack: &mut Rack,
+    rack: &mut Rack<D>,
     decks: &[Shared; 2],
     notes: &mut Vec<char>,
 ) -> Result<(u32, u32), Fail> {
@@ -98,7 +100,7 @@ fn play(
 }
 
 // The rack of two decks that are shared with the test.
-fn rack_of_shared(alloc: Global, decks: &[Shared; 2]) -> Result<Rack, Fail> {
+fn rack_of_shared(alloc: Global, decks: &[Shared; 2]) -> Result<Boxes, Fail> {
     let [first, second] = decks;
     let first = Box::new(alloc, SharedDeck::new(first.clone()?))?;
     let second = Box::new(alloc, SharedDeck::new(second.clone()?))?;
@@ -124,7 +126,7 @@ fn a_deck_that_fails_its_second_load_is_dropped(rt: HostRuntime) -> Result<(), F
 }
 
 // The call of this number: a load, an arming, a taking off, and again.
-fn call(rack: &mut Rack, alloc: Global, number: u64) -> Result<(), Fail> {
+fn call<D: Deck>(rack: &mut Rack<D>, alloc: Global, number: u64) -> Result<(), Fail> {
     match number % 3 {
         0 => load(rack, alloc, "1"),
         1 => arm(rack, alloc),
@@ -142,7 +144,7 @@ fn left_after(number: u64, i: u64, j: u64) -> u32 {
 }
 
 // Whether a rack of two such decks has so many left after each of five calls.
-fn falls_as_listed(alloc: Global, rack: &mut Rack, i: u64, j: u64) -> Result<bool, Fail> {
+fn falls_as_listed<D: Deck>(alloc: Global, rack: &mut Rack<D>, i: u64, j: u64) -> Result<bool, Fail> {
     for number in 0..5 {
         call(rack, alloc, number)?;
         if rack.state().left != left_after(number, i, j) {
@@ -152,7 +154,7 @@ fn falls_as_listed(alloc: Global, rack: &mut Rack, i: u64, j: u64) -> Result<boo
     Ok(true)
 }
 
-fn rack_of_failing(alloc: Global, i: u64, j: u64) -> Result<Rack, Fail> {
+fn rack_of_failing(alloc: Global, i: u64, j: u64) -> Result<Boxes, Fail> {
     let first = Box::new(alloc, failing(alloc, i)?)?;
     let second = Box::new(alloc, failing(alloc, j)?)?;
     rack_of(alloc, first, second)
@@ -175,7 +177,7 @@ fn a_deck_is_gone_exactly_after_its_failing_call(rt: HostRuntime) -> Result<(), 
 #[test]
 fn no_decks_are_none_left(rt: HostRuntime) -> Result<(), Fail> {
     let alloc = rt.alloc();
-    let mut rack = Rack::new(Vec::new(alloc), id(alloc, "dev1")?);
+    let mut rack: Boxes = Rack::new(Vec::new(alloc), id(alloc, "dev1")?);
     let armed = arm(&mut rack, alloc);
     let state = rack.state();
     let_go(rack);
