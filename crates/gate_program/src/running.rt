@@ -1,4 +1,7 @@
 //! A run of the gateway.
+ghost use Rattle.std.specs.Prelude.{◌<◌, ◌^◌, length};
+
+use deck_rack::Deck;
 use end_settings::{GateSettings, read_gate_settings};
 use gate_serving::gate_serve_by_threads;
 use mos_io::{Capped, StdSource};
@@ -94,9 +97,11 @@ fn serve<
         + Send
         + Sync
         + 'static,
->(rt: R, settings: &GateSettings) -> Result<ProgramEnd, ProgramEnd>
+    De: Deck + Send + 'static,
+>(rt: R, settings: &GateSettings, decks: Vec<De>) -> Result<ProgramEnd, ProgramEnd>
 where
     R::File: Drop,
+    requires { length decks.items < 2 ^ 32 }
 {
     let alloc = rt.alloc();
     let objects = objects_of(&rt, settings)?;
@@ -111,6 +116,7 @@ where
         alloc,
         settings,
         objects,
+        decks,
         upper,
         lower,
         dialer,
@@ -133,15 +139,17 @@ fn run_with<
         + Send
         + Sync
         + 'static,
->(rt: R, path: &str) -> Result<ProgramEnd, ProgramEnd>
+    De: Deck + Send + 'static,
+>(rt: R, path: &str, decks: Vec<De>) -> Result<ProgramEnd, ProgramEnd>
 where
     R::File: Drop,
+    requires { length decks.items < 2 ^ 32 }
 {
     let settings = settings_in(&rt, path)?;
-    serve(rt, &settings)
+    serve(rt, &settings, decks)
 }
 
-/// Runs the gateway with the words behind the program's name: the path of its settings.
+/// Runs the gateway with these decks, fewer than 2^32, and with the words behind the program's name: the path of its settings.
 ///
 /// What isn't as it should be is looked for in this order: the words, the settings' file, the settings, the objects, the
 /// ports. Memory may run out at each.
@@ -157,14 +165,16 @@ pub fn run_gateway<
         + Send
         + Sync
         + 'static,
->(rt: R, words: &[String]) -> ProgramEnd
+    De: Deck + Send + 'static,
+>(rt: R, words: &[String], decks: Vec<De>) -> ProgramEnd
 where
     R::File: Drop,
+    requires { length decks.items < 2 ^ 32 }
 {
     let [path] = words else {
         return ProgramEnd::Usage;
     };
-    match run_with(rt, path.as_str()) {
+    match run_with(rt, path.as_str(), decks) {
         Ok(end) => end,
         Err(end) => end,
     }
