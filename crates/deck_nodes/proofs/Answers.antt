@@ -42,6 +42,10 @@ left-by false k n e le = let h = ltb-false k n e in omega (arith, h, le)
 still-exact : (handed : Bool) (n k : ℕ) → k ≤ n → still_left (record { handed = handed; left = n }) k ≡ record { handed = handed; left = k }
 still-exact handed n k le = ap (λ (l : ℕ). record { handed = handed; left = l }) (left-by (nat_lt k n) k n refl le)
 
+-- the number is noted in a gateway as it is seen from outside
+pub left-noted : (v k n : GateNodeTables) (d : Decks) (l : ℕ) → v ≡ k → n ≡ record v { decks = d } → d ≡ still_left v.decks l → n ≡ record k { decks = still_left k.decks l }
+left-noted v k n d l e q h = q ∙ (ap (λ (x : Decks). record v { decks = x }) h ∙ ap (λ (t : GateNodeTables). record t { decks = still_left t.decks l }) e)
+
 module _ {D : Type 0} (view : D → DeckView) (mos : Text) where
   call-fewer : (call : DeckCall) (held : Text → Option Order) (ds left : List D) → IsDeckCall view mos held call ds left → length left ≤ length ds
   call-fewer NoCall held ds left e = let n = ap length e in omega (arith, n)

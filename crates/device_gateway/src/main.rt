@@ -1,8 +1,10 @@
 //! A device's gateway. `device_gateway FILE` reads its settings from the file, listens at its ports and dials its
-//! server.
+//! server. What its deck is to do it writes to standard output.
 #![tactic(auto)]
 
+use deck_rack::{Deck, LineDeck};
 use gate_program::{about, run_gateway};
+use mos_io::StdSink;
 use program_ends::ProgramEnd;
 use std::env;
 use std::io::ErrorKind;
@@ -35,6 +37,14 @@ fn main(rt: HostRuntime) -> ExitCode {
         let _ = print!(rt; "{text}");
         return ExitCode::SUCCESS;
     }
-    let end = run_gateway(rt, &words);
+    let alloc = rt.alloc();
+    let Ok(deck) = Box::new(alloc, LineDeck::new(alloc, StdSink::new(rt.stdout()))) else {
+        return said(&rt, ProgramEnd::NoMemory);
+    };
+    let mut decks: Vec<Box<dyn Deck + Send>> = Vec::new(alloc);
+    if decks.push(deck).is_err() {
+        return said(&rt, ProgramEnd::NoMemory);
+    }
+    let end = run_gateway(rt, &words, decks);
     said(&rt, end)
 }

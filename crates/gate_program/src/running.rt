@@ -1,8 +1,9 @@
 //! A run of the gateway.
-ghost use Rattle.std.specs.Prelude.{◌≡◌, ◌≢◌, ◌⊎◌, IfErr, IfOk, length};
+ghost use Rattle.std.specs.Prelude.{◌≡◌, ◌≢◌, ◌⊎◌, ◌<◌, ◌^◌, IfErr, IfOk, length};
 ghost use Rattle.program_ends.specs.Ends.{IsGateRunEnd, IsNoObjects, IsNoSettings};
 ghost use Rattle.program_ends.specs.declared.program_end.ProgramEnd.TheVariants.{NoMemory, NoPort, Usage};
 
+use deck_rack::Deck;
 use end_settings::{GateSettings, read_gate_settings};
 use gate_serving::gate_serve_by_threads;
 use mos_io::{Capped, StdSource};
@@ -126,9 +127,11 @@ fn serve<
         + Send
         + Sync
         + 'static,
->(rt: R, settings: &GateSettings) -> ProgramEnd
+    De: Deck + Send + 'static,
+>(rt: R, settings: &GateSettings, decks: Vec<De>) -> ProgramEnd
 where
     R::File: Drop,
+    requires { length decks.items < 2 ^ 32 }
     ensures { IsGateRunEnd result }
 {
     let alloc = rt.alloc();
@@ -150,6 +153,7 @@ where
         alloc,
         settings,
         objects,
+        decks,
         listeners,
         dialer,
         pacer(rt),
@@ -173,18 +177,20 @@ fn run_with<
         + Send
         + Sync
         + 'static,
->(rt: R, path: &str) -> ProgramEnd
+    De: Deck + Send + 'static,
+>(rt: R, path: &str, decks: Vec<De>) -> ProgramEnd
 where
     R::File: Drop,
+    requires { length decks.items < 2 ^ 32 }
     ensures { IsGateRunEnd result }
 {
     match settings_in(&rt, path) {
-        Ok(settings) => serve(rt, &settings),
+        Ok(settings) => serve(rt, &settings, decks),
         Err(end) => end,
     }
 }
 
-/// Runs the gateway with the words behind the program's name: the path of its settings.
+/// Runs the gateway with these decks, fewer than 2^32, and with the words behind the program's name: the path of its settings.
 ///
 /// `Usage` comes exactly where these words aren't one. What else isn't as it should be is looked for in this order: the
 /// settings' file, the settings, the objects, the ports. Memory may run out at each.
@@ -201,14 +207,16 @@ pub fn run_gateway<
         + Send
         + Sync
         + 'static,
->(rt: R, words: &[String]) -> ProgramEnd
+    De: Deck + Send + 'static,
+>(rt: R, words: &[String], decks: Vec<De>) -> ProgramEnd
 where
     R::File: Drop,
+    requires { length decks.items < 2 ^ 32 }
     ensures usage { length words.now ≢ 1 → result ≡ Usage }
     ensures run { length words.now ≡ 1 → IsGateRunEnd result }
 {
     match words {
-        [path] => run_with(rt, path.as_str()),
+        [path] => run_with(rt, path.as_str(), decks),
         _ => ProgramEnd::Usage,
     }
 }

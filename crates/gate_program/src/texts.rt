@@ -1,7 +1,7 @@
 //! What the program says of itself.
 
 const HELP: &str = "A device's gateway: keeps a copy of the newsroom's running orders in step (MOS
-Protocol 2.8.5, Profiles 0, 1, 2, 4). It drives no decks yet.
+Protocol 2.8.5, Profiles 0, 1, 2, 4), and drives one playout deck by lines.
 
 usage: device_gateway FILE
 
@@ -20,6 +20,15 @@ FILE is TOML:
                 given
 
 It listens on every address of the machine, and dials the server's two ports.
+On standard output it writes a line for each call of its deck, in UTF-8, and
+flushes it:
+  load RO ITEM=OBJ ..  the playlist of the order RO is now this: its items whose
+                       mosID is mos_id, each with its objID; none where the
+                       order has none, or isn't there
+  arm RO               the order was released by READY
+  disarm RO            the order was taken back by NOT READY
+Where a line can't be written, or there is no memory for it, the deck is let go:
+no line follows, and READY is answered NO DECK.
 On standard error it says which connections come and why they end, which dials
 fail, and at last how it ended itself, a line each.
 

@@ -1,22 +1,38 @@
 //! The serving call of a gateway, with a thread for each worker.
+ghost use Rattle.std.specs.Prelude.{◌≡◌, ◌<◌, ◌^◌, length, IfOk};
 ghost use Rattle.port_doors.specs.Listening.{CountsRise, gate_listening};
 ghost use Rattle.serve_ends.specs.Ends.{IsCaused, IsGateEnd};
 
 use crate::beginning::{Begun, prepared};
+use deck_nodes::GateNode;
+use deck_rack::{Deck, Rack};
 use end_settings::GateSettings;
 use gateway_core::Gate;
+use mos_fields::{NoMemory, pair_ok};
 use mos_io::{Clock, Pacer};
 use object_table::ObjectTable;
 use port_doors::{GateListeners, serve_gate_by_threads};
 use port_links::{Dialer, Listener};
-use port_nodes::GateNode;
 use serve_ends::ServeEnd;
 use std::alloc::Global;
 use std::sync::Wait;
 use std::thread::Threads;
 
-/// Serves as the gateway of these settings, with these objects and without decks: at two doors side by side, with two workers
-/// that dial the server, and a thread for each worker.
+// The rack of these decks, for the items of the gateway's own device.
+fn rack_of<De: Deck>(settings: &GateSettings, decks: Vec<De>) -> Result<Rack<De>, NoMemory>
+    requires { length decks.items < 2 ^ 32 }
+    ensures decks { IfOk result (λ r. r.decks.items ≡ decks.items) }
+    ensures mos { IfOk result (λ r. r.mos ≡ settings.now.mos_id) }
+{
+    let mos = settings.mos_id.try_clone()?;
+    Ok(Rack::new(decks, mos))
+}
+
+/// Serves as the gateway of these settings, with these objects and these decks, fewer than 2^32: at two doors side by side, with
+/// two workers that dial the server, and a thread for each worker.
+///
+/// The decks go with the machine, and are called in its steps as `deck_nodes::GateNode` says. They play the items whose mosID is
+/// the gateway's own.
 ///
 /// The call waits, and returns when each door's loop has ended; it doesn't wait for the workers. The listeners come back as it
 /// leaves them.
@@ -27,6 +43,7 @@ use std::thread::Threads;
 /// count falls. A gateway keeps no journal, so no other end comes.
 #[tactic(auto, using(serve_ends::proofs::Doors::counts_stay))]
 pub fn gate_serve_by_threads<
+    De: Deck + Send + 'static,
     L: Listener + Send,
     Di: Dialer + Send + 'static,
     P: Pacer + Drop + Send + 'static,
@@ -37,6 +54,7 @@ pub fn gate_serve_by_threads<
     alloc: Global,
     settings: &GateSettings,
     objects: ObjectTable,
+    decks: Vec<De>,
     listeners: GateListeners<L>,
     dialer: Di,
     pacer: P,
@@ -47,11 +65,12 @@ where
     L::K: Send + 'static,
     Di::S: Send + 'static,
     Di::K: Send + 'static,
+    requires { length decks.items < 2 ^ 32 }
     ensures gate { IsGateEnd result.0 }
     ensures caused { IsCaused (gate_listening L.coming L.faults) listeners result.1 result.0 }
     ensures rises { CountsRise (gate_listening L.coming L.faults listeners) (gate_listening L.coming L.faults result.1) }
 {
-    let Ok(begun) = prepared(alloc, settings) else {
+    let Ok((rack, begun)) = pair_ok(rack_of(settings, decks), prepared(alloc, settings)) else {
         return (ServeEnd::NoMemory, listeners);
     };
     let Begun {
@@ -60,11 +79,11 @@ where
         peer,
         info,
     } = begun;
-    let node = GateNode::new(alloc, Gate::new(alloc), objects, info);
+    let node = GateNode::new(alloc, Gate::new(alloc), &rack, objects, info);
     let ended = serve_gate_by_threads(
         rt,
         alloc,
-        (node, ()),
+        (node, rack),
         mos,
         ncs,
         &peer,

@@ -1,4 +1,4 @@
-//! A device's gateway, by its settings: its machine with its objects, its doors and its workers.
+//! A device's gateway, by its settings: its machine with its objects and its decks, its doors and its workers.
 #![tactic(auto)]
 
 mod beginning;
