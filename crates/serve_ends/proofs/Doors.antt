@@ -8,11 +8,11 @@ use Rattle.serve_ends.specs.declared.serve_end.ServeEnd.{ServeEnd}
 use Rattle.serve_ends.specs.declared.serve_end.ServeEnd.TheVariants.{Closed, ListenFault, NoWorker, StoreFault, BadEntry, NoMemory}
 
 -- that of the doors' end
-pub caused_by_doors : {K X : Type 0} (seen : X → AllListening) (was now : X) (end : DoorEnd) → CausedByThreads (seen was) (seen now) end → IsCaused {K = K} seen was now (end_of_door end)
-caused_by_doors seen was now doors.Closed cause = cause
-caused_by_doors seen was now doors.ListenFault cause = cause
-caused_by_doors seen was now doors.NoWorker cause = cause
-caused_by_doors seen was now doors.NoMemory cause = tt
+pub caused_by_doors : (K : Type 0) {X : Type 0} (seen : X → AllListening) (was now : X) (end : DoorEnd) → CausedByThreads (seen was) (seen now) end → IsCaused {K = K} seen was now (end_of_door end)
+caused_by_doors K seen was now doors.Closed cause = cause
+caused_by_doors K seen was now doors.ListenFault cause = cause
+caused_by_doors K seen was now doors.NoWorker cause = cause
+caused_by_doors K seen was now doors.NoMemory cause = tt
 
 -- that of a server that wasn't started, whose listeners are as they were
 pub caused_by_start : {K X : Type 0} (seen : X → AllListening) (was : X) (end : ServeEnd K) → IsNotStarted end → IsCaused seen was was end

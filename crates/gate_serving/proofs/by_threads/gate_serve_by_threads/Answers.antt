@@ -6,4 +6,4 @@ use Rattle.gate_serving.proofs.by_threads.gate_serve_by_threads.Goals as goal
 
 pub returns-clause-caused : goal.returns-clause-caused
 returns-clause-caused g c = let seen = gate_listening g.L.Listener.coming g.L.Listener.faults in let ended = c.serve_gate_by_threads-ended in
-    subst (λ e. IsCaused seen c.args.listeners ended.result.1 e) (sym c.of_door.ensures) (caused_by_doors seen c.args.listeners ended.result.1 ended.result.0 ended.ensures.caused)
+    subst (λ e. IsCaused seen c.args.listeners ended.result.1 e) (sym c.of_door.ensures) (caused_by_doors _ seen c.args.listeners ended.result.1 ended.result.0 ended.ensures.caused)
