@@ -16,12 +16,12 @@ caused_by_doors K seen was now doors.NoMemory cause = tt
 
 -- that of a server that wasn't started, whose listeners are as they were
 pub caused_by_start : {K X : Type 0} (seen : X → AllListening) (was : X) (end : ServeEnd K) → IsNotStarted end → IsCaused seen was was end
-caused_by_start seen was Closed no = absurd no
-caused_by_start seen was ListenFault no = absurd no
-caused_by_start seen was NoWorker no = absurd no
-caused_by_start seen was (StoreFault later) no = refl
-caused_by_start seen was (BadEntry number later) no = refl
-caused_by_start seen was NoMemory no = tt
+caused_by_start seen was Closed holds = absurd holds
+caused_by_start seen was ListenFault holds = absurd holds
+caused_by_start seen was NoWorker holds = absurd holds
+caused_by_start seen was (StoreFault later) holds = refl
+caused_by_start seen was (BadEntry number later) holds = refl
+caused_by_start seen was NoMemory holds = tt
 
 editor_stays : (a : Option Listening) → OfEditor (λ x y. x.faults ≤ y.faults) (Unit {0}) a a
 editor_stays None = tt
