@@ -34,19 +34,19 @@ refused_objects objects.NoMemory = tt
 -- ---- a server's
 
 pub server_settings : (end : ProgramEnd) → IsNoSettings end → IsServerRunEnd end
-server_settings ends.Closed no = tt
-server_settings ends.Usage no = absurd no
-server_settings (ends.NoFile files.Settings) no = tt
-server_settings (ends.NoFile files.Log) no = tt
-server_settings (ends.NoFile files.Objects) no = absurd no
-server_settings (ends.NoPort port) no = tt
-server_settings (ends.BadSettings fault) no = tt
-server_settings ends.ListenFault no = tt
-server_settings ends.NoWorker no = tt
-server_settings ends.StoreFault no = tt
-server_settings (ends.BadEntry number) no = tt
-server_settings ends.NoMemory no = tt
-server_settings (ends.BadObjects fault) no = absurd no
+server_settings ends.Closed lacks = tt
+server_settings ends.Usage lacks = absurd lacks
+server_settings (ends.NoFile files.Settings) lacks = tt
+server_settings (ends.NoFile files.Log) lacks = tt
+server_settings (ends.NoFile files.Objects) lacks = absurd lacks
+server_settings (ends.NoPort port) lacks = tt
+server_settings (ends.BadSettings fault) lacks = tt
+server_settings ends.ListenFault lacks = tt
+server_settings ends.NoWorker lacks = tt
+server_settings ends.StoreFault lacks = tt
+server_settings (ends.BadEntry number) lacks = tt
+server_settings ends.NoMemory lacks = tt
+server_settings (ends.BadObjects fault) lacks = absurd lacks
 
 pub server_log : (end : ProgramEnd) → IsNoFile files.Log end → IsServerRunEnd end
 server_log end (inl e) = subst IsServerRunEnd (sym e) tt
@@ -63,34 +63,34 @@ server_served serving.NoMemory = tt
 -- ---- a gateway's
 
 pub gate_settings : (end : ProgramEnd) → IsNoSettings end → IsGateRunEnd end
-gate_settings ends.Closed no = tt
-gate_settings ends.Usage no = absurd no
-gate_settings (ends.NoFile files.Settings) no = tt
-gate_settings (ends.NoFile files.Log) no = absurd no
-gate_settings (ends.NoFile files.Objects) no = tt
-gate_settings (ends.NoPort port) no = tt
-gate_settings (ends.BadSettings fault) no = tt
-gate_settings ends.ListenFault no = tt
-gate_settings ends.NoWorker no = tt
-gate_settings ends.StoreFault no = absurd no
-gate_settings (ends.BadEntry number) no = absurd no
-gate_settings ends.NoMemory no = tt
-gate_settings (ends.BadObjects fault) no = tt
+gate_settings ends.Closed lacks = tt
+gate_settings ends.Usage lacks = absurd lacks
+gate_settings (ends.NoFile files.Settings) lacks = tt
+gate_settings (ends.NoFile files.Log) lacks = absurd lacks
+gate_settings (ends.NoFile files.Objects) lacks = tt
+gate_settings (ends.NoPort port) lacks = tt
+gate_settings (ends.BadSettings fault) lacks = tt
+gate_settings ends.ListenFault lacks = tt
+gate_settings ends.NoWorker lacks = tt
+gate_settings ends.StoreFault lacks = absurd lacks
+gate_settings (ends.BadEntry number) lacks = absurd lacks
+gate_settings ends.NoMemory lacks = tt
+gate_settings (ends.BadObjects fault) lacks = tt
 
 pub gate_objects : (end : ProgramEnd) → IsNoObjects end → IsGateRunEnd end
-gate_objects ends.Closed no = tt
-gate_objects ends.Usage no = absurd no
-gate_objects (ends.NoFile files.Settings) no = tt
-gate_objects (ends.NoFile files.Log) no = absurd no
-gate_objects (ends.NoFile files.Objects) no = tt
-gate_objects (ends.NoPort port) no = tt
-gate_objects (ends.BadSettings fault) no = tt
-gate_objects ends.ListenFault no = tt
-gate_objects ends.NoWorker no = tt
-gate_objects ends.StoreFault no = absurd no
-gate_objects (ends.BadEntry number) no = absurd no
-gate_objects ends.NoMemory no = tt
-gate_objects (ends.BadObjects fault) no = tt
+gate_objects ends.Closed lacks = tt
+gate_objects ends.Usage lacks = absurd lacks
+gate_objects (ends.NoFile files.Settings) lacks = tt
+gate_objects (ends.NoFile files.Log) lacks = absurd lacks
+gate_objects (ends.NoFile files.Objects) lacks = tt
+gate_objects (ends.NoPort port) lacks = tt
+gate_objects (ends.BadSettings fault) lacks = tt
+gate_objects ends.ListenFault lacks = tt
+gate_objects ends.NoWorker lacks = tt
+gate_objects ends.StoreFault lacks = absurd lacks
+gate_objects (ends.BadEntry number) lacks = absurd lacks
+gate_objects ends.NoMemory lacks = tt
+gate_objects (ends.BadObjects fault) lacks = tt
 
 pub gate_served : {K : Type 0} (end : ServeEnd K) → IsGateEnd end → IsGateRunEnd (end_of_serving end)
 gate_served serving.Closed by = tt

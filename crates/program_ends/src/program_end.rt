@@ -112,9 +112,7 @@ impl ProgramEnd {
 }
 
 // The word of a kind of rejection.
-fn kind_word(kind: Kind) -> &'static str
-    ensures { result.now ≡ kind_word_of kind }
-{
+fn kind_word(kind: Kind) -> &'static str {
     match kind {
         Kind::BadUnit => "BadUnit",
         Kind::BadChar => "BadChar",
@@ -130,9 +128,7 @@ fn kind_word(kind: Kind) -> &'static str
 }
 
 // The name of the field of a kind, or nothing.
-fn kind_field(kind: Kind) -> &'static str
-    ensures { result.now ≡ kind_field_of kind }
-{
+fn kind_field(kind: Kind) -> &'static str {
     match kind {
         Kind::Twice(field) | Kind::Order(field) | Kind::Missing(field) | Kind::Value(field) => {
             field.name()
@@ -141,20 +137,8 @@ fn kind_field(kind: Kind) -> &'static str
     }
 }
 
-// Writes a text in parentheses, nothing where it is empty.
-fn show_bracketed<W: fmt::Write>(f: &mut fmt::Formatter<W>, text: &str) -> fmt::Result
-    ensures { WritesOnOk W.write_str_gives f.old result (bracketed text.now) f.new }
-{
-    match text {
-        "" => Ok(()),
-        text => write!(f, "({text})"),
-    }
-}
-
 // Writes why settings are refused.
-fn show_settings<W: fmt::Write>(f: &mut fmt::Formatter<W>, fault: SettingsFault) -> fmt::Result
-    ensures { WritesOnOk W.write_str_gives f.old result (settings_text fault) f.new }
-{
+fn show_settings<W: fmt::Write>(f: &mut fmt::Formatter<W>, fault: SettingsFault) -> fmt::Result {
     match fault {
         SettingsFault::NotToml => f.write_str("NotToml"),
         SettingsFault::Missing { key } => {
@@ -169,21 +153,16 @@ fn show_settings<W: fmt::Write>(f: &mut fmt::Formatter<W>, fault: SettingsFault)
     }
 }
 
-// Writes at which place objects are refused, and why.
-fn show_refused<W: fmt::Write>(f: &mut fmt::Formatter<W>, place: u64, kind: Kind) -> fmt::Result
-    ensures { WritesOnOk W.write_str_gives f.old result (objects_text (Refused place kind)) f.new }
-{
-    let word = kind_word(kind);
-    write!(f, "Refused {place} {word}")?;
-    show_bracketed(f, kind_field(kind))
-}
-
 // Writes why objects are refused.
-fn show_objects<W: fmt::Write>(f: &mut fmt::Formatter<W>, fault: ObjectsFault) -> fmt::Result
-    ensures { WritesOnOk W.write_str_gives f.old result (objects_text fault) f.new }
-{
+fn show_objects<W: fmt::Write>(f: &mut fmt::Formatter<W>, fault: ObjectsFault) -> fmt::Result {
     match fault {
-        ObjectsFault::Refused { place, kind } => show_refused(f, place, kind),
+        ObjectsFault::Refused { place, kind } => {
+            let word = kind_word(kind);
+            match kind_field(kind) {
+                "" => write!(f, "Refused {place} {word}"),
+                field => write!(f, "Refused {place} {word}({field})"),
+            }
+        }
         ObjectsFault::NotObject { number } => write!(f, "NotObject {number}"),
         ObjectsFault::Full { number, units } => write!(f, "Full {number} {units}"),
         ObjectsFault::ReadFault => f.write_str("ReadFault"),
@@ -191,28 +170,14 @@ fn show_objects<W: fmt::Write>(f: &mut fmt::Formatter<W>, fault: ObjectsFault) -
     }
 }
 
-// Writes which file can't be opened or read.
-fn show_file<W: fmt::Write>(f: &mut fmt::Formatter<W>, file: FileOf) -> fmt::Result
-    ensures { WritesOnOk W.write_str_gives f.old result (file_text file) f.new }
-{
-    match file {
-        FileOf::Settings => f.write_str("NoFile: the settings"),
-        FileOf::Log => f.write_str("NoFile: log"),
-        FileOf::Objects => f.write_str("NoFile: objects"),
-    }
-}
-
 impl fmt::Display for ProgramEnd {
-    ghost use Rattle.std.specs.Prelude.{Some};
-    ghost use Rattle.program_ends.specs.Ends.{end_text};
-
-    ghost output = { λ end. Some (end_text end) };
-
     fn fmt<W: fmt::Write>(&self, f: &mut fmt::Formatter<W>) -> fmt::Result {
         match *self {
             ProgramEnd::Closed => f.write_str("Closed"),
             ProgramEnd::Usage => f.write_str("Usage"),
-            ProgramEnd::NoFile(file) => show_file(f, file),
+            ProgramEnd::NoFile(FileOf::Settings) => f.write_str("NoFile: the settings"),
+            ProgramEnd::NoFile(FileOf::Log) => f.write_str("NoFile: log"),
+            ProgramEnd::NoFile(FileOf::Objects) => f.write_str("NoFile: objects"),
             ProgramEnd::NoPort(port) => write!(f, "NoPort {port}"),
             ProgramEnd::BadSettings(fault) => show_settings(f, fault),
             ProgramEnd::ListenFault => f.write_str("ListenFault"),
