@@ -40,15 +40,21 @@ fn info(alloc: Global) -> Option<MachInfo> {
     gate_info(alloc, &settings).ok()
 }
 
-fn node(alloc: Global) -> Option<GateNode> {
-    match (info(alloc), objects(alloc)) {
-        (Some(info), Some(objects)) => {
-            Some(GateNode::new(alloc, Gate::new(alloc), objects, info))
-        }
-        parts => {
-            let_go(parts);
+// The node of these objects, where there is memory for what it says of itself.
+fn node_of(alloc: Global, objects: ObjectTable) -> Option<GateNode> {
+    match info(alloc) {
+        Some(info) => Some(GateNode::new(alloc, Gate::new(alloc), objects, info)),
+        None => {
+            let_go(objects);
             None
         }
+    }
+}
+
+fn node(alloc: Global) -> Option<GateNode> {
+    match objects(alloc) {
+        Some(objects) => node_of(alloc, objects),
+        None => None,
     }
 }
 

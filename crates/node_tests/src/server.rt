@@ -29,13 +29,21 @@ fn server(alloc: Global) -> Option<Ncs<MemKeeper>> {
     }
 }
 
-fn node(alloc: Global) -> Option<NcsNode<MemKeeper>> {
-    match (info(alloc), server(alloc)) {
-        (Some(info), Some(ncs)) => NcsNode::new(alloc, ncs, info).ok(),
-        parts => {
-            let_go(parts);
+// Its node, where there is memory for what it says of itself.
+fn node_of(alloc: Global, ncs: Ncs<MemKeeper>) -> Option<NcsNode<MemKeeper>> {
+    match info(alloc) {
+        Some(info) => NcsNode::new(alloc, ncs, info).ok(),
+        None => {
+            let_go(ncs);
             None
         }
+    }
+}
+
+fn node(alloc: Global) -> Option<NcsNode<MemKeeper>> {
+    match server(alloc) {
+        Some(ncs) => node_of(alloc, ncs),
+        None => None,
     }
 }
 
