@@ -144,7 +144,12 @@ fn left_after(number: u64, i: u64, j: u64) -> u32 {
 }
 
 // Whether a rack of two such decks has so many left after each of five calls.
-fn falls_as_listed<D: Deck>(alloc: Global, rack: &mut Rack<D>, i: u64, j: u64) -> Result<bool, Fail> {
+fn falls_as_listed<D: Deck>(
+    alloc: Global,
+    rack: &mut Rack<D>,
+    i: u64,
+    j: u64,
+) -> Result<bool, Fail> {
     for number in 0..5 {
         call(rack, alloc, number)?;
         if rack.state().left != left_after(number, i, j) {
