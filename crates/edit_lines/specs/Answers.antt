@@ -1,0 +1,86 @@
+-- Which answer a message wants, and what is printed of the one that comes.
+use Rattle.std.specs.Prelude.{ℕ, Bool, true, false, List, [], ◌∷◌, ◌++◌, bytes_eq, codes}
+use Rattle.std.specs.List.{flat_map}
+use Rattle.mos_fields.specs.Characters.{Text, units_of}
+use Rattle.mos_values.specs.OrderValue.{OrderBody}
+use Rattle.mos_values.specs.StoryValue.{Story}
+use Rattle.mos_values.specs.declared.header.HeaderPatch.{HeaderPatch}
+use Rattle.mos_values.specs.declared.item.Item.{Item}
+use Rattle.mos_values.specs.declared.message.Message.{Message}
+use Rattle.mos_values.specs.declared.message.Message.TheVariants as carried
+use Rattle.stream_commands.specs.Lines.{printed_text}
+use Rattle.edit_lines.specs.declared.wanted.Wanted.{Wanted}
+use Rattle.edit_lines.specs.declared.wanted.Wanted.TheVariants.{Okay, Order, All}
+
+-- ---- which answer is wanted
+
+-- a request of one order wants its list, one of all orders theirs, and any other message `OK`
+abbrev pub wanted_by : Message → Wanted
+wanted_by (carried.RoReq ro) = Order
+wanted_by carried.RoReqAll = All
+wanted_by m = Okay
+
+-- a roAck with the text `OK`
+abbrev pub is_okay : Message → Bool
+is_okay (carried.RoAck ack) = bytes_eq (units_of ack.status) (codes "OK")
+is_okay m = false
+
+abbrev pub is_order : Message → Bool
+is_order (carried.RoList body) = true
+is_order m = false
+
+abbrev pub is_all : Message → Bool
+is_all (carried.RoListAll headers) = true
+is_all m = false
+
+-- the answer is the one that was wanted
+abbrev pub is_wanted : Wanted → Message → Bool
+is_wanted Okay m = is_okay m
+is_wanted Order m = is_order m
+is_wanted All m = is_all m
+
+-- ---- what is printed
+
+-- an item behind a comma
+abbrev pub item_behind : Item → List ℕ
+item_behind i = codes "," ++ printed_text i.id
+
+-- behind a story's ID, where it has items: a colon, and theirs with commas between
+abbrev pub items_text : List Item → List ℕ
+items_text [] = []
+items_text (i ∷ items) = codes ":" ++ printed_text i.id ++ flat_map item_behind items
+
+-- a story behind a space
+abbrev pub story_behind : Story → List ℕ
+story_behind s = codes " " ++ printed_text s.id ++ items_text s.items
+
+abbrev pub stories_text : List Story → List ℕ
+stories_text [] = codes " empty"
+stories_text (s ∷ ss) = flat_map story_behind (s ∷ ss)
+
+-- the line of an order
+abbrev pub order_text : OrderBody → List ℕ
+order_text body = printed_text body.header.ro ++ stories_text body.stories ++ 10 ∷ []
+
+-- the line of an order among all
+abbrev pub ro_line : HeaderPatch → List ℕ
+ro_line h = printed_text h.ro ++ 10 ∷ []
+
+abbrev pub all_text : List HeaderPatch → List ℕ
+all_text [] = codes "no running orders\n"
+all_text (h ∷ hs) = flat_map ro_line (h ∷ hs)
+
+-- a line and the status that answers it
+abbrev pub status_text : List ℕ → Text → List ℕ
+status_text line status = line ++ codes ": " ++ printed_text status ++ 10 ∷ []
+
+-- a line that is answered by a message which says nothing of it
+abbrev pub another_text : List ℕ → List ℕ
+another_text line = line ++ codes ": ANOTHER MESSAGE\n"
+
+-- What is printed of the answer to a line.
+abbrev pub answer_text : Wanted → List ℕ → Message → List ℕ
+answer_text wanted line (carried.RoAck ack) = status_text line ack.status
+answer_text Order line (carried.RoList body) = order_text body
+answer_text All line (carried.RoListAll headers) = all_text headers
+answer_text wanted line m = another_text line
