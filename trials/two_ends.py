@@ -231,6 +231,46 @@ def text_in(answer):
     return found.group(1) if found else None
 
 
+def playlist(names, device):
+    """What a gateway's deck says of an order with these stories: the items of its device."""
+    number = DEVICES.index(device) + 1
+    return [f"{number}={name}-{device}" for name in names]
+
+
+def told_by_deck(path):
+    """What a gateway's deck said last: the playlist of each order, and which orders it is armed for."""
+    lists, armed = {}, set()
+    with open(path, encoding="utf-8") as it:
+        lines = it.read().split("\n")[:-1]
+    for line in lines:
+        words = line.split(" ")
+        if words[0] == "load" and len(words) > 1:
+            lists[words[1]] = words[2:]
+            armed.discard(words[1])
+        elif words[0] == "arm" and len(words) == 2:
+            armed.add(words[1])
+        elif words[0] == "disarm" and len(words) == 2:
+            armed.discard(words[1])
+    return lists, armed
+
+
+def faults_of_decks(gateways, orders, until):
+    """Where a gateway's deck doesn't come to hold every order as it was released; they have until then to come to it."""
+    while True:
+        faults = []
+        for device, it in gateways.items():
+            lists, armed = told_by_deck(it.out)
+            for ro, names in sorted(orders.items()):
+                wanted = playlist(names, device)
+                if lists.get(ro) != wanted:
+                    faults.append(f"the deck of {device} holds {lists.get(ro)} of {ro}, and the newest order is {wanted}")
+                elif ro not in armed:
+                    faults.append(f"the deck of {device} isn't armed for {ro}, which was released")
+        if not faults or time.time() > until:
+            return faults
+        time.sleep(0.1)
+
+
 def main(built, seed):
     seed = int(seed) if seed else random.SystemRandom().randrange(1 << 32)
     rng = random.Random(seed)
@@ -251,6 +291,9 @@ def main(built, seed):
     gateways = {d: Program(f"{built}/crates/device_gateway/out/device_gateway", f"{folder}/{d}.toml", folder, d) for d in DEVICES}
     every = [server, *gateways.values()]
     faults = []
+    # a gateway whose deck writes lines says so
+    help_text = subprocess.run([f"{built}/crates/device_gateway/out/device_gateway", "--help"], capture_output=True, text=True).stdout
+    decks_tell = "load RO" in help_text
     try:
         for it in every:
             it.start()
@@ -321,6 +364,9 @@ def main(built, seed):
             answer = editor.ask(f"<roReadyToAir><roID>{ro}</roID><roAir>READY</roAir></roReadyToAir>")
             if text_in(answer) != "OK":
                 faults.append(f"the release of {ro} was answered {text_in(answer)!r}")
+        # every gateway comes to hold it
+        if decks_tell and not faults:
+            faults += faults_of_decks(gateways, newsroom.orders, time.time() + 15)
         for it in every:
             if not it.is_alive():
                 faults.append(f"{it.name} ended by itself, with status {it.process.returncode}")
@@ -336,7 +382,10 @@ def main(built, seed):
         print(f"the programs' files are in {folder}")
         return 1
     subprocess.run(["rm", "-rf", folder])
-    print("ok: no acknowledged edit was lost")
+    if decks_tell:
+        print("ok: no acknowledged edit was lost, and each gateway's deck ends with the newest orders, released")
+    else:
+        print("ok: no acknowledged edit was lost; what the gateways hold wasn't seen")
     return 0
 
 
