@@ -72,6 +72,36 @@ def try_all(name, words, given, shim):
     return faults
 
 
+def tests_of(program):
+    """The names of the tests that a built program of tests has."""
+    ran = subprocess.run([program, "--list"], capture_output=True, text=True, timeout=60)
+    return [line.split(":")[0] for line in ran.stdout.split("\n") if line.endswith(": test")]
+
+
+def try_tests(name, program, shim):
+    """Runs the tests of the codec and of both machines with each request refused in turn: a test may fail, since it wants its
+    answer, but it never ends by a signal."""
+    began = time.time()
+    tests = runs = faults = 0
+    for test in tests_of(program):
+        status, _, total = run([program, test], b"", shim, 0, False)
+        if status != 0 or total == 0:
+            print(f"skipped {name} {test}: status {status}, {total} requests")
+            continue
+        tests += 1
+        step = max(1, total // 200)
+        for refuse in range(1, total + 1, step):
+            if time.time() - began > SECONDS * 2:
+                break
+            ended, _, _ = run([program, test], b"", shim, refuse, False)
+            runs += 1
+            if ended < 0:
+                faults += 1
+                print(f"FAULT {name} {test}: request {refuse}: signal {-ended}")
+    print(f"ok {name}: {tests} tests, {runs} runs, {faults} faults")
+    return faults
+
+
 def main(top, built, shim):
     texts = stream()
     cases = [("take", "take", texts), ("show", "show", texts), ("check", "check", texts)]
@@ -90,6 +120,12 @@ def main(top, built, shim):
         program = f"{built}/crates/mos_canonical/out/mos_canonical{ending}"
         if os.access(program, os.X_OK):
             faults += try_all(f"mos_canonical{ending}", [program], texts, shim)
+    for name in ("codec_tests", "machine_tests", "port_tests"):
+        program = f"{built}/crates/{name}/out/{name}_tests"
+        if os.access(program, os.X_OK):
+            faults += try_tests(name, program, shim)
+        else:
+            print(f"skipped {name}: it isn't built")
     return 1 if faults else 0
 
 

@@ -12,3 +12,4 @@ pub mod LawLemmas
 pub mod CheckLemmas
 mod ArrangeLemmas
 mod GatherLemmas
+mod ItemMoveLemmas

@@ -1,6 +1,6 @@
 //! Edits of the items of a story, by their IDs. Where the story isn't there, nothing changes.
 //!
-//! Only what puts items in takes memory.
+//! Only what puts items in takes memory. Moved and removed are items one by one; of many at once see `item_moves`.
 ghost use Rattle.std.specs.Prelude.{◌≡◌, ◌<◌, [], ◌∷◌, Some, None, length, OnOk, OnErr};
 ghost use Rattle.mos_edits.specs.KeyedLists.{first_repeated, put_before, put_for, without, exchanged};
 ghost use Rattle.mos_edits.specs.Orders.{shape};
@@ -16,8 +16,8 @@ use mos_fields::{NoMemory, OptId};
 use mos_values::Items;
 use running_order::Order;
 
-// How many items the story at a place has. No two of them have the same ID.
-fn item_count(order: &Order, story: usize) -> usize
+/// How many items the story at a place has. No two of them have the same ID.
+pub fn item_count(order: &Order, story: usize) -> usize
     requires { story < length order.now.stories }
     ensures count { result ≡ length (items_at order.now.stories story) }
     ensures distinct { AreDistinct (item_ids (items_at order.now.stories story)) }

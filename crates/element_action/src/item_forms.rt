@@ -7,7 +7,8 @@ ghost use Rattle.mos_edits.specs.Orders.{shape};
 ghost use Rattle.element_action.specs.Answers.{IsAnswer};
 
 use crate::fault::{ActFault, told};
-use crate::item_edits::{move_items, put_items, put_items_for, remove_items, swap_items};
+use crate::item_edits::{put_items, put_items_for, swap_items};
+use crate::item_moves::{move_all, remove_all};
 use crate::level::Level;
 use crate::search::{
     find_delete_fault, find_insert_fault, find_move_fault, find_replace_fault, find_swap_fault,
@@ -66,7 +67,7 @@ pub fn shift<'a>(
     match find_move_fault(alloc, order, Level::Items(story), target, ids) {
         Some(fault) => Err(told(fault)),
         None => {
-            move_items(order, story, target, ids);
+            move_all(alloc, order, story, target, ids);
             Ok(())
         }
     }
@@ -85,7 +86,7 @@ pub fn delete<'a>(
     match find_delete_fault(alloc, order, Level::Items(story), ids) {
         Some(fault) => Err(told(fault)),
         None => {
-            remove_items(order, story, ids);
+            remove_all(alloc, order, story, ids);
             Ok(())
         }
     }

@@ -13,6 +13,7 @@ mod first_fault;
 mod gathering;
 mod item_edits;
 mod item_forms;
+mod item_moves;
 mod laws;
 mod level;
 mod search;

@@ -26,7 +26,7 @@ byte_parts b bs e = let h = and_parts (nat_lt b 256) (are_bytes bs) e in (grind 
 unit_fits : (a b : ℕ) → a < 256 → b < 256 → nat_lt (a * 256 + b) 65536 ≡ true
 unit_fits a b h k = grind (arith, nat_tests)
 
-byte_units : (bytes : List ℕ) → are_bytes bytes ≡ true → are_units (units_in bytes) ≡ true
+pub byte_units : (bytes : List ℕ) → are_bytes bytes ≡ true → are_units (units_in bytes) ≡ true
 unfolding units_in
 byte_units [] e = refl
 byte_units (a ∷ []) e = refl
@@ -122,7 +122,7 @@ reads_all (v ∷ vs) x rest fs base (y, r, enc, is, more) =
     }
 
 -- messages, and the beginning of one more
-record ReadsOpen (vs : List (List Event)) (us part : List ℕ) : Type 0 where
+pub record ReadsOpen (vs : List (List Event)) (us part : List ℕ) : Type 0 where
   pub found : List Found
   pub base : ℕ
   pub reader : Reader
@@ -130,7 +130,7 @@ record ReadsOpen (vs : List (List Event)) (us part : List ℕ) : Type 0 where
   pub runs : unit_run start_reader part ≡ still_reads reader
   pub reads : stream_units start_stream us ≡ reads_stream (record { ready = found; base = base; reader = reader })
 
-reads_open : OpenIsRead → (vs : List (List Event)) (us x part : List ℕ) → us ≡ x ++ part → AreEncodings vs x → IsOpen part → ReadsOpen vs us part
+pub reads_open : OpenIsRead → (vs : List (List Event)) (us x part : List ℕ) → us ≡ x ++ part → AreEncodings vs x → IsOpen part → ReadsOpen vs us part
 reads_open open_read vs us x part is enc o =
     let a = reads_all vs x part [] 0 enc in
     let p = open_read part o in
@@ -145,7 +145,7 @@ reads_open open_read vs us x part is enc o =
 
 -- ---- inputs
 
-same_stream : (s t : StreamReader) → reads_stream s ≡ reads_stream t → (s.reader ≡ t.reader) × (s.ready ≡ t.ready)
+pub same_stream : (s t : StreamReader) → reads_stream s ≡ reads_stream t → (s.reader ≡ t.reader) × (s.ready ≡ t.ready)
 same_stream s t e = let h : s ≡ t = cc in (ap (λ (z : StreamReader). z.reader) h, ap (λ (z : StreamReader). z.ready) h)
 
 pub inputs_exact : StreamsAreExact → OpenIsRead → InputsAreExact

@@ -1,13 +1,13 @@
 -- What holds of inputs.
-use Rattle.std.specs.Prelude.{◌≡◌, ℕ, true, List, ◌++◌}
+use Rattle.std.specs.Prelude.{◌≡◌, ℕ, ◌+◌, true, List, ◌++◌, length}
 use Rattle.mos_fields.specs.Characters.{units_in}
 use Rattle.mos_tables.specs.Events.{Event}
 use Rattle.mos_lexer.specs.declared.kind.Kind.{Kind}
 use Rattle.mos_lexer.specs.declared.kind.Kind.TheVariants.{End}
-use Rattle.mos_lexer.specs.Units.{Found, Reader, start_reader, still_reads, unit_run, is_resting, StreamReader, start_stream, rejects_stream, stream_units}
+use Rattle.mos_lexer.specs.Units.{Found, Reader, start_reader, still_reads, unit_run, is_resting, StreamReader, start_stream, reads_stream, rejects_stream, stream_units}
 use Rattle.mos_rejections.specs.Laws.{values}
 use Rattle.mos_decoder.specs.Inputs.{Input, whole, refused, input_of}
-use Rattle.input_laws.specs.Words.{are_bytes, are_blank, IsStream, ShowsRejection, EndsInside, IsRejected}
+use Rattle.input_laws.specs.Words.{are_bytes, are_blank, IsStream, ReadsOn, ShowsRejection, EndsInside, IsRejected}
 
 -- Code units that begin a message rest exactly where they are white space and U+FEFF.
 abbrev pub RestsAreBlank : Type 0
@@ -43,3 +43,20 @@ RejectionsStay = (bytes more : List ℕ) (vs : List (List Event)) (place : ℕ) 
 -- Code units that the machine refuses show the rejection behind the messages that it read.
 abbrev pub RefusalsAreShown : Type 0
 RefusalsAreShown = (bytes : List ℕ) (s : StreamReader) (place : ℕ) (k : Kind) → are_bytes bytes ≡ true → stream_units start_stream (units_in bytes) ≡ rejects_stream s place k → ShowsRejection bytes (values s.ready) place k
+
+-- What is held behind the messages that were read: with it the machine comes to the same as with all code units, of which it
+-- is the end.
+pub record IsHeld (bytes : List ℕ) (found : List Found) (base : ℕ) (held : List ℕ) : Type 0 where
+  pub same : stream_units start_stream (units_in bytes) ≡ stream_units (record { ready = found; base = base; reader = start_reader }) held
+  pub units : length (units_in bytes) ≡ base + length held
+
+-- the code units that are held are as many as those that begin a message, and blank where these are
+pub record IsPart (part held : List ℕ) : Type 0 where
+  pub long : length held ≡ length part
+  pub blank : are_blank held ≡ are_blank part
+
+-- Code units that the machine reads on from are encodings of the messages that it read and begin one more, of which what is
+-- held is as long and as blank.
+abbrev pub StreamsGoOn : Type 0
+StreamsGoOn = (bytes : List ℕ) (found : List Found) (base : ℕ) (held : List ℕ) (s : StreamReader) → are_bytes bytes ≡ true → stream_units start_stream (units_in bytes) ≡ reads_stream s → s.ready ≡ found → IsHeld bytes found base held
+    → (r : ReadsOn bytes (values found)) × IsPart r.part held

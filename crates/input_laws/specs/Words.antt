@@ -34,6 +34,15 @@ pub record IsStream (bytes : List ℕ) (vs : List (List Event)) : Type 0 where
   pub blank : are_blank rest ≡ true
   pub even : is_odd bytes ≡ false
 
+-- Encodings of these messages stand one after another, and behind the last one code units that begin one more, as far as they
+-- go: no whole message, and nothing that shows a rejection.
+pub record ReadsOn (bytes : List ℕ) (vs : List (List Event)) : Type 0 where
+  pub messages : List ℕ
+  pub part : List ℕ
+  pub units : units_in bytes ≡ messages ++ part
+  pub encode : AreEncodings vs messages
+  pub begins : IsOpen part
+
 -- Behind encodings of these messages stand code units that show a rejection of this kind, whatever follows them. Its place
 -- counts from the beginning of the stream.
 pub record ShowsRejection (bytes : List ℕ) (vs : List (List Event)) (place : ℕ) (k : Kind) : Type 0 where

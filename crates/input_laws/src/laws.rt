@@ -1,5 +1,5 @@
 //! Laws of inputs, for the crates above: each function does nothing, and its clause is the law.
-ghost use Rattle.input_laws.specs.Laws.{EndsAreTold, InputsAreExact, RefusalsAreShown, RejectionsAreTold, RejectionsStay, RestsAreBlank, StreamsAreTaken};
+ghost use Rattle.input_laws.specs.Laws.{EndsAreTold, InputsAreExact, RefusalsAreShown, RejectionsAreTold, RejectionsStay, RestsAreBlank, StreamsAreTaken, StreamsGoOn};
 
 use mos_rejections::laws::{open_is_read, stream_rejections_are_read, streams_are_exact};
 
@@ -48,4 +48,12 @@ pub fn refusals_are_shown()
     ensures { RefusalsAreShown }
 {
     streams_are_exact();
+}
+
+/// Code units that are read on from are encodings of the messages that were read, and begin one more.
+pub fn streams_go_on()
+    ensures { StreamsGoOn }
+{
+    streams_are_exact();
+    open_is_read();
 }

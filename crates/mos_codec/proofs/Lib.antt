@@ -4,3 +4,4 @@ pub mod First
 pub mod Taken
 pub mod Pinning
 pub mod Handed
+pub mod Words

@@ -1,16 +1,16 @@
 -- What taking the whole messages of a stream comes to.
-use Rattle.std.proofs.Common.{◌≡◌, ℕ, ◌+◌, ◌⊎◌, false, List, [], ◌∷◌, ◌++◌, map, Option, Some, None, Ok, Err, inl, inr, refl, sym, ap, subst, ◌∙◌}
+use Rattle.std.proofs.Common.{◌≡◌, ℕ, ◌+◌, ◌⊎◌, false, List, [], ◌∷◌, ◌++◌, map, Option, Some, None, Ok, Err, length, inl, inr, refl, sym, ap, subst, ◌∙◌}
 use Rattle.std.specs.List.{AllByRecursion}
 use Rattle.std.proofs.lemmas.List.{append_assoc}
 use Rattle.mos_fields.specs.Characters.{units_in}
 use Rattle.mos_lexer.specs.declared.kind.Kind.{Kind}
 use Rattle.mos_lexer.specs.Laws.{EncodingsAreRead}
-use Rattle.mos_lexer.specs.Units.{Found as FoundOf, UnitRun, still_reads, completed, rejected_at, start_reader, unit_run}
+use Rattle.mos_lexer.specs.Units.{Found as FoundOf, UnitRun, still_reads, completed, rejected_at, start_reader, stream_units, unit_run}
 use Rattle.mos_reader.specs.declared.found.Found.{Found}
 use Rattle.mos_reader.specs.declared.found.ReadFault.{ReadFault}
 use Rattle.mos_reader.specs.declared.found.ReadFault.TheVariants.{Rejected, NoMemory}
-use Rattle.mos_reader.specs.Answers.{Answers, ComesTo, Stream, answer_of, fed, fed_on, stream_behind}
-use Rattle.mos_decoder.specs.Bytes.{ByteStream, HasHanded, Tells, behind_odd, fed_bytes, found_of}
+use Rattle.mos_reader.specs.Answers.{Answers, ComesTo, Stream, answer_of, fed_on, stream_behind}
+use Rattle.mos_decoder.specs.Bytes.{ByteStream, HasHanded, Tells, behind_odd, fed_bytes, found_of, front}
 use Rattle.mos_values.specs.MessageViews.{envelope_events}
 use Rattle.mos_values.specs.declared.message.Envelope.{Envelope}
 use Rattle.value_laws.specs.Laws.{EventsPinEnvelopes}
@@ -72,17 +72,26 @@ first-stopped read e us rest s t ready NoMemory h a c = tt
 pub whole-read : (bytes : List ℕ) (found : List FoundOf) (t : ByteStream) → Tells bytes found (Ok None) t → IsRead bytes found t
 whole-read bytes found t h = record { handed = h.0; base = h.1.0; reader = h.1.1; goes_on = h.1.2 }
 
-fed-behind : (run : UnitRun) (s t : Stream) (place : ℕ) (k : Kind) → answer_of s.base run ≡ Err (Rejected place k) → t ≡ stream_behind s run → fed t ≡ fed s
-fed-behind (still_reads r) s t place k a e = absurd cc
-fed-behind (completed began v rest) s t place k a e = absurd cc
-fed-behind (rejected_at place' k') s t place k a e = ap fed e
+-- a rejection leaves what is held where it is
+held-behind : (run : UnitRun) (s t : Stream) (place : ℕ) (k : Kind) → answer_of s.base run ≡ Err (Rejected place k) → t ≡ stream_behind s run → (t.base ≡ s.base) × (t.held ≡ s.held)
+held-behind (still_reads r) s t place k a e = absurd cc
+held-behind (completed began v rest) s t place k a e = absurd cc
+held-behind (rejected_at place' k') s t place k a e = (ap (λ (z : Stream). z.base) e, ap (λ (z : Stream). z.held) e)
 
-pub stopped-read : (bytes : List ℕ) (found : List FoundOf) (s t : ByteStream) (ready : List Placed) (k : ReadFault) → HasHanded s bytes (with_ready found ready) → Answers false s.stream.fault s.stream (Err k) t.stream → Tells bytes (with_ready found ready) (Err k) t
+pub stopped-read : (bytes : List ℕ) (found : List FoundOf) (s t : ByteStream) (ready : List Placed) (k : ReadFault) → HasHanded s bytes (with_ready found ready) → Answers false s.stream.fault s.stream (Err k) t.stream → t.odd ≡ s.odd → Tells bytes (with_ready found ready) (Err k) t
     → Took bytes found (Err k) t ready
-stopped-read bytes found s t ready (Rejected place k) h a told =
+stopped-read bytes found s t ready (Rejected place k) h a odd told =
     let c : ComesTo (unit_run start_reader s.stream.held) s.stream (Err (Rejected place k)) t.stream = subst (λ (z : Option ReadFault). Answers false z s.stream (Err (Rejected place k)) t.stream) h.reads a in
-    (told, fed-behind (unit_run start_reader s.stream.held) s.stream t.stream place k c.0 c.1 ∙ sym h.units)
-stopped-read bytes found s t ready NoMemory h a told = tt
+    let same = held-behind (unit_run start_reader s.stream.held) s.stream t.stream place k c.0 c.1 in (
+      told,
+      (λ j. same.0 j + length (same.1 j)) ∙ sym h.units,
+      record {
+        same = h.same ∙ sym (λ j. stream_units (front (with_ready found ready) (same.0 j)) (same.1 j));
+        units = h.units ∙ sym (λ j. same.0 j + length (same.1 j));
+        odd = odd ∙ h.odd;
+      },
+    )
+stopped-read bytes found s t ready NoMemory h a odd told = tt
 
 -- ---- feeding
 

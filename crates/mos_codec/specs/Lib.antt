@@ -1,3 +1,4 @@
 pub mod Codec
 pub mod Decoding
+pub mod Words
 pub mod Taking

@@ -8,6 +8,7 @@ use Rattle.mos_reader.specs.Answers.{fed}
 use Rattle.mos_decoder.specs.Bytes.{ByteStream}
 use Rattle.mos_values.specs.declared.message.Envelope.{Envelope}
 use Rattle.mos_codec.specs.declared.whole.Placed.{Placed}
+use Rattle.mos_codec.specs.Words.{IsLeft}
 use Rattle.mos_codec.specs.Decoding.{IsReady, IsRead, IsRejected, IsFirst, placed_events, with_ready}
 
 -- one more message stands behind those that are ready, with this place and these events
@@ -21,7 +22,7 @@ pub record IsMore (f : FoundOf) (before after : List Placed) : Type 0 where
 -- on behind them or is rejected; or there is no memory.
 abbrev pub Took : List ℕ → List FoundOf → Result (Unit {0}) ReadFault → ByteStream → List Placed → Type 0
 Took bytes found (Ok u) s ready = IsRead bytes (with_ready found ready) s
-Took bytes found (Err (Rejected place k)) s ready = IsRejected bytes (with_ready found ready) place k × (fed s.stream ≡ length (units_in bytes))
+Took bytes found (Err (Rejected place k)) s ready = IsRejected bytes (with_ready found ready) place k × (fed s.stream ≡ length (units_in bytes)) × IsLeft bytes (with_ready found ready) s
 Took bytes found (Err NoMemory) s ready = ⊤
 
 -- the envelope is the first that is ready, or there is no memory

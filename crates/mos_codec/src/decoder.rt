@@ -1,5 +1,6 @@
 //! From a stream of bytes to envelopes.
-ghost use Rattle.std.specs.Prelude.{◌≡◌, ◌+◌, ◌<◌, ◌^◌, ◌++◌, ℕ, List, [], Some, Err, None, IfNone, IfSome, length};
+ghost use Rattle.std.specs.Prelude.{◌≡◌, ◌+◌, ◌<◌, ◌^◌, ◌++◌, ℕ, List, [], Some, Err, None, IfNone, IfSome, length, true};
+ghost use Rattle.input_laws.specs.Words.{are_bytes};
 ghost use Rattle.mos_decoder.specs.Bytes.{behind_odd};
 ghost use Rattle.mos_fields.specs.Characters.{units_in};
 ghost use Rattle.mos_lexer.specs.Units.{Found as FoundOf};
@@ -10,11 +11,13 @@ ghost use Rattle.mos_values.specs.declared.message.Envelope.{Envelope as Envelop
 ghost use Rattle.value_laws.specs.Ranges.{IsInRange};
 ghost use Rattle.mos_codec.specs.Codec.{EncodesEnvelope};
 ghost use Rattle.mos_codec.specs.Decoding.{ComesFirst, HandsOut, HasTaken, IsKept, TellsFed, bytes_behind, handed_more, rests, start_decoder};
+ghost use Rattle.mos_codec.specs.Words.{FedInWords};
 ghost use Rattle.mos_codec.specs.declared.fault.DecodeFault.{DecodeFault as FaultOf};
 
 use crate::blank::are_blank;
 use crate::fault::DecodeFault;
 use crate::whole::{Placed, take_first, take_piece};
+use input_laws::laws::{refusals_are_shown, streams_go_on};
 use mos_decoder::EventDecoder;
 use mos_reader::ReadFault;
 use mos_values::Envelope;
@@ -62,7 +65,8 @@ impl Decoder {
         }
     }
 
-    /// How many whole code units were fed, those of the piece that shows a rejection among them. It takes no memory.
+    /// How many whole code units were fed, those of the piece that shows a rejection among them. Behind `NoMemory` the number
+    /// means nothing. It takes no memory.
     pub fn place(&self) -> usize
         ensures { result ≡ fed (self.now).bytes.stream }
     {
@@ -77,8 +81,9 @@ impl Decoder {
         self.began
     }
 
-    /// How many bytes were fed since the last whole message, an odd one with them; 2^64 - 1 where that is smaller. It
-    /// takes no memory.
+    /// How many bytes were fed since the last whole message, an odd one with them; 2^64 - 1 where that is smaller. Behind
+    /// `Refused` those of the message that was rejected are counted, and all that was fed behind it in the same piece; behind
+    /// `NoMemory` the number means nothing. It takes no memory.
     pub fn behind(&self) -> usize
         ensures { result ≡ bytes_behind (self.now).bytes }
     {
@@ -93,7 +98,8 @@ impl Decoder {
             .saturating_add(odd)
     }
 
-    /// Whether nothing but white space and U+FEFF was fed since the last whole message. It takes no memory.
+    /// Whether nothing but white space and U+FEFF was fed since the last whole message; behind `NoMemory` the answer means
+    /// nothing. It takes no memory.
     pub fn is_empty(&self) -> bool
         ensures { result ≡ rests (self.now).bytes }
     {
@@ -106,16 +112,20 @@ impl Decoder {
     /// Feeds more bytes of the stream. No whole message may be left to be handed out: call `next` until it answers None.
     ///
     /// The messages that are whole with them are handed out by `next`, also those before a rejection. Where what was fed
-    /// since the last whole message begins with an encoding of an envelope, that envelope is the first, whatever follows.
+    /// since the last whole message begins with an encoding of an envelope, that envelope is the first, whatever follows. With
+    /// `Ok` the bytes fed are encodings of the messages that were handed out and of those that are ready, and behind them one
+    /// more is begun, of which `behind` and `is_empty` tell.
     ///
     /// # Errors
     /// `Refused` with the place, in code units from the beginning of the stream, and the kind of the first fault that all
-    /// bytes fed so far show. `NoMemory` where memory runs out; then no message of the piece is handed out. Each later
+    /// bytes fed so far show, behind the messages that were handed out and are ready: a rejection in words of the grammar,
+    /// which stands whatever would follow. `NoMemory` where memory runs out; then no message of the piece is handed out. Each later
     /// call answers the same and changes nothing.
     pub fn feed(&mut self, piece: &[u8]) -> Result<(), DecodeFault>
         requires taken { (self.old).ready ≡ [] }
         requires room { fed (self.old).bytes.stream + length piece.now < 2 ^ 64 }
         ensures tells { (before : List ℕ) (found : List FoundOf) → HasTaken self.old before found → TellsFed (before ++ piece.now) found result self.new }
+        ensures words { (before : List ℕ) (found : List FoundOf) → HasTaken self.old before found → are_bytes (before ++ piece.now) ≡ true → FedInWords (before ++ piece.now) found result self.new }
         ensures first { (e : Enveloped) (us rest : List ℕ) → (self.old).fault ≡ None → (self.old).bytes.stream.fault ≡ None → EncodesEnvelope us e → (self.old).bytes.stream.held ++ units_in (behind_odd (self.old).bytes.odd piece.now) ≡ us ++ rest → ComesFirst e result (self.new).ready }
         ensures fault { IsKept result (self.new).fault }
         ensures same { (k : FaultOf) → (self.old).fault ≡ Some k → (result ≡ Err k) × (self.new ≡ self.old) }
@@ -132,10 +142,13 @@ impl Decoder {
         requires clean { (self.old).fault ≡ None }
         requires room { fed (self.old).bytes.stream + length piece.now < 2 ^ 64 }
         ensures tells { (before : List ℕ) (found : List FoundOf) → HasTaken self.old before found → TellsFed (before ++ piece.now) found result self.new }
+        ensures words { (before : List ℕ) (found : List FoundOf) → HasTaken self.old before found → are_bytes (before ++ piece.now) ≡ true → FedInWords (before ++ piece.now) found result self.new }
         ensures first { (e : Enveloped) (us rest : List ℕ) → (self.old).bytes.stream.fault ≡ None → EncodesEnvelope us e → (self.old).bytes.stream.held ++ units_in (behind_odd (self.old).bytes.odd piece.now) ≡ us ++ rest → ComesFirst e result (self.new).ready }
         ensures fault { IsKept result (self.new).fault }
         ensures began { (self.new).began ≡ (self.old).began }
     {
+        streams_go_on();
+        refusals_are_shown();
         match take_piece(self.alloc, &mut self.events, piece, &mut self.ready) {
             Ok(()) => Ok(()),
             Err(ReadFault::Rejected(place, kind)) => {

@@ -16,8 +16,8 @@ use std::marker::Model;
 
 /// Hands out the messages of a stream of bytes as the events of their canonical encodings.
 ///
-/// It holds the code units that were fed since the last message that it handed out, those of messages that were handed
-/// out since the last feeding, and an odd byte.
+/// Contracts see of it the code units that were fed since the last message that it handed out, how many stand before them in
+/// the stream, an odd byte, and how many messages were handed out. How much memory it keeps is no part of them.
 #[derive(Drop)]
 pub struct EventDecoder {
     alloc: Global,

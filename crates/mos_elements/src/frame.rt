@@ -1,5 +1,5 @@
 //! Open records.
-ghost use Rattle.std.specs.Prelude.{◌≡◌, [], IfOk, MatchOption, None, OnOk, Some};
+ghost use Rattle.std.specs.Prelude.{◌≡◌, [], IfOk, MatchOption, None, OnErr, OnOk, Some};
 ghost use Rattle.mos_fields.specs.Fields.{same};
 ghost use Rattle.mos_fields.specs.Forms.{among};
 ghost use Rattle.mos_tables.specs.Tables.{columns as columns_of};
@@ -167,7 +167,8 @@ impl Frame {
     /// count to have no room.
     #[tactic(auto, using(crate::proofs::FrameLemmas::one_more_seen, crate::proofs::PartLemmas::children_more))]
     pub fn add(&mut self, field: Field, part: Part) -> Result<(), NoMemory>
-        ensures { OnOk result (self.new ≡ added self.old (field, part_events part)) }
+        ensures ok { OnOk result (self.new ≡ added self.old (field, part_events part)) }
+        ensures unchanged { OnErr result (self.new ≡ self.old) }
     {
         self.before.reserve(1)?;
         self.key_set.note(self.table, &part)?;

@@ -13,8 +13,8 @@ use std::marker::Model;
 
 /// Reads messages one after another from the code units that are fed.
 ///
-/// It holds the units that were fed since the last message that it handed out, and those of messages that were handed
-/// out since the last feeding.
+/// Contracts see of it the units that were fed since the last message that it handed out, how many stand before them in the
+/// stream, and its fault. How much memory it keeps is no part of them.
 #[derive(Drop)]
 pub struct Reader {
     alloc: Global,

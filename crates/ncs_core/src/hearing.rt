@@ -16,7 +16,6 @@ ghost use Rattle.ncs_core.specs.Answers.{acked, other_status, list_said, peer_li
 ghost use Rattle.ncs_core.specs.State.{ncs_of, devices_of, LeavesRest};
 
 use crate::ncs::Ncs;
-use crate::orders::headers_in;
 use crate::reading::{ack_with, other_ack};
 use machine_answers::{Heard, Status};
 use mos_fields::{Id, NoMemory};
@@ -44,8 +43,7 @@ impl<K: Keeper> Ncs<K> {
         ensures rest { LeavesRest self.old self.new }
         ensures err { OnErr result (ncs_of self.new ≡ ncs_of self.old) }
     {
-        self.orders.has_ascending_ids();
-        let headers = headers_in(self.allocator(), self.orders.rows())?;
+        let headers = self.headers()?;
         self.peers[d as usize].settle(&self.journal, false);
         Ok(Heard::Say(Message::RoListAll(headers)))
     }

@@ -1,12 +1,15 @@
 //! The orders that a listing tells.
 ghost use Rattle.std.specs.Prelude.{◌≡◌, ◌<◌, ◌||◌, ◌&&◌, List, ℕ, OnOk, IfOk};
 ghost use Rattle.mos_edits.specs.Texts.{same_id, has_id};
+ghost use Rattle.mos_edits.specs.Entries.{headers as headers_of};
 ghost use Rattle.mos_machines.specs.Tables.{row_ids, peer_of};
 ghost use Rattle.ncs_core.specs.Listed.{has_entry, is_seen, is_viewed, IsListOf};
 ghost use Rattle.ncs_core.specs.State.{ncs_of, devices_of};
 
 use crate::ncs::Ncs;
+use crate::orders::headers_in;
 use mos_fields::{Id, NoMemory};
+use mos_values::Headers;
 use order_table::OrderTable;
 use rundown_log::{Journal, Keeper};
 use server_peer::{Peer, View};
@@ -79,6 +82,15 @@ fn viewed_in(alloc: Global, journal: &Journal, peer: &Peer) -> Result<Vec<Id>, N
 }
 
 impl<K: Keeper> Ncs<K> {
+    /// The headers of the orders that are there, by roID, as a list of all orders tells them. Each order is looked at once, and
+    /// the journal isn't. The only error is that memory runs out.
+    pub fn headers(&self) -> Result<Headers, NoMemory>
+        ensures { IfOk result (λ hs. hs ≡ headers_of self.now.server.journal) }
+    {
+        self.orders.has_ascending_ids();
+        headers_in(self.allocator(), self.orders.rows())
+    }
+
     /// The roIDs of the orders that have an entry, ascending, none twice. The only error is that memory runs out.
     pub fn entered_ids(&self) -> Result<Vec<Id>, NoMemory>
         ensures { IfOk result (λ ids. IsListOf (has_entry self.now.server.journal) ids.items) }

@@ -2,7 +2,7 @@
 ghost use Rattle.std.specs.Prelude.{◌≡◌, ◌≢◌};
 ghost use Rattle.mos_io.specs.Counts.{Rose};
 ghost use Rattle.stream_commands.specs.Running.{IsBounded};
-ghost use Rattle.script_plays.specs.Played.{IsMade, IsReplayed, IsScriptRefused};
+ghost use Rattle.script_plays.specs.Played.{IsMade, IsMadeBroken, IsReplayBroken, IsReplayed, IsScriptRefused};
 ghost use Rattle.playing_commands.specs.Endings.{ending_status};
 
 use mos_io::{Sink, Source};
@@ -37,6 +37,8 @@ pub fn replay<S: Source, K: Sink, T: Stage>(
     ensures usage { result ≢ Status.Usage }
     ensures read_fault { result ≡ Status.ReadFault → Rose (S.faults source.old) (S.faults source.new) }
     ensures write_fault { result ≡ Status.WriteFault → Rose (K.faults sink.old) (K.faults sink.new) }
+    ensures unwritten { result ≡ Status.ReadFault → K.written sink.new ≡ K.written sink.old }
+    ensures broken_off { result ≡ Status.WriteFault → IsReplayBroken (T.told stage.new) (T.shown stage.new) (S.left source.old) (S.left source.new) (K.written sink.old) (K.written sink.new) }
 {
     status_of(replay_script(alloc, source, sink, stage))
 }
@@ -48,6 +50,7 @@ pub fn make<K: Sink, T: Stage>(alloc: Global, count: u32, sink: &mut K, stage: &
     ensures usage { result ≢ Status.Usage }
     ensures read_fault { result ≢ Status.ReadFault }
     ensures write_fault { result ≡ Status.WriteFault → Rose (K.faults sink.old) (K.faults sink.new) }
+    ensures broken_off { result ≡ Status.WriteFault → IsMadeBroken (T.told stage.new) (T.shown stage.new) count (K.written sink.old) (K.written sink.new) }
 {
     status_of(make_script(alloc, count, sink, stage))
 }

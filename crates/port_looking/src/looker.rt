@@ -20,7 +20,7 @@ pub enum Lack {
 }
 
 /// The most bytes of one read.
-const PIECE: usize = 65_536;
+const PIECE: usize = 16_384;
 
 // Room for so many bytes.
 fn room(alloc: Global) -> Result<Vec<u8>, NoMemory>

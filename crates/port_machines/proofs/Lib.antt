@@ -2,6 +2,5 @@ pub mod ServerSaid
 pub mod GateSaid
 pub mod Commanded
 pub mod EditorSaid
-pub mod ListedOrders
 pub mod MessageEdits
 pub mod PortSteps

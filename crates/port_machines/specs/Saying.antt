@@ -44,10 +44,6 @@ refusal_of NoOrder = no_order
 abbrev pub acked : Text → Status → PortAnswer
 acked ro status = answers.Say (ack ro (status_text status))
 
--- rows of these orders as they are
-abbrev pub orders_of : List Entry → List Text → List (Text × Option Order)
-orders_of journal ids = map (λ r. (r, order_now journal r)) ids
-
 -- a status is told of this order; where there is none nothing is said
 abbrev pub IsToldFor : Option Status → Text → PortAnswer → Type 0
 IsToldFor (Some status) ro a = a ≡ acked ro status

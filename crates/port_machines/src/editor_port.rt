@@ -12,7 +12,6 @@ ghost use Rattle.port_machines.specs.Steps.{IsAnswered, IsServerRefusal};
 
 use crate::editing::edit_of;
 use crate::faults::{command_answer, prepared};
-use crate::listing::headers;
 use crate::replies::{list, not_supported};
 use mos_fields::{NoMemory, let_go};
 use mos_values::{Edit, Message};
@@ -34,10 +33,10 @@ fn command<K: Keeper>(alloc: Global, ncs: &mut Ncs<K>, edit: &Edit) -> Result<Po
 }
 
 // The list of all orders.
-fn list_all<K: Keeper>(alloc: Global, ncs: &Ncs<K>) -> Result<PortAnswer, NoMemory>
+fn list_all<K: Keeper>(ncs: &Ncs<K>) -> Result<PortAnswer, NoMemory>
     ensures { IfOk result (λ a. a ≡ answers.Say (carried.RoListAll (headers_of ncs.now.server.journal))) }
 {
-    Ok(PortAnswer::Say(Message::RoListAll(headers(alloc, ncs)?)))
+    Ok(PortAnswer::Say(Message::RoListAll(ncs.headers()?)))
 }
 
 // What answers an editor's message that is no edit. It changes nothing.
@@ -47,7 +46,7 @@ fn reply<K: Keeper>(alloc: Global, ncs: &Ncs<K>, message: &Message) -> Result<Po
     match message {
         Message::Heartbeat(time) => Ok(PortAnswer::Say(Message::Heartbeat(*time))),
         Message::RoReq(ro) => list(alloc, ncs.order(ro), ro),
-        Message::RoReqAll => list_all(alloc, ncs),
+        Message::RoReqAll => list_all(ncs),
         _ => not_supported(alloc, message),
     }
 }

@@ -10,7 +10,6 @@ mod editor_port;
 mod faults;
 mod gateway;
 mod idle;
-mod listing;
 mod replies;
 mod saying;
 mod server;

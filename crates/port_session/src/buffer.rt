@@ -8,7 +8,7 @@ use mos_io::Source;
 use std::alloc::Global;
 
 /// The most bytes of one read.
-const PIECE: usize = 65_536;
+const PIECE: usize = 16_384;
 
 // Room for so many bytes.
 fn room(alloc: Global) -> Result<Vec<u8>, NoMemory>

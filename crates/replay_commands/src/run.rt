@@ -2,7 +2,9 @@
 ghost use Rattle.std.specs.Prelude.{◌≡◌, ◌≢◌, map, string_bytes};
 ghost use Rattle.mos_io.specs.Counts.{Rose};
 ghost use Rattle.stream_commands.specs.Running.{IsBounded};
-ghost use Rattle.replay_commands.specs.Commands.{Command, DoneBy, Reads, RefusedBy};
+ghost use Rattle.stream_commands.specs.Words.{OfInput};
+ghost use Rattle.replay_commands.specs.Commands.{BrokenOffBy, Command, CutOffBy, DoneBy, Reads, RefusedBy, RejectedBy, WholeBy};
+ghost use Rattle.replay_commands.specs.InWords.{ToldOfRejected, ToldOfStream};
 ghost use Rattle.replay_commands.specs.Words.{AreWords, Asks, command_of};
 
 use crate::words::{Asked, asked_for};
@@ -27,6 +29,10 @@ fn run_command<S: Source, K: Sink, T: Stage>(
     ensures refused { result ≡ Status.Refused → RefusedBy (command_of command) (S.left source.old) (S.left source.new) (K.written sink.old) (K.written sink.new) }
     ensures read_fault { result ≡ Status.ReadFault → Reads (command_of command) × Rose (S.faults source.old) (S.faults source.new) }
     ensures write_fault { result ≡ Status.WriteFault → Rose (K.faults sink.old) (K.faults sink.new) }
+    ensures cut_off { result ≡ Status.ReadFault → CutOffBy (command_of command) (S.left source.old) (S.left source.new) (K.written sink.old) (K.written sink.new) }
+    ensures broken_off { result ≡ Status.WriteFault → BrokenOffBy (command_of command) (T.told stage.new) (T.shown stage.new) (S.left source.old) (S.left source.new) (K.written sink.old) (K.written sink.new) }
+    ensures whole { result ≡ Status.Done → OfInput (S.left source.old) (WholeBy (command_of command) (K.written sink.old) (K.written sink.new)) }
+    ensures rejected { result ≡ Status.Refused → OfInput (S.left source.old) (RejectedBy (command_of command) (K.written sink.old) (K.written sink.new)) }
 {
     match command {
         Asked::Take => take(alloc, source, sink),
@@ -34,6 +40,32 @@ fn run_command<S: Source, K: Sink, T: Stage>(
         Asked::Check => check(alloc, source, sink),
         Asked::Replay => replay(alloc, source, sink, stage),
         Asked::Make(count) => make(alloc, count, sink, stage),
+    }
+}
+
+/// The same, message by message.
+fn run_words<S: Source, K: Sink, T: Stage>(
+    alloc: Global,
+    words: &[String],
+    source: &mut S,
+    sink: &mut K,
+    stage: &mut T,
+) -> Status
+    requires { IsBounded (S.bound source.old) }
+    ensures usage { result ≡ Status.Usage → (AreWords (map string_bytes words.now) → ⊥) × (source.new ≡ source.old) × (sink.new ≡ sink.old) × (stage.new ≡ stage.old) }
+    ensures used { (AreWords (map string_bytes words.now) → ⊥) → result ≡ Status.Usage }
+    ensures done { result ≡ Status.Done → (c : Command) → Asks c (map string_bytes words.now) → DoneBy c (T.told stage.new) (T.shown stage.new) (S.left source.old) (S.left source.new) (K.written sink.old) (K.written sink.new) }
+    ensures refused { result ≡ Status.Refused → (c : Command) → Asks c (map string_bytes words.now) → RefusedBy c (S.left source.old) (S.left source.new) (K.written sink.old) (K.written sink.new) }
+    ensures read_fault { result ≡ Status.ReadFault → ((c : Command) → Asks c (map string_bytes words.now) → Reads c) × Rose (S.faults source.old) (S.faults source.new) }
+    ensures write_fault { result ≡ Status.WriteFault → Rose (K.faults sink.old) (K.faults sink.new) }
+    ensures cut_off { result ≡ Status.ReadFault → (c : Command) → Asks c (map string_bytes words.now) → CutOffBy c (S.left source.old) (S.left source.new) (K.written sink.old) (K.written sink.new) }
+    ensures broken_off { result ≡ Status.WriteFault → (c : Command) → Asks c (map string_bytes words.now) → BrokenOffBy c (T.told stage.new) (T.shown stage.new) (S.left source.old) (S.left source.new) (K.written sink.old) (K.written sink.new) }
+    ensures whole { result ≡ Status.Done → (c : Command) → Asks c (map string_bytes words.now) → OfInput (S.left source.old) (WholeBy c (K.written sink.old) (K.written sink.new)) }
+    ensures rejected { result ≡ Status.Refused → (c : Command) → Asks c (map string_bytes words.now) → OfInput (S.left source.old) (RejectedBy c (K.written sink.old) (K.written sink.new)) }
+{
+    match asked_for(words) {
+        Some(command) => run_command(alloc, command, source, sink, stage),
+        None => Status::Usage,
     }
 }
 
@@ -74,9 +106,10 @@ pub fn mos_run<S: Source, K: Sink, T: Stage>(
     ensures refused { result ≡ Status.Refused → (c : Command) → Asks c (map string_bytes words.now) → RefusedBy c (S.left source.old) (S.left source.new) (K.written sink.old) (K.written sink.new) }
     ensures read_fault { result ≡ Status.ReadFault → ((c : Command) → Asks c (map string_bytes words.now) → Reads c) × Rose (S.faults source.old) (S.faults source.new) }
     ensures write_fault { result ≡ Status.WriteFault → Rose (K.faults sink.old) (K.faults sink.new) }
+    ensures cut_off { result ≡ Status.ReadFault → (c : Command) → Asks c (map string_bytes words.now) → CutOffBy c (S.left source.old) (S.left source.new) (K.written sink.old) (K.written sink.new) }
+    ensures broken_off { result ≡ Status.WriteFault → (c : Command) → Asks c (map string_bytes words.now) → BrokenOffBy c (T.told stage.new) (T.shown stage.new) (S.left source.old) (S.left source.new) (K.written sink.old) (K.written sink.new) }
+    ensures whole { result ≡ Status.Done → (c : Command) → Asks c (map string_bytes words.now) → OfInput (S.left source.old) (ToldOfStream c (K.written sink.old) (K.written sink.new)) }
+    ensures rejected { result ≡ Status.Refused → (c : Command) → Asks c (map string_bytes words.now) → OfInput (S.left source.old) (ToldOfRejected c (K.written sink.old) (K.written sink.new)) }
 {
-    match asked_for(words) {
-        Some(command) => run_command(alloc, command, source, sink, stage),
-        None => Status::Usage,
-    }
+    run_words(alloc, words, source, sink, stage)
 }

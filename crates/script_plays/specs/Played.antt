@@ -1,7 +1,7 @@
 -- What playing a script reads, tells and writes.
 use Rattle.std.specs.Prelude.{◌≡◌, ℕ, List, ◌∷◌, ◌++◌, [], length, Option, codes, ◌⊎◌}
 use Rattle.std.specs.Fmt.{decimal}
-use Rattle.mos_io.specs.Bytes.{Appends}
+use Rattle.mos_io.specs.Bytes.{Appends, AppendsFront}
 use Rattle.world_laws.specs.Outcomes.{Outcome, outcomes}
 use Rattle.world_laws.specs.Safe.{IsSafe}
 use Rattle.world_laws.specs.World.{World, WorldEvent, opening, run}
@@ -111,3 +111,22 @@ pub record IsSummaryOf (told : Telling) (shown : Option (Option Play)) (devices 
   pub shows : HasState shown state
   pub world : ShowsWorld shown
   pub text_is : text ≡ summary outcomes state
+
+-- ---- where the sink fails
+
+-- what is written of a script that was read: its listing, or the line that refuses it
+abbrev pub IsReplayText : Telling → Option (Option Play) → Option (List ℕ) → Option (List ℕ) → List ℕ → Type 0
+IsReplayText told shown left_before left_after text =
+    ((devices : ℕ) × (events : List WorldEvent) × IsScriptRead left_before left_after devices events × IsListingOf told shown devices events text) ⊎ ((line : ℕ) × IsRefusedAt left_before left_after line × (text ≡ refused_line line))
+
+-- A part of that was written, and nothing else.
+pub record IsReplayBroken (told : Telling) (shown : Option (Option Play)) (left_before left_after written_before written_after : Option (List ℕ)) : Type 0 where
+  pub text : List ℕ
+  pub text_is : IsReplayText told shown left_before left_after text
+  pub writes_part : AppendsFront written_before written_after text
+
+-- A part of the summary of `make N` was written, and nothing else.
+pub record IsMadeBroken (told : Telling) (shown : Option (Option Play)) (n : ℕ) (written_before written_after : Option (List ℕ)) : Type 0 where
+  pub text : List ℕ
+  pub text_is : IsSummaryOf told shown 2 (made_events n) text
+  pub writes_part : AppendsFront written_before written_after text

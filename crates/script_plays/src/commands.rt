@@ -1,6 +1,6 @@
 //! Replaying scripts, and making them.
-ghost use Rattle.std.specs.Prelude.{◌≡◌, ◌≢◌, ◌≤◌, ◌++◌, ℕ, List, IsSome, OnOk, IfOk, IfErr};
-ghost use Rattle.mos_io.specs.Bytes.{Appends};
+ghost use Rattle.std.specs.Prelude.{◌≡◌, ◌≢◌, ◌≤◌, ◌++◌, ℕ, Err, List, IsSome, OnOk, IfOk, IfErr};
+ghost use Rattle.mos_io.specs.Bytes.{Appends, AppendsFront};
 ghost use Rattle.mos_io.specs.Counts.{Rose};
 ghost use Rattle.script_reader.specs.Reading.{IsBounded};
 ghost use Rattle.world_scripts.specs.WorldEvents.{events_of};
@@ -11,7 +11,7 @@ ghost use Rattle.world_stage.specs.Stages.{ShowsWorld};
 ghost use Rattle.world_stage.specs.Worlds.{HaveSoundEdits};
 ghost use Rattle.script_plays.specs.Counted.{CountsOf};
 ghost use Rattle.script_plays.specs.Endings.{IsWriteEnding};
-ghost use Rattle.script_plays.specs.Played.{HasState, IsListingOf, IsMade, IsReplayed, IsScriptRefused, IsSummaryOf, refused_line as refused_line_of};
+ghost use Rattle.script_plays.specs.Played.{HasState, IsListingOf, IsMade, IsMadeBroken, IsReplayBroken, IsReplayed, IsScriptRefused, IsSummaryOf, refused_line as refused_line_of};
 
 use crate::counts::Counts;
 use crate::lines::{push_count, refused_line};
@@ -44,6 +44,7 @@ pub enum Ending {
 fn write<K: Sink>(sink: &mut K, text: &[u8]) -> Result<(), Ending>
     ensures written { OnOk result (Appends (K.written sink.old) (K.written sink.new) text.now) }
     ensures fault { IfErr result (λ e. IsWriteEnding (K.faults sink.old) (K.faults sink.new) e) }
+    ensures part { result ≡ Err Ending.WriteFault → AppendsFront (K.written sink.old) (K.written sink.new) text.now }
 {
     match sink.write_piece(text) {
         Ok(()) => Ok(()),
@@ -118,6 +119,7 @@ fn write_listing<K: Sink, T: Stage>(
     requires sound { HaveSoundEdits (events_of events.now) }
     ensures written { OnOk result ((text : List ℕ) × IsListingOf (T.told stage.new) (T.shown stage.new) devices (events_of events.now) text × Appends (K.written sink.old) (K.written sink.new) text) }
     ensures fault { IfErr result (λ e. IsWriteEnding (K.faults sink.old) (K.faults sink.new) e) }
+    ensures part { result ≡ Err Ending.WriteFault → (text : List ℕ) × IsListingOf (T.told stage.new) (T.shown stage.new) devices (events_of events.now) text × AppendsFront (K.written sink.old) (K.written sink.new) text }
 {
     match listing(alloc, devices, events, stage) {
         Ok(text) => write(sink, &text),
@@ -129,6 +131,7 @@ fn write_listing<K: Sink, T: Stage>(
 fn write_refusal<K: Sink>(alloc: Global, line: u64, sink: &mut K) -> Result<(), Ending>
     ensures written { OnOk result (Appends (K.written sink.old) (K.written sink.new) (refused_line_of line)) }
     ensures fault { IfErr result (λ e. IsWriteEnding (K.faults sink.old) (K.faults sink.new) e) }
+    ensures part { result ≡ Err Ending.WriteFault → AppendsFront (K.written sink.old) (K.written sink.new) (refused_line_of line) }
 {
     match refused_line(alloc, line) {
         Ok(text) => write(sink, &text),
@@ -139,7 +142,8 @@ fn write_refusal<K: Sink>(alloc: Global, line: u64, sink: &mut K) -> Result<(), 
 /// Reads a script from `source` to its end, plays it on a stage, and writes its listing to `sink`: a line for each event, and
 /// the state lines of the world that the stage shows. Where a line is none, `REFUSED line n` is written and nothing else.
 ///
-/// `ReadFault` and `WriteFault` come only where the source's or the sink's count of faults rose.
+/// `ReadFault` and `WriteFault` come only where the source's or the sink's count of faults rose. With `ReadFault` nothing was
+/// written, with `WriteFault` perhaps a part of what was to be written, and nothing else.
 pub fn replay<S: Source, K: Sink, T: Stage>(
     alloc: Global,
     source: &mut S,
@@ -151,6 +155,8 @@ pub fn replay<S: Source, K: Sink, T: Stage>(
     ensures refused { result ≡ Ending.Refused → IsScriptRefused (S.left source.old) (S.left source.new) (K.written sink.old) (K.written sink.new) }
     ensures read_fault { result ≡ Ending.ReadFault → Rose (S.faults source.old) (S.faults source.new) }
     ensures write_fault { result ≡ Ending.WriteFault → Rose (K.faults sink.old) (K.faults sink.new) }
+    ensures unwritten { result ≡ Ending.ReadFault → K.written sink.new ≡ K.written sink.old }
+    ensures broken_off { result ≡ Ending.WriteFault → IsReplayBroken (T.told stage.new) (T.shown stage.new) (S.left source.old) (S.left source.new) (K.written sink.old) (K.written sink.new) }
 {
     prefix_consistency();
     match read_script(alloc, source) {
@@ -173,12 +179,14 @@ pub fn replay<S: Source, K: Sink, T: Stage>(
 /// there were, how many commands were answered `OK`, how many otherwise, how many events weren't possible, and the state lines
 /// of the world that the stage shows.
 ///
-/// `WriteFault` comes only where the sink's count of faults rose; `Refused` and `ReadFault` don't come.
+/// `WriteFault` comes only where the sink's count of faults rose, and then perhaps a part of the summary was written, and
+/// nothing else; `Refused` and `ReadFault` don't come.
 pub fn make<K: Sink, T: Stage>(alloc: Global, count: u32, sink: &mut K, stage: &mut T) -> Ending
     ensures done { result ≡ Ending.Done → IsMade (T.told stage.new) (T.shown stage.new) count (K.written sink.old) (K.written sink.new) }
     ensures refused { result ≢ Ending.Refused }
     ensures read_fault { result ≢ Ending.ReadFault }
     ensures write_fault { result ≡ Ending.WriteFault → Rose (K.faults sink.old) (K.faults sink.new) }
+    ensures broken_off { result ≡ Ending.WriteFault → IsMadeBroken (T.told stage.new) (T.shown stage.new) count (K.written sink.old) (K.written sink.new) }
 {
     prefix_consistency();
     match summary(alloc, count, stage) {

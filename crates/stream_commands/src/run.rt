@@ -7,9 +7,11 @@ ghost use Rattle.mos_lexer.specs.Units.{Found as FoundOf};
 ghost use Rattle.mos_reader.specs.Answers.{fed};
 ghost use Rattle.mos_decoder.specs.Bytes.{HandsValue, HasHanded, IsReadValue, OnFound, found_of};
 ghost use Rattle.stream_commands.specs.Running.{EndsSo, HasHeard, Hears, IsBounded, IsBrokenOff, IsCutOff, IsDone, IsPartWritten, IsRefused, Refuses, Stops, StopsPart, TellsAt, TellsMore, TellsPart, ToldBySome, WritesText};
+ghost use Rattle.stream_commands.specs.Words.{IsDoneOf, IsRefusedOf, OfInput};
 
 use crate::status::Status;
 use crate::teller::Teller;
+use input_laws::laws::{inputs_are_exact, refusals_are_shown, rejections_stay};
 use mos_decoder::EventDecoder;
 use mos_fields::NoMemory;
 use mos_io::{Sink, SinkFault, Source};
@@ -219,6 +221,32 @@ fn read_all<T: Teller, S: Source, K: Sink>(
     }
 }
 
+/// The same, with what the machine that reads comes to.
+fn run_pieces<T: Teller, S: Source, K: Sink>(
+    alloc: Global,
+    teller: &mut T,
+    source: &mut S,
+    sink: &mut K,
+) -> Status
+    requires bounded { IsBounded (S.bound source.old) }
+    requires told { T.told teller.old [] [] }
+    ensures done { result ≡ Status.Done → IsDone (T.told teller.new) (T.last teller.new) (S.left source.old) (S.left source.new) (K.written sink.old) (K.written sink.new) }
+    ensures refused { result ≡ Status.Refused → IsRefused (T.told teller.new) (T.refusal teller.new) (S.left source.old) (S.left source.new) (K.written sink.old) (K.written sink.new) }
+    ensures usage { result ≢ Status.Usage }
+    ensures read_fault { result ≡ Status.ReadFault → Rose (S.faults source.old) (S.faults source.new) }
+    ensures write_fault { result ≡ Status.WriteFault → Rose (K.faults sink.old) (K.faults sink.new) }
+    ensures cut_off { result ≡ Status.ReadFault → IsCutOff (T.told teller.new) (S.left source.old) (S.left source.new) (K.written sink.old) (K.written sink.new) }
+    ensures broken_off { result ≡ Status.WriteFault → IsBrokenOff (ToldBySome T.told) (T.told teller.new) (T.last teller.new) (T.refusal teller.new) (S.left source.old) (S.left source.new) (K.written sink.old) (K.written sink.new) }
+{
+    match room(alloc) {
+        Err(_) => Status::NoMemory,
+        Ok(mut piece) => {
+            let mut decoder = EventDecoder::new(alloc);
+            read_all(alloc, teller, source, &mut piece, &mut decoder, sink)
+        }
+    }
+}
+
 /// Reads a stream of messages from `source` to its end, and writes to `sink` what the teller tells of it.
 ///
 /// What is told of a message is written as soon as the message is whole, in one piece. A rejection ends the output with
@@ -245,12 +273,11 @@ pub fn run_stream<T: Teller, S: Source, K: Sink>(
     ensures write_fault { result ≡ Status.WriteFault → Rose (K.faults sink.old) (K.faults sink.new) }
     ensures cut_off { result ≡ Status.ReadFault → IsCutOff (T.told teller.new) (S.left source.old) (S.left source.new) (K.written sink.old) (K.written sink.new) }
     ensures broken_off { result ≡ Status.WriteFault → IsBrokenOff (ToldBySome T.told) (T.told teller.new) (T.last teller.new) (T.refusal teller.new) (S.left source.old) (S.left source.new) (K.written sink.old) (K.written sink.new) }
+    ensures whole { result ≡ Status.Done → OfInput (S.left source.old) (IsDoneOf (T.told teller.new) (T.last teller.new) (K.written sink.old) (K.written sink.new)) }
+    ensures rejected { result ≡ Status.Refused → OfInput (S.left source.old) (IsRefusedOf (T.told teller.new) (T.refusal teller.new) (K.written sink.old) (K.written sink.new)) }
 {
-    match room(alloc) {
-        Err(_) => Status::NoMemory,
-        Ok(mut piece) => {
-            let mut decoder = EventDecoder::new(alloc);
-            read_all(alloc, teller, source, &mut piece, &mut decoder, sink)
-        }
-    }
+    inputs_are_exact();
+    refusals_are_shown();
+    rejections_stay();
+    run_pieces(alloc, teller, source, sink)
 }

@@ -1,4 +1,4 @@
-use Rattle.std.proofs.Common.{false, Ok, Some, None, subst}
+use Rattle.std.proofs.Common.{false, Ok, subst}
 use Rattle.mos_decoder.specs.Bytes.{HandsValue, Tells, found_of}
 use Rattle.mos_reader.specs.Answers.{Answers}
 use Rattle.mos_codec.specs.Decoding.{with_ready}
@@ -35,7 +35,7 @@ returns-in-Ok-None-clause-first c = λ e us rest h clean held none.
 pub returns-in-Err-clause-took : goal.returns-in-Err-clause-took
 returns-in-Err-clause-took c = λ bytes found h.
     let here = c.message.invariant.handed bytes found h in
-    stopped-read bytes found c.message.events c.next.new.self c.message.ready.items c.in-Err.fault here c.in-Err.ensures.answer (c.in-Err.ensures.tells bytes (with_ready found c.message.ready.items) here)
+    stopped-read bytes found c.message.events c.next.new.self c.message.ready.items c.in-Err.fault here c.in-Err.ensures.answer c.in-Err.ensures.odd (c.in-Err.ensures.tells bytes (with_ready found c.message.ready.items) here)
 
 pub returns-in-Err-clause-first : goal.returns-in-Err-clause-first
 returns-in-Err-clause-first c = λ e us rest h clean held none.

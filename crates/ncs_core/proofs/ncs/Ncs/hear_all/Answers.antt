@@ -1,20 +1,18 @@
 use Rattle.std.proofs.Common.{◌≡◌, List, set, false, ap, ◌∙◌}
 use Rattle.mos_edits.specs.Orders.{HeaderPatch}
-use Rattle.mos_edits.specs.Entries.{headers}
 use Rattle.mos_machines.specs.Server.{peer_settled}
 use Rattle.mos_machines.specs.Steps.{with_peer}
 use Rattle.mos_machines.specs.Tables.{server_state}
 use Rattle.mos_values.specs.declared.message.Message.TheVariants as carried
 use Rattle.machine_answers.specs.declared.answers.Heard.TheVariants as heard
-use Rattle.ncs_core.specs.State.{NcsTables, ncs_of, row_headers}
-use Rattle.ncs_core.proofs.HeaderRows.{rows-headers}
+use Rattle.ncs_core.specs.State.{NcsTables, ncs_of}
 use Rattle.ncs_core.proofs.PeerRows.{set-peer, peer-here}
 use Rattle.ncs_core.proofs.ncs.Ncs.hear_all.Goals as goal
 
 pub returns-clause-answer : goal.returns-clause-answer
 returns-clause-answer g c =
     ap (λ (hs : List HeaderPatch). heard.Say (carried.RoListAll hs))
-    (c.in_ok-headers.ensures ∙ (ap row_headers c.rows.ensures ∙ (rows-headers c.self.inside.journal c.self.inside.orders c.self.invariant.0 c.has_ascending_ids.ensures ∙ ap (λ (n : NcsTables _). headers n.server.journal) c.self.view_is)))
+    c.in_ok-headers.ensures
 
 pub returns-clause-step : goal.returns-clause-step
 returns-clause-step g c =

@@ -1,0 +1,6 @@
+use Rattle.stream_commands.specs.Listings.{IsCounted}
+use Rattle.reading_commands.proofs.Tellings.{broken_off}
+use Rattle.reading_commands.proofs.reading.check.Goals as goal
+
+pub returns-clause-broken_off : goal.returns-clause-broken_off
+returns-clause-broken_off g c = λ e. broken_off (λ l. IsCounted) IsCounted (λ l found text h. h) _ _ _ _ _ _ _ (c.run_stream.ensures.broken_off e)

@@ -1,0 +1,13 @@
+pub mod Filled
+pub mod Following
+pub mod Children
+pub mod Elements
+pub mod Keys
+pub mod Contents
+pub mod Messages
+pub mod RowLemmas
+pub mod RowsTold
+pub mod FieldFaults
+pub mod Begun
+pub mod Exact
+pub mod Examples
