@@ -1,0 +1,10 @@
+//! Tests of an editor's runs, over input, connections and output in memory: what is sent for each line, what is told of its
+//! answer, and how the run ends.
+#![tactic(auto)]
+
+#[cfg(test)]
+mod ends;
+#[cfg(test)]
+mod lines;
+#[cfg(test)]
+mod play;
