@@ -9,7 +9,6 @@ use gate_serving::gate_serve_by_threads;
 use mos_io::{Capped, StdSource};
 use object_reading::read_objects;
 use object_table::ObjectTable;
-use port_doors::GateListeners;
 use port_events::Side;
 use port_tcp::{SystemClock, TcpDialer, TcpPort};
 use program_ends::{FileOf, ProgramEnd, pacer, path_of, port_at, read_file};
@@ -20,6 +19,7 @@ use std::sync::atomic::AtomicU64;
 use std::sync::{Arc, Wait};
 use std::thread::Threads;
 use std::time::Clock;
+use thread_doors::GateListeners;
 
 // The settings in a file.
 #[tactic(auto, using(program_ends::proofs::RunEnds::unread_settings, program_ends::proofs::RunEnds::refused_settings))]

@@ -1,6 +1,6 @@
 //! The serving call of a gateway, with a thread for each worker.
 ghost use Rattle.std.specs.Prelude.{◌≡◌, ◌<◌, ◌^◌, length, IfOk};
-ghost use Rattle.port_doors.specs.Listening.{CountsRise, gate_listening};
+ghost use Rattle.thread_doors.specs.Listening.{CountsRise, gate_listening};
 ghost use Rattle.serve_ends.specs.Ends.{IsCaused, IsGateEnd};
 
 use crate::beginning::{Begun, prepared};
@@ -11,12 +11,12 @@ use gateway_core::Gate;
 use mos_fields::{NoMemory, pair_ok};
 use mos_io::{Clock, Pacer};
 use object_table::ObjectTable;
-use port_doors::{GateListeners, serve_gate_by_threads};
 use port_links::{Dialer, Listener};
 use serve_ends::ServeEnd;
 use std::alloc::Global;
 use std::sync::Wait;
 use std::thread::Threads;
+use thread_doors::{GateListeners, serve_gate_by_threads};
 
 // The rack of these decks, for the items of the gateway's own device.
 fn rack_of<De: Deck>(settings: &GateSettings, decks: Vec<De>) -> Result<Rack<De>, NoMemory>

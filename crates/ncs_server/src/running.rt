@@ -7,7 +7,6 @@ ghost use Rattle.program_ends.specs.declared.program_end.ProgramEnd.TheVariants.
 
 use end_settings::{ServerSettings, read_server_settings};
 use file_keeper::FileKeeper;
-use port_doors::ServerListeners;
 use port_events::Side;
 use port_tcp::{SystemClock, TcpDialer, TcpPort};
 use program_ends::{FileOf, ProgramEnd, pacer, path_of, port_at, read_file};
@@ -16,6 +15,7 @@ use server_serving::ncs_serve_by_threads;
 use std::sync::atomic::AtomicU64;
 use std::sync::{Arc, Wait};
 use std::thread::Threads;
+use thread_doors::ServerListeners;
 
 // The settings in a file.
 #[tactic(auto, using(program_ends::proofs::RunEnds::unread_settings, program_ends::proofs::RunEnds::refused_settings))]

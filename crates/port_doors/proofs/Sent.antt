@@ -21,7 +21,6 @@ use Rattle.port_doors.proofs.door.DoorEnd.TheSendSync.{the_send as door_end_send
 use Rattle.port_doors.specs.contracts.door.Door as door
 use Rattle.port_doors.specs.contracts.lane.Host as host
 use Rattle.port_doors.specs.contracts.lane.DoorLane as lane
-use Rattle.port_doors.specs.contracts.told.ToldJob as told
 use Rattle.shared_machine.specs.declared.machine.StepRelation as machine
 use Rattle.shared_machine.proofs.Sent.{hub_crosses}
 
@@ -45,7 +44,3 @@ task_send S K Di P C T U s k di p c = search (sendable, crosses, door_crosses) d
 pub job_send : (M D S K Di P C R T U : RattleType) (f : source.Ghosts S.Denot) (t : sink.Ghosts K.Denot) (h : dialer.Ghosts Di.Denot T.Denot U.Denot) (i : source.Ghosts T.Denot) (o : sink.Ghosts U.Denot) (q : pacer.Ghosts P.Denot) (w : clock.Ghosts C.Denot) (k : machine.Ghosts M.Denot PortEvent PortAnswer)
     → IsSend M → IsSend D → IsSend S → IsSend K → IsSend Di → IsSend P → IsSend C → IsSend R → IsSend (job.the_row M D S K Di P C R T U f t h i o q w k)
 job_send M D S K Di P C R T U f t h i o q w k m d s sk di p c r = search (sendable, crosses, hub_crosses, door_crosses) depth 60
-
-pub told_send : (M D S K Di P C R T U : RattleType) (f : source.Ghosts S.Denot) (t : sink.Ghosts K.Denot) (h : dialer.Ghosts Di.Denot T.Denot U.Denot) (i : source.Ghosts T.Denot) (o : sink.Ghosts U.Denot) (q : pacer.Ghosts P.Denot) (w : clock.Ghosts C.Denot) (k : machine.Ghosts M.Denot PortEvent PortAnswer)
-    → IsSend M → IsSend D → IsSend S → IsSend K → IsSend Di → IsSend P → IsSend C → IsSend R → IsSend (told.the_row M D S K Di P C R T U f t h i o q w k)
-told_send M D S K Di P C R T U f t h i o q w k m d s sk di p c r = search (sendable, crosses, hub_crosses, door_crosses, job_send) depth 60

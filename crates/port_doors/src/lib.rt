@@ -3,7 +3,6 @@
 #![tactic(auto)]
 
 mod accept;
-mod by_threads;
 mod calls;
 mod copies;
 mod door;
@@ -11,15 +10,11 @@ mod drivers;
 mod hosts;
 mod jobs;
 mod lane;
-mod listeners;
 mod ports;
 mod run;
 mod serve;
-mod told;
 
-pub use by_threads::{serve_gate_by_threads, serve_server_by_threads};
 pub use calls::Peer;
 pub use door::{Door, DoorEnd};
-pub use listeners::{GateListeners, ServerListeners};
 pub use ports::{GatePorts, ServerPorts};
 pub use serve::{serve_gate, serve_server};

@@ -1,6 +1,6 @@
 -- The end of a serving call has its cause.
 use Rattle.std.proofs.Common.{◌≤◌, Option, Some, None, refl, arith}
-use Rattle.port_doors.specs.Listening.{Listening, AllListening, OfEditor, CountsRise, CausedByThreads}
+use Rattle.thread_doors.specs.Listening.{Listening, AllListening, OfEditor, CountsRise, CausedByThreads}
 use Rattle.port_doors.specs.declared.door.DoorEnd.{DoorEnd}
 use Rattle.port_doors.specs.declared.door.DoorEnd.TheVariants as doors
 use Rattle.serve_ends.specs.Ends.{IsCaused, IsNotStarted, end_of_door}

@@ -3,7 +3,7 @@ use Rattle.std.specs.Prelude.{◌≡◌, ℕ, List, Option}
 use Rattle.mos_edits.specs.Entries.{Entry}
 use Rattle.mos_io.specs.Counts.{Rose}
 use Rattle.ncs_core.specs.Starting.{IsBadEntry}
-use Rattle.port_doors.specs.Listening.{AllListening, CausedByThreads}
+use Rattle.thread_doors.specs.Listening.{AllListening, CausedByThreads}
 use Rattle.port_doors.specs.declared.door.DoorEnd.{DoorEnd}
 use Rattle.port_doors.specs.declared.door.DoorEnd.TheVariants as doors
 use Rattle.serve_ends.specs.declared.serve_end.ServeEnd.{ServeEnd}

@@ -1,20 +1,20 @@
 //! The serving call of a server, with a thread for each worker.
 ghost use Rattle.std.specs.Prelude.{◌≡◌};
 ghost use Rattle.end_settings.specs.Devices.{AreDevices};
-ghost use Rattle.port_doors.specs.Listening.{CountsRise, server_listening};
+ghost use Rattle.thread_doors.specs.Listening.{CountsRise, server_listening};
 ghost use Rattle.serve_ends.specs.Ends.{IsCaused, IsNotStarted, IsStarted};
 
 use crate::beginning::{Begun, prepared};
 use crate::starting::start_node;
 use end_settings::ServerSettings;
 use mos_io::{Clock, Pacer};
-use port_doors::{ServerListeners, serve_server_by_threads};
 use port_links::{Dialer, Listener};
 use rundown_log::Keeper;
 use serve_ends::ServeEnd;
 use std::alloc::Global;
 use std::sync::Wait;
 use std::thread::Threads;
+use thread_doors::{ServerListeners, serve_server_by_threads};
 
 // What comes back where the server isn't started: nothing happened at the listeners.
 fn unstarted<K: Keeper + Drop, L: Listener>(

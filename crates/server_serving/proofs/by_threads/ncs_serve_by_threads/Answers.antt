@@ -1,5 +1,5 @@
 use Rattle.std.proofs.Common.{sym, subst}
-use Rattle.port_doors.specs.Listening.{server_listening}
+use Rattle.thread_doors.specs.Listening.{server_listening}
 use Rattle.serve_ends.specs.Ends.{IsCaused}
 use Rattle.serve_ends.proofs.Doors.{caused_by_doors}
 use Rattle.server_serving.proofs.by_threads.ncs_serve_by_threads.Goals as goal

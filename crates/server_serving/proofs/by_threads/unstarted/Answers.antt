@@ -1,4 +1,4 @@
-use Rattle.port_doors.specs.Listening.{server_listening}
+use Rattle.thread_doors.specs.Listening.{server_listening}
 use Rattle.serve_ends.proofs.Doors.{caused_by_start, counts_stay}
 use Rattle.server_serving.proofs.by_threads.unstarted.Goals as goal
 

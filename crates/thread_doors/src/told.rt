@@ -1,5 +1,4 @@
 //! Workers of whose connections something is said.
-use crate::copies::share_names;
 use connection_lines::{ended_line, say};
 use mos_fields::{Id, Text, let_go};
 use mos_io::{Clock, Pacer, Sink, Source};
@@ -54,8 +53,8 @@ fn own_name(alloc: Global, port: &Port, names: &Option<Arc<Names>>) -> Text {
 
 // The names again, shared; without memory none.
 fn names_of(names: &Option<Arc<Names>>) -> Option<Arc<Names>> {
-    match share_names(names) {
-        Ok(names) => names,
+    match Arc::try_clone(names.as_ref()?) {
+        Ok(names) => Some(names),
         Err(_) => None,
     }
 }

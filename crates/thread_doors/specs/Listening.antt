@@ -4,8 +4,8 @@ use Rattle.mos_io.specs.Counts.{Rose}
 use Rattle.port_links.specs.Links.{Fewer, NoneComes}
 use Rattle.port_doors.specs.declared.door.DoorEnd.{DoorEnd}
 use Rattle.port_doors.specs.declared.door.DoorEnd.TheVariants.{Closed, ListenFault, NoWorker, NoMemory}
-use Rattle.port_doors.specs.declared.listeners.ServerListeners.{ServerListeners}
-use Rattle.port_doors.specs.declared.listeners.GateListeners.{GateListeners}
+use Rattle.thread_doors.specs.declared.listeners.ServerListeners.{ServerListeners}
+use Rattle.thread_doors.specs.declared.listeners.GateListeners.{GateListeners}
 
 -- what is seen of a listener: the connections that are still to come, where that is observable, and the faults that it
 -- counted

@@ -1,6 +1,6 @@
 use Rattle.std.proofs.Common.{None}
-use Rattle.port_doors.proofs.Listenings.{gate_caused, gate_rises}
-use Rattle.port_doors.proofs.by_threads.serve_gate_by_threads.Goals as goal
+use Rattle.thread_doors.proofs.Listenings.{gate_caused, gate_rises}
+use Rattle.thread_doors.proofs.by_threads.serve_gate_by_threads.Goals as goal
 
 pub returns-clause-caused : goal.returns-clause-caused
 returns-clause-caused g c = let s = c.gate_listeners.ensures in

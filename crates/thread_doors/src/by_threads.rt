@@ -2,16 +2,13 @@
 ghost use Rattle.std.specs.Prelude.{◌≡◌, ◌≤◌, length};
 ghost use Rattle.std.specs.Arc.{arc_value};
 ghost use Rattle.mos_io.specs.Counts.{Rose};
-ghost use Rattle.port_doors.specs.Listening.{CausedByThreads, CountsRise, gate_listening, server_listening};
+ghost use Rattle.thread_doors.specs.Listening.{CausedByThreads, CountsRise, gate_listening, server_listening};
 
-use crate::calls::Peer;
-use crate::door::{Door, DoorEnd};
 use crate::listeners::{GateListeners, ServerListeners};
-use crate::ports::{GatePorts, ServerPorts};
-use crate::serve::{serve_gate, serve_server};
 use crate::told::ToldJob;
 use mos_fields::Id;
 use mos_io::{Clock, Failed, Pacer};
+use port_doors::{Door, DoorEnd, GatePorts, Peer, ServerPorts, serve_gate, serve_server};
 use port_events::{PortAnswer, PortEvent};
 use port_jobs::{Names, PortJob};
 use port_links::{Dialer, Listener};

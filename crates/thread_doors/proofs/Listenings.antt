@@ -3,11 +3,11 @@ use Rattle.std.proofs.Common.{◌≡◌, ℕ, ◌≤◌, Option, Some, None, inl
 use Rattle.mos_io.specs.Counts.{Rose}
 use Rattle.port_doors.specs.Doors.{Seen, IsShut}
 use Rattle.port_doors.specs.Serving.{PortsSeen, ThirdBy, IsThirdShut, ThirdFailed, ThirdRefused, Served, Caused, server_seen, gate_seen}
-use Rattle.port_doors.specs.Listening.{Listening, AllListening, OfEditor, IsHeardOut, CountsRise, CausedByThreads, server_listening, gate_listening}
+use Rattle.thread_doors.specs.Listening.{Listening, AllListening, OfEditor, IsHeardOut, CountsRise, CausedByThreads, server_listening, gate_listening}
 use Rattle.port_doors.specs.declared.door.DoorEnd.{DoorEnd}
 use Rattle.port_doors.specs.declared.door.DoorEnd.TheVariants.{Closed, ListenFault, NoWorker, NoMemory}
-use Rattle.port_doors.specs.declared.listeners.ServerListeners.{ServerListeners}
-use Rattle.port_doors.specs.declared.listeners.GateListeners.{GateListeners}
+use Rattle.thread_doors.specs.declared.listeners.ServerListeners.{ServerListeners}
+use Rattle.thread_doors.specs.declared.listeners.GateListeners.{GateListeners}
 use Rattle.port_doors.specs.declared.ports.ServerPorts.{ServerPorts}
 use Rattle.port_doors.specs.declared.ports.GatePorts.{GatePorts}
 

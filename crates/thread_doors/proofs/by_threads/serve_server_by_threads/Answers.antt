@@ -1,7 +1,7 @@
 use Rattle.std.proofs.Common.{None, length}
 use Rattle.std.proofs.iter.Serving.{serving}
-use Rattle.port_doors.proofs.Listenings.{server_caused, server_rises}
-use Rattle.port_doors.proofs.by_threads.serve_server_by_threads.Goals as goal
+use Rattle.thread_doors.proofs.Listenings.{server_caused, server_rises}
+use Rattle.thread_doors.proofs.by_threads.serve_server_by_threads.Goals as goal
 
 pub serve_server-end-requires-clause-ready : goal.serve_server-end-requires-clause-ready
 serve_server-end-requires-clause-ready g c κs within = ((grind serving, grind serving, grind serving), grind serving)

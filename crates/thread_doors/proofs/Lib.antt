@@ -1,0 +1,2 @@
+pub mod Listenings
+pub mod Sent
