@@ -103,6 +103,3 @@ pub fn end_number(end: End) -> u64 {
         _ => 0,
     }
 }
-(lines of crates.txt)
-door_tests tests_may=Threads+Wait: mos_fields mos_io mos_values shared_machine port_events port_links port_session port_looking port_jobs port_doors gateway_core port_machines
-node_tests tests_may=Threads+Wait: mos_fields mos_io mos_values mos_messages mos_codec running_order object_table rundown_log ncs_core gateway_core port_events port_links lower_port port_nodes deck_rack deck_nodes end_settings port_doors server_serving
