@@ -2,12 +2,12 @@
 use crate::texts::{id_of, message_in, text_of};
 use crate::turns::{Place, event_of, said};
 use deck_nodes::GateNode;
-use deck_rack::{MemDeck, Rack};
+use deck_rack::{Deck, MemDeck, Rack};
 use gateway_core::Gate;
 use mos_fields::{Id, NoMemory, let_go, pair_ok};
 use mos_values::{Boxed, MachInfo, Message, Unreads};
 use object_table::ObjectTable;
-use port_events::SoundMessage;
+use port_events::{PortAnswer, PortEvent, SoundMessage};
 use running_order::Order;
 use std::alloc::Global;
 use std::test::Fail;
@@ -95,6 +95,14 @@ pub fn new_gateway(alloc: Global, name: &str, objects: &str) -> Result<Gateway, 
     Ok(Gateway { node, rack })
 }
 
+fn take<D: Deck>(
+    node: &mut GateNode,
+    rack: &mut Rack<D>,
+    event: &PortEvent,
+) -> Result<PortAnswer, NoMemory> {
+    node.take(rack, event)
+}
+
 /// What the gateway answers to what happens at a place.
 pub fn gateway_says(
     alloc: Global,
@@ -104,7 +112,7 @@ pub fn gateway_says(
     text: &[u8],
 ) -> Result<Vec<u8>, Fail> {
     let event = event_of(alloc, place, verb, text)?;
-    let answer = gateway.node.take(&mut gateway.rack, &event);
+    let answer = take(&mut gateway.node, &mut gateway.rack, &event);
     let_go(event);
     Ok(said(alloc, answer?)?)
 }

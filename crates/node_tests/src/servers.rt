@@ -3,8 +3,9 @@ use crate::gateways::info;
 use crate::turns::{Place, event_of, said};
 use mos_fields::{NoMemory, let_go};
 use ncs_core::{Ncs, StartFault};
+use port_events::{PortAnswer, PortEvent};
 use port_nodes::NcsNode;
-use rundown_log::MemKeeper;
+use rundown_log::{Keeper, MemKeeper};
 use std::alloc::Global;
 use std::mem::replace;
 use std::test::Fail;
@@ -32,6 +33,10 @@ pub fn new_server(alloc: Global) -> Result<Server, NoMemory> {
     node_of(alloc, Ncs::start(alloc, keeper, 2))
 }
 
+fn take<K: Keeper>(server: &mut NcsNode<K>, event: &PortEvent) -> Result<PortAnswer, NoMemory> {
+    server.take(event)
+}
+
 /// What the server answers to what happens at a place.
 pub fn server_says(
     alloc: Global,
@@ -41,7 +46,7 @@ pub fn server_says(
     text: &[u8],
 ) -> Result<Vec<u8>, Fail> {
     let event = event_of(alloc, place, verb, text)?;
-    let answer = server.take(&event);
+    let answer = take(server, &event);
     let_go(event);
     Ok(said(alloc, answer?)?)
 }
