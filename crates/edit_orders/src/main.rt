@@ -6,10 +6,9 @@ use edit_program::{about, check_words, last_file_words, last_words, run_editor, 
 use edit_runs::EditStatus;
 use message_runs::MessageEnd;
 use mos_io::{StdSink, StdSource};
-use std::env;
-use std::fs;
 use std::io::{ErrorKind, Lock};
 use std::process::ExitCode;
+use std::{env, fs};
 use stream_commands::refused_line;
 
 /// The words behind the program's name. One that isn't UTF-8 is no word here.

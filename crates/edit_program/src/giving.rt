@@ -63,14 +63,7 @@ fn give_over<
             let _ = stream.set_nodelay(true);
             let mut from = StdSource::new(stream);
             let mut to = StdSink::new(other);
-            Ok(run_messages(
-                rt,
-                rt.alloc(),
-                source,
-                &mut from,
-                &mut to,
-                out,
-            ))
+            Ok(run_messages(rt, rt.alloc(), source, &mut from, &mut to, out))
         }
     }
 }

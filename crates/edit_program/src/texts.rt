@@ -37,9 +37,9 @@ FILE is a stream as mos_replay reads it: UCS-2 with the high byte first, one
 message after another. Each is sent with the names and the messageID that it has
 there, so NCS_ID isn't used, and only once the one before it has its answer. The
 answer is printed behind the message's name and its roID, as 'roCreate R: OK',
-and that to a roReq or a roReqAll as of a list. Where FILE isn't such a stream to
-its end, the messages before that are given, and standard error says REFUSED, the
-place in code units, and the kind.
+and that to a roReq or a roReqAll as of a list. Where FILE is no such stream to
+its end, the messages before that are given, and standard error says REFUSED,
+the place in code units, and the kind.
 
 The program ends with
   0  each edit was answered OK, and each list by what it asks for

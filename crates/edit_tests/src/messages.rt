@@ -1,5 +1,5 @@
 //! Whole messages of a file, with their answers, and how runs of them end.
-use crate::giving::{Given, Giving, giving, gives};
+use crate::giving::{Given, Giving, gives, giving};
 use crate::lines::{MISSING, NO_ORDERS, OKAY, ORDER};
 use edit_runs::EditStatus;
 use message_runs::MessageEnd;
@@ -125,16 +125,17 @@ fn first<'a>(end: MessageEnd) -> Given<'a> {
 }
 
 #[test]
-fn a_file_that_is_cut_inside_a_message_is_rejected_at_its_end(
-    rt: HostRuntime,
-) -> Result<(), Fail> {
+fn a_file_that_is_cut_inside_a_message_is_rejected_at_its_end(rt: HostRuntime) -> Result<(), Fail> {
     let given = first(MessageEnd::Rejected {
         place: (CREATE.len() + CUT.len()) as u64,
         kind: Kind::End,
     });
     let cut = giving(&[CREATE, CUT], &[OKAY, OKAY]);
     assert!(rt; gives(&rt, rt.alloc(), &cut, &given)?);
-    let odd = Giving { behind: &[0], ..cut };
+    let odd = Giving {
+        behind: &[0],
+        ..cut
+    };
     assert!(rt; gives(&rt, rt.alloc(), &odd, &given)?);
     let slow = Giving {
         pieces: &ONES,

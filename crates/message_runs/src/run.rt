@@ -28,9 +28,7 @@ fn run_all<R: Wait, S: Source, C: Source, D: Sink, K: Sink>(
 {
     let mut good = true;
     for _ in rt.forever() {
-        match turn(
-            rt, alloc, &mut good, source, stream, inlet, from, to, out,
-        ) {
+        match turn(rt, alloc, &mut good, source, stream, inlet, from, to, out) {
             Ok(()) => {}
             Err(end) => return end,
         }
@@ -61,16 +59,7 @@ pub fn run_messages<R: Wait, S: Source, C: Source, D: Sink, K: Sink>(
 {
     let mut stream = Inlet::new(alloc, u64::MAX);
     let mut inlet = Inlet::new(alloc, u64::MAX);
-    let end = run_all(
-        rt,
-        alloc,
-        source,
-        &mut stream,
-        &mut inlet,
-        from,
-        to,
-        out,
-    );
+    let end = run_all(rt, alloc, source, &mut stream, &mut inlet, from, to, out);
     let_go(stream);
     let_go(inlet);
     end
