@@ -10,7 +10,7 @@ use Rattle.port_session.proofs.Readings.{reads_none, rose_from}
 use Rattle.port_session.proofs.Servings.{appends_more, appends_none}
 use Rattle.edit_lines.specs.Answers.{answer_text, is_wanted, wanted_by}
 use Rattle.edit_lines.specs.declared.wanted.Wanted.{Wanted}
-use Rattle.edit_runs.specs.Runs.{HasGiven, HearsTold, IsNewInlet, Sent}
+use Rattle.edit_runs.specs.Runs.{HasGiven, HearsTold, IsHearing, IsNewInlet, Sent}
 use Rattle.edit_runs.specs.declared.status.EditStatus.{EditStatus}
 use Rattle.edit_runs.specs.declared.status.EditStatus.TheVariants as statuses
 use Rattle.edit_runs.proofs.Goings.{front_all, front_none, front_same, given_now}
@@ -133,9 +133,12 @@ module _ (l : Option (List ℕ)) (f : ℕ) (l' : Option (List ℕ)) (f' : ℕ) (
     result_is = e ∙ ap (λ (b : Bool). ended_by b place end) g.good_is;
   })
 
-  -- more of the stream was read
-  pub giving_on : (k : Option (List ℕ)) (h : ℕ) (now : Sides) (good : Bool) (stream stream' inlet : Inlet) (g : Giving l f k h was now good stream inlet) → InletReads l f l' f' stream' (messages_of g.exchanges) → Giving l f l' f' was now good stream' inlet
-  giving_on k h now good stream stream' inlet g reads = record { exchanges = g.exchanges; good_is = g.good_is; reads = reads; going = g.going }
+  -- the inlets have read
+  pub reading_of : (now : Sides) (good : Bool) (stream inlet : Inlet) → Giving l f l' f' was now good stream inlet → IsHearing l' f' stream
+  reading_of now good stream inlet g = (l, f, messages_of g.exchanges, g.reads)
+
+  pub hearing_of : (now : Sides) (good : Bool) (stream inlet : Inlet) → Giving l f l' f' was now good stream inlet → IsHearing now.left now.heard inlet
+  hearing_of now good stream inlet g = (was.left, was.heard, answers_of g.exchanges, g.going.reads)
 
 -- ---- the start
 

@@ -34,7 +34,7 @@ fn give_next<R: Wait, C: Source, D: Sink, K: Sink>(
     e: Envelope,
 ) -> Result<(), MessageEnd>
     requires { IsHearing (C.left from.old) (C.faults from.old) inlet.old }
-    ensures given { (l : Option (List ℕ)) (f : ℕ) (l' : Option (List ℕ)) (f' : ℕ) (stream : InletOf) (was : Sides) (exchanges : List Exchange) → InletReads l f l' f' stream (messages_of exchanges ++ e ∷ []) → good.old ≡ are_good exchanges → Going was (sides (C.left from.old) (C.faults from.old) (D.written to.old) (D.faults to.old) (K.written out.old) (K.faults out.old)) exchanges inlet.old
+    ensures { (l : Option (List ℕ)) (f : ℕ) (l' : Option (List ℕ)) (f' : ℕ) (stream : InletOf) (was : Sides) (exchanges : List Exchange) → InletReads l f l' f' stream (messages_of exchanges ++ e ∷ []) → good.old ≡ are_good exchanges → Going was (sides (C.left from.old) (C.faults from.old) (D.written to.old) (D.faults to.old) (K.written out.old) (K.faults out.old)) exchanges inlet.old
         → Given l f l' f' was (sides (C.left from.new) (C.faults from.new) (D.written to.new) (D.faults to.new) (K.written out.new) (K.faults out.new)) good.new stream inlet.new result }
 {
     let given = give(rt, alloc, inlet, from, to, out, &e);
