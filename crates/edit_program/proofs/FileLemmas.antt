@@ -1,5 +1,6 @@
 -- What the words are where a file is given, and how the program's run ends then.
 use Rattle.std.proofs.Common.{◌≡◌, ℕ, true, false, List, [], ◌∷◌, inl, inr, length, None, refl, ap, ◌∙◌, Result, Ok, Err}
+use Rattle.std.specs.Prelude.{IfErr, OnOk}
 use Rattle.std.specs.Str.{chars}
 use Rattle.mos_fields.specs.Faults.{id_fault}
 use Rattle.edit_runs.specs.declared.status.EditStatus.{EditStatus}
@@ -20,7 +21,7 @@ module _ (place word path : List ℕ) where
   none_by_id no_id h = no_id (let are = h.are in let same : word ≡ h.word = cc in ap (λ (w : List ℕ). id_fault (chars w)) same ∙ h.is_id)
 
   -- the second word is no ID, or memory ran out
-  pub checks_no_id : (status : EditStatus) → IsNoId (chars word) status → Checks (place ∷ word ∷ path ∷ []) (Err status)
+  checks_no_id : (status : EditStatus) → IsNoId (chars word) status → Checks (place ∷ word ∷ path ∷ []) (Err status)
   checks_no_id statuses.Usage (inl e) = absurd (cc)
   checks_no_id statuses.Usage (inr h) = none_by_id h.1
   checks_no_id statuses.NoMemory h = tt
@@ -34,6 +35,11 @@ module _ (place word path : List ℕ) where
   checks_no_id statuses.WriteFault (inr h) = let e = h.0 in absurd (cc)
   checks_no_id statuses.Lost (inl e) = absurd (cc)
   checks_no_id statuses.Lost (inr h) = let e = h.0 in absurd (cc)
+
+  -- what looking at the second word came to
+  pub checks_id : is_place place ≡ true → (result : Result (Unit {0}) EditStatus) → OnOk result (id_fault (chars word) ≡ None) → IfErr result (IsNoId (chars word)) → Checks (place ∷ word ∷ path ∷ []) result
+  checks_id good (Ok done) ok err = record { place = place; word = word; path = path; are = refl; is_place = good; is_id = ok }
+  checks_id good (Err status) ok err = checks_no_id status err
 
 -- they aren't three
 pub none_by_count : (words : List (List ℕ)) → (length words ≡ 3 → ⊥) → AreFileWords words → ⊥

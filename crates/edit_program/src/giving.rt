@@ -1,5 +1,5 @@
 //! A run of the program with a file of messages.
-ghost use Rattle.std.specs.Prelude.{◌≡◌, None, IfErr, OnOk, map, string_bytes};
+ghost use Rattle.std.specs.Prelude.{◌≡◌, ◌∷◌, [], None, IfErr, OnOk, map, string_bytes};
 ghost use Rattle.std.specs.Str.{chars};
 ghost use Rattle.mos_fields.specs.Faults.{id_fault};
 ghost use Rattle.edit_program.specs.Ends.{IsNoId};
@@ -30,6 +30,17 @@ fn check_id(alloc: Global, word: &str) -> Result<(), EditStatus>
     }
 }
 
+// Whether the first two of three words are a place and an ID. What the third is doesn't matter.
+fn check_three(alloc: Global, place: &str, word: &str, _path: &str) -> Result<(), EditStatus>
+    ensures { Checks (place.now ∷ word.now ∷ _path.now ∷ []) result }
+{
+    if is_place(place.as_bytes()) {
+        check_id(alloc, word)
+    } else {
+        Err(EditStatus::Usage)
+    }
+}
+
 /// Whether the words behind the program's name are three, of which the first is a host, a colon and a port, and the second an ID.
 /// `Usage` comes exactly where they aren't, and memory doesn't run out; the only other error is `NoMemory`. What the third is, the
 /// path of a file, the system says.
@@ -37,13 +48,7 @@ pub fn check_words(alloc: Global, words: &[String]) -> Result<(), EditStatus>
     ensures { Checks (map string_bytes words.now) result }
 {
     match words {
-        [place, word, _] => {
-            if is_place(place.as_bytes()) {
-                check_id(alloc, word.as_str())
-            } else {
-                Err(EditStatus::Usage)
-            }
-        }
+        [place, word, path] => check_three(alloc, place.as_str(), word.as_str(), path.as_str()),
         _ => Err(EditStatus::Usage),
     }
 }
