@@ -1,5 +1,5 @@
 //! Whole messages of a file, with their answers, and how runs of them end.
-use crate::giving::{Given, Giving, gives, giving};
+use crate::giving::{Given, Giving, gives, unfailing};
 use crate::lines::{MISSING, NO_ORDERS, OKAY, ORDER};
 use edit_runs::EditStatus;
 use message_runs::MessageEnd;
@@ -39,7 +39,7 @@ const ONES: [usize; 4000] = [1; 4000];
 
 // The three messages, each of which has the answer that it wants.
 fn three<'a>() -> Giving<'a> {
-    giving(&[CREATE, SWAP, REQUEST], &[OKAY, OKAY, ORDER])
+    unfailing(&[CREATE, SWAP, REQUEST], &[OKAY, OKAY, ORDER])
 }
 
 #[test]
@@ -70,7 +70,7 @@ fn messages_are_sent_in_their_canonical_encodings(rt: HostRuntime) -> Result<(),
     let spaced = Giving {
         front: &[0xFE, 0xFF],
         behind: &[0, 10, 0xFE, 0xFF, 0, 32],
-        ..giving(&["\n", SPACED_REQUEST, " \n", REQUEST], &[ORDER, ORDER])
+        ..unfailing(&["\n", SPACED_REQUEST, " \n", REQUEST], &[ORDER, ORDER])
     };
     assert!(rt; gives(&rt, rt.alloc(), &spaced, &given)?);
     Ok(())
@@ -83,7 +83,7 @@ fn a_file_of_no_messages_sends_nothing(rt: HostRuntime) -> Result<(), Fail> {
         sent: &[],
         shown: "",
     };
-    assert!(rt; gives(&rt, rt.alloc(), &giving(&[], &[]), &given)?);
+    assert!(rt; gives(&rt, rt.alloc(), &unfailing(&[], &[]), &given)?);
     Ok(())
 }
 
@@ -94,7 +94,7 @@ fn an_answer_to_a_message_that_is_not_ok_is_told(rt: HostRuntime) -> Result<(), 
         sent: &[CREATE, SWAP, REQUEST],
         shown: "roCreate EVENING: MISSING A\nroElementAction EVENING: OK\nroReq EVENING: OK\n",
     };
-    let answered = giving(&[CREATE, SWAP, REQUEST], &[MISSING, OKAY, OKAY]);
+    let answered = unfailing(&[CREATE, SWAP, REQUEST], &[MISSING, OKAY, OKAY]);
     assert!(rt; gives(&rt, rt.alloc(), &answered, &given)?);
     Ok(())
 }
@@ -107,7 +107,7 @@ fn a_message_without_a_ro_id_is_told_by_its_name(rt: HostRuntime) -> Result<(), 
         sent: &[HEARTBEAT, ALL, ALL, UNKNOWN],
         shown: "heartbeat: ANOTHER MESSAGE\nno running orders\nroReqAll: OK\nroClose: OK\n",
     };
-    let others = giving(
+    let others = unfailing(
         &[HEARTBEAT, ALL, ALL, UNKNOWN],
         &[HEARTBEAT, NO_ORDERS, OKAY, OKAY],
     );
@@ -130,7 +130,7 @@ fn a_file_that_is_cut_inside_a_message_is_rejected_at_its_end(rt: HostRuntime) -
         place: (CREATE.len() + CUT.len()) as u64,
         kind: Kind::End,
     });
-    let cut = giving(&[CREATE, CUT], &[OKAY, OKAY]);
+    let cut = unfailing(&[CREATE, CUT], &[OKAY, OKAY]);
     assert!(rt; gives(&rt, rt.alloc(), &cut, &given)?);
     let odd = Giving {
         behind: &[0],
@@ -151,7 +151,7 @@ fn a_file_that_is_no_stream_is_rejected_behind_its_messages(rt: HostRuntime) -> 
         place: CREATE.len() as u64,
         kind: Kind::Tag,
     });
-    let bad = giving(&[CREATE, "<mis>", SWAP], &[OKAY, OKAY]);
+    let bad = unfailing(&[CREATE, "<mis>", SWAP], &[OKAY, OKAY]);
     assert!(rt; gives(&rt, rt.alloc(), &bad, &given)?);
     Ok(())
 }
@@ -167,11 +167,11 @@ fn lost<'a>() -> Given<'a> {
 
 #[test]
 fn a_connection_that_ends_before_the_second_answer_is_lost(rt: HostRuntime) -> Result<(), Fail> {
-    let ended = giving(&[CREATE, SWAP, REQUEST], &[OKAY]);
+    let ended = unfailing(&[CREATE, SWAP, REQUEST], &[OKAY]);
     assert!(rt; gives(&rt, rt.alloc(), &ended, &lost())?);
-    let cut = giving(&[CREATE, SWAP, REQUEST], &[OKAY, CUT]);
+    let cut = unfailing(&[CREATE, SWAP, REQUEST], &[OKAY, CUT]);
     assert!(rt; gives(&rt, rt.alloc(), &cut, &lost())?);
-    let bad = giving(&[CREATE, SWAP, REQUEST], &[OKAY, "<mis>"]);
+    let bad = unfailing(&[CREATE, SWAP, REQUEST], &[OKAY, "<mis>"]);
     assert!(rt; gives(&rt, rt.alloc(), &bad, &lost())?);
     Ok(())
 }
