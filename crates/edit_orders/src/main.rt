@@ -5,9 +5,12 @@
 use edit_program::{about, check_words, last_file_words, last_words, run_editor, run_file};
 use edit_runs::EditStatus;
 use message_runs::MessageEnd;
-use mos_io::{StdSink, StdSource};
+use mos_io::{Sink, StdSink, StdSource};
 use std::io::{ErrorKind, Lock};
+use std::net::{Net, TcpListener, TcpStream};
 use std::process::ExitCode;
+use std::rt::Files;
+use std::sync::Wait;
 use std::{env, fs};
 use stream_commands::refused_line;
 
@@ -38,34 +41,30 @@ fn say(rt: &HostRuntime, text: Option<&str>) {
     }
 }
 
-/// A run of the lines on standard input.
-fn run_lines(rt: &HostRuntime, words: &[String]) -> EditStatus {
-    let mut source = StdSource::new(rt.stdin().lock());
-    let mut out = StdSink::new(rt.stdout().lock());
-    let mut notes = StdSink::new(rt.stderr().lock());
-    run_editor(rt, words, &mut source, &mut out, &mut notes)
-}
-
 /// A run of the messages in the file at this path, which is opened before anything is sent.
-fn run_messages_of(
-    rt: &HostRuntime,
-    words: &[String],
-    path: &str,
-) -> Result<MessageEnd, EditStatus> {
-    match fs::open(rt, path) {
-        Ok(file) => {
-            let mut source = StdSource::new(file);
-            let mut out = StdSink::new(rt.stdout().lock());
-            run_file(rt, words, &mut source, &mut out)
-        }
-        Err(fault) if fault.kind() == ErrorKind::OutOfMemory => Err(EditStatus::NoMemory),
-        Err(_) => Err(EditStatus::ReadFault),
+fn run_path<
+    R: Net<Listener = TcpListener, Stream = TcpStream> + Files + AllocGlobal + Wait,
+    K: Sink,
+>(rt: &R, words: &[String], path: &str, out: &mut K) -> Result<MessageEnd, EditStatus>
+where
+    R::File: Drop,
+{
+    match check_words(rt.alloc(), words) {
+        Err(status) => Err(status),
+        Ok(()) => match fs::open(rt, path) {
+            Ok(file) => {
+                let mut source = StdSource::new(file);
+                run_file(rt, words, &mut source, out)
+            }
+            Err(fault) if fault.kind() == ErrorKind::OutOfMemory => Err(EditStatus::NoMemory),
+            Err(_) => Err(EditStatus::ReadFault),
+        },
     }
 }
 
-/// The status of a run with a file, said on standard error where it isn't that the file was read to its end.
-fn file_status(rt: &HostRuntime, result: Result<MessageEnd, EditStatus>) -> EditStatus {
-    let status = match result {
+/// The status of a run with a file. Where the file isn't whole messages to its end, standard error says so.
+fn file_status(rt: &HostRuntime, ran: Result<MessageEnd, EditStatus>) -> EditStatus {
+    match ran {
         Ok(MessageEnd::Rejected { place, kind }) => {
             if let Ok(line) = refused_line(rt.alloc(), place as usize, kind) {
                 let _ = eprint!(rt; "{line}");
@@ -74,39 +73,31 @@ fn file_status(rt: &HostRuntime, result: Result<MessageEnd, EditStatus>) -> Edit
         }
         Ok(end) => end.status(),
         Err(status) => status,
-    };
-    say(rt, last_file_words(status));
-    status
-}
-
-/// A run with these words.
-fn run_words(rt: &HostRuntime, words: &[String]) -> EditStatus {
-    match words {
-        [_, _, path] => {
-            let result = match check_words(rt.alloc(), words) {
-                Ok(()) => run_messages_of(rt, words, path.as_str()),
-                Err(status) => Err(status),
-            };
-            file_status(rt, result)
-        }
-        _ => {
-            let status = run_lines(rt, words);
-            say(rt, last_words(status));
-            status
-        }
     }
 }
 
 fn main(rt: HostRuntime) -> ExitCode {
-    let status = match arguments(&rt) {
-        Ok(words) => match about(&words) {
-            Some(text) => print_text(&rt, text),
-            None => run_words(&rt, &words),
+    let (status, last) = match arguments(&rt) {
+        Err(status) => (status, last_words(status)),
+        Ok(words) => match (about(&words), words.as_slice()) {
+            (Some(text), _) => {
+                let status = print_text(&rt, text);
+                (status, last_words(status))
+            }
+            (None, [_, _, path]) => {
+                let mut out = StdSink::new(rt.stdout().lock());
+                let status = file_status(&rt, run_path(&rt, &words, path.as_str(), &mut out));
+                (status, last_file_words(status))
+            }
+            (None, _) => {
+                let mut source = StdSource::new(rt.stdin().lock());
+                let mut out = StdSink::new(rt.stdout().lock());
+                let mut notes = StdSink::new(rt.stderr().lock());
+                let status = run_editor(&rt, &words, &mut source, &mut out, &mut notes);
+                (status, last_words(status))
+            }
         },
-        Err(status) => {
-            say(&rt, last_words(status));
-            status
-        }
     };
+    say(&rt, last);
     ExitCode::from(status.number())
 }
