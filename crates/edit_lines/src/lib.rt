@@ -13,4 +13,5 @@ mod wanted;
 pub use answers::answer_text;
 pub use asked::{Asked, line_asks};
 pub use request::{Names, Request, request_for};
+pub use texts::{push_bytes, push_text};
 pub use wanted::{Wanted, is_wanted, wanted_of};

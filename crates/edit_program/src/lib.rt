@@ -1,10 +1,13 @@
-//! The program for editors, but for its `main`: its words, what it says of itself, and a run over a connection.
+//! The program for editors, but for its `main`: its words, what it says of itself, and runs over a connection, of lines and of
+//! the messages of a file.
 #![tactic(auto)]
 
+mod giving;
 mod place;
 mod running;
 mod texts;
 
+pub use giving::{check_words, run_file};
 pub use place::is_place;
 pub use running::run_editor;
-pub use texts::{USAGE, about, last_words};
+pub use texts::{USAGE, about, last_file_words, last_words};

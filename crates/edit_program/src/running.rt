@@ -42,8 +42,8 @@ fn status_of(fault: FieldFault) -> EditStatus
     }
 }
 
-// The ID that a word is.
-fn id_in(alloc: Global, word: &str) -> Result<Id, EditStatus>
+/// The ID that a word is.
+pub(crate) fn id_in(alloc: Global, word: &str) -> Result<Id, EditStatus>
     ensures ok { IfOk result (λ id. (id ≡ chars word.now) × (id_fault (chars word.now) ≡ None)) }
     ensures fault { IfErr result (IsNoId (chars word.now)) }
 {

@@ -2,18 +2,19 @@
 use edit_runs::EditStatus;
 
 /// What is printed for wrong words.
-pub const USAGE: &str = "usage: edit_orders HOST:PORT NCS_ID";
+pub const USAGE: &str = "usage: edit_orders HOST:PORT NCS_ID [FILE]";
 
 const HELP: &str = "Gives edits of running orders to a newsroom system's server, and prints each
 answer (MOS Protocol 2.8.5).
 
-usage: edit_orders HOST:PORT NCS_ID
+usage: edit_orders HOST:PORT NCS_ID [FILE]
 
   HOST:PORT  the server's port for editors, a name or an address and a number
   NCS_ID     the server's ID, as its settings have it
+  FILE       whole MOS messages, which are given in place of standard input
 
-Standard input has a line for each edit, of at most 1000 bytes, with one space
-between words:
+Without FILE, standard input has a line for each edit, of at most 1000 bytes,
+with one space between words:
   create R S ..      replace R S ..     delete R         meta R SLUG
   ready R            notready R         swap R A B
   insert R T S ..    sub R T S ..       move R T A ..    drop R A ..
@@ -32,11 +33,19 @@ the answer is printed behind the line, as 'swap R A B: OK', and of a list the
 order with its stories and their items, as 'R A B:titles', or a line for each
 order. On standard error a line that is no edit is told by its number.
 
+FILE is a stream as mos_replay reads it: UCS-2 with the high byte first, one
+message after another. Each is sent with the names and the messageID that it has
+there, so NCS_ID isn't used, and only once the one before it has its answer. The
+answer is printed behind the message's name and its roID, as 'roCreate R: OK',
+and that to a roReq or a roReqAll as of a list. Where FILE is no such stream to
+its end, the messages before that are given, and standard error says REFUSED,
+the place in code units, and the kind.
+
 The program ends with
   0  each edit was answered OK, and each list by what it asks for
-  1  a line was no edit, or had another answer
-  2  the words aren't HOST:PORT and an ID
-  3  standard input failed
+  1  a line was no edit, or had another answer; or FILE isn't whole messages
+  2  the words aren't HOST:PORT and an ID, and perhaps FILE
+  3  standard input failed, or FILE can't be opened or read
   4  standard output or standard error failed
   5  there was no memory
   6  the connection couldn't be opened, or was lost before an answer came
@@ -57,7 +66,7 @@ pub fn about(words: &[String]) -> Option<&'static str> {
     }
 }
 
-/// What is printed on standard error of a run that ended so; nothing where its lines were taken to their end.
+/// What is printed on standard error of a run of lines that ended so; nothing where its lines were taken to their end.
 pub fn last_words(status: EditStatus) -> Option<&'static str> {
     match status {
         EditStatus::Done | EditStatus::Refused => None,
@@ -66,5 +75,14 @@ pub fn last_words(status: EditStatus) -> Option<&'static str> {
         EditStatus::WriteFault => Some("WriteFault: an output failed"),
         EditStatus::NoMemory => Some("NoMemory"),
         EditStatus::Lost => Some("Lost: no connection, or it ended before an answer came"),
+    }
+}
+
+/// What is printed on standard error of a run with a file that ended so; nothing where the file was read to its end, or isn't
+/// whole messages.
+pub fn last_file_words(status: EditStatus) -> Option<&'static str> {
+    match status {
+        EditStatus::ReadFault => Some("ReadFault: FILE can't be opened or read"),
+        _ => last_words(status),
     }
 }

@@ -26,19 +26,19 @@ use Rattle.edit_runs.specs.declared.status.EditStatus.TheVariants as statuses
 
 -- ---- single calls
 
-front_none : (w : Option (List ℕ)) (bytes : List ℕ) → AppendsFront w w bytes
+pub front_none : (w : Option (List ℕ)) (bytes : List ℕ) → AppendsFront w w bytes
 front_none w bytes = ([], bytes, refl, appends_none w)
 
-front_all : (w w' : Option (List ℕ)) (bytes : List ℕ) → Appends w w' bytes → AppendsFront w w' bytes
+pub front_all : (w w' : Option (List ℕ)) (bytes : List ℕ) → Appends w w' bytes → AppendsFront w w' bytes
 front_all w w' bytes h = (bytes, [], sym (append-nil bytes), h)
 
-some_none : (w : Option (List ℕ)) → AppendsSome w w
+pub some_none : (w : Option (List ℕ)) → AppendsSome w w
 some_none w = ([], front_none w [])
 
-some_same : (w w' : Option (List ℕ)) → w' ≡ w → AppendsSome w w'
+pub some_same : (w w' : Option (List ℕ)) → w' ≡ w → AppendsSome w w'
 some_same w w' e = subst (λ (o : Option (List ℕ)). AppendsSome w o) (sym e) (some_none w)
 
-front_same : (w w' : Option (List ℕ)) (bytes : List ℕ) → w' ≡ w → AppendsFront w w' bytes
+pub front_same : (w w' : Option (List ℕ)) (bytes : List ℕ) → w' ≡ w → AppendsFront w w' bytes
 front_same w w' bytes e = subst (λ (o : Option (List ℕ)). AppendsFront w o bytes) (sym e) (front_none w bytes)
 
 -- ---- what the connection gave
@@ -47,7 +47,7 @@ module _ (l : Option (List ℕ)) (f : ℕ) (l' : Option (List ℕ)) (f' : ℕ) w
   first_given : (budget : ℕ) (given : List Envelope) → Halts l f l' f' budget given ends.NoMemory → HasGiven l f l' f' given
   first_given budget given h = record { more = []; budget = budget; halts = subst (λ (all : List Envelope). Halts l f l' f' budget all ends.NoMemory) (sym (append-nil given)) h }
 
-  given_now : (inlet : Inlet) (given : List Envelope) → InletReads l f l' f' inlet given → HasGiven l f l' f' given
+  pub given_now : (inlet : Inlet) (given : List Envelope) → InletReads l f l' f' inlet given → HasGiven l f l' f' given
   given_now inlet given r = first_given inlet.budget given (begun l f l' f' inlet.decoder inlet.rejection inlet.count inlet.budget given r)
 
   given_more : (inlet : Inlet) (given : List Envelope) (e : Envelope) → InletReads l f l' f' inlet (given ++ e ∷ []) → HasGiven l f l' f' given

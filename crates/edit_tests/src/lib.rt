@@ -1,10 +1,14 @@
-//! Tests of an editor's runs, over input, connections and output in memory: what is sent for each line, what is told of its
-//! answer, and how the run ends.
+//! Tests of an editor's runs, over input, connections and output in memory: what is sent for each line or each message of a
+//! file, what is told of its answer, and how the run ends.
 #![tactic(auto)]
 
 #[cfg(test)]
 mod ends;
 #[cfg(test)]
+mod giving;
+#[cfg(test)]
 mod lines;
+#[cfg(test)]
+mod messages;
 #[cfg(test)]
 mod play;

@@ -51,8 +51,8 @@ pub struct Wanted<'a> {
     pub noted: &'a str,
 }
 
-// Two bytes for each character of these texts.
-fn wide(alloc: Global, texts: &[&str]) -> Result<Vec<u8>, NoMemory> {
+/// Two bytes for each character of these texts.
+pub fn wide(alloc: Global, texts: &[&str]) -> Result<Vec<u8>, NoMemory> {
     let mut bytes = Vec::new(alloc);
     for text in texts {
         push_wide(&mut bytes, text)?;
@@ -67,7 +67,8 @@ fn push_wide(bytes: &mut Vec<u8>, text: &str) -> Result<(), NoMemory> {
     Ok(())
 }
 
-fn source(
+/// A source of these bytes, with so many at each read at most, and with these reads failing.
+pub fn source(
     alloc: Global,
     bytes: Vec<u8>,
     pieces: &[usize],
@@ -78,7 +79,8 @@ fn source(
     Ok(MemSource::new(bytes, pieces, fails))
 }
 
-fn sink(alloc: Global, fails: &[u64]) -> Result<MemSink, NoMemory> {
+/// A sink with these writes failing.
+pub fn sink(alloc: Global, fails: &[u64]) -> Result<MemSink, NoMemory> {
     Ok(MemSink::new(alloc, Vec::from_slice(alloc, fails)?))
 }
 

@@ -1,0 +1,4 @@
+pub mod Labels
+pub mod MessageEnds
+pub mod Exchanges
+pub mod Given
