@@ -5,7 +5,7 @@ ghost use Rattle.end_settings.specs.Devices.{AreDevices};
 use crate::dialer::Reaching;
 use crate::ends::{Patient, Telling};
 use crate::signs::{Sign, new_sign, share, wait_for};
-use end_settings::{ServerSettings, SettingsFault, read_server_settings};
+use end_settings::{ServerSettings, read_server_settings};
 use mos_fields::{MosTime, NoMemory, Zone, let_go, pair_ok};
 use mos_io::{FixedClock, MemPacer, MemSource};
 use port_events::Side;
@@ -93,10 +93,13 @@ fn editor(
 }
 
 // The settings of the server.
-fn settings(alloc: Global) -> Result<ServerSettings, SettingsFault>
+fn settings(alloc: Global) -> Result<ServerSettings, NoMemory>
     ensures { IfOk result (λ s. AreDevices s.devices) }
 {
-    read_server_settings(alloc, SETTINGS)
+    match read_server_settings(alloc, SETTINGS) {
+        Ok(settings) => Ok(settings),
+        Err(_) => Err(NoMemory),
+    }
 }
 
 // A listener of these connections.
@@ -118,7 +121,7 @@ fn is_closed<R: Threads + Wait + Eprint + Copy + Drop + Send + Sync + 'static>(
         refused: 0,
     };
     let dialer = Reaching::new(alloc, 7, share(beaten)?);
-    let settings = settings(alloc).ok().ok_or("no settings")?;
+    let settings = settings(alloc)?;
     let (end, listeners) = ncs_serve_by_threads(
         rt,
         alloc,
