@@ -1,5 +1,5 @@
 -- What is said of the lines of an input.
-use Rattle.std.proofs.Common.{◌≡◌, ℕ, List, [], ◌∷◌, ◌++◌, map, take, Option, Bool, true, false, ◌≤◌, inl, inr, refl, sym, ap, ◌∙◌, subst, append_assoc, append-nil, Result, Ok, Err}
+use Rattle.std.proofs.Common.{◌≡◌, ℕ, List, [], ◌∷◌, ◌++◌, take, Option, Bool, true, false, ◌≤◌, inl, inr, refl, sym, ap, ◌∙◌, subst, append_assoc, append-nil, Result, Ok, Err}
 use mathlib.Core.List.{map-append}
 use Rattle.port_session.specs.declared.inlet.Inlet.{Inlet}
 use Rattle.port_session.proofs.Readings.{rose_from, takes_none}

@@ -4,7 +4,7 @@ use Rattle.mos_codec.specs.Decoding.{HasTaken}
 use Rattle.mos_io.specs.Bytes.{Appends, AppendsFront, IsAtEnd}
 use Rattle.mos_io.specs.Counts.{Rose}
 use Rattle.mos_values.specs.declared.message.Envelope.{Envelope}
-use Rattle.port_session.specs.Reading.{Halts, InletReads}
+use Rattle.port_session.specs.Reading.{Halted, Halts, InletReads}
 use Rattle.port_session.specs.declared.end.End.{End}
 use Rattle.port_session.specs.declared.end.End.TheVariants as ends
 use Rattle.port_session.specs.declared.inlet.Inlet.{Inlet}
@@ -41,7 +41,7 @@ Sent before after f f' bytes (Err status) = ⊥
 -- what waiting for the next message of a connection comes to, behind these messages
 abbrev pub Heard : Option (List ℕ) → ℕ → Option (List ℕ) → ℕ → Inlet → List Envelope → Result Envelope End → Type 0
 Heard l f l' f' inlet given (Ok e) = InletReads l f l' f' inlet (given ++ e ∷ [])
-Heard l f l' f' inlet given (Err end) = Halts l f l' f' inlet.budget given end
+Heard l f l' f' inlet given (Err end) = Halted l f l' f' inlet.budget inlet.count given end
 
 -- an inlet that has read of a connection since something was left of it
 abbrev pub IsHearing : Option (List ℕ) → ℕ → Inlet → Type 0

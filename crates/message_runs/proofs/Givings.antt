@@ -1,9 +1,10 @@
 -- What is said of messages goes on by one message, or stops there.
-use Rattle.std.proofs.Common.{◌≡◌, ℕ, ◌≤◌, inl, inr, Bool, true, ◌&&◌, List, [], ◌∷◌, ◌++◌, Option, refl, sym, ap, ◌∙◌, subst, arith, Result, Ok, Err}
+use Rattle.std.proofs.Common.{◌≡◌, ℕ, ◌/◌, ◌≤◌, inl, inr, Bool, true, ◌&&◌, List, [], ◌∷◌, ◌++◌, length, Option, refl, sym, ap, ◌∙◌, subst, arith, Result, Ok, Err}
 use Rattle.mos_codec.specs.Codec.{encoding}
+use Rattle.mos_fields.specs.Characters.{units_in}
 use Rattle.mos_io.specs.Bytes.{Appends, AppendsFront}
 use Rattle.mos_values.specs.declared.message.Envelope.{Envelope}
-use Rattle.port_session.specs.Reading.{Halts, InletReads}
+use Rattle.port_session.specs.Reading.{Halted, InletReads}
 use Rattle.port_session.specs.declared.end.End.{End}
 use Rattle.port_session.specs.declared.inlet.Inlet.{Inlet}
 use Rattle.port_session.proofs.Readings.{reads_none, rose_from}
@@ -20,6 +21,7 @@ use Rattle.message_runs.specs.Labels.{label_text}
 use Rattle.message_runs.specs.MessageEnds.{ended_by, stopped_by}
 use Rattle.message_runs.specs.declared.message_end.MessageEnd.{MessageEnd}
 use Rattle.message_runs.specs.declared.message_end.MessageEnd.TheVariants as results
+use Rattle.message_runs.proofs.Halves.{half_units}
 use Rattle.message_runs.proofs.Exchanged.{answers_more, good_more, messages_more, sent_more, told_more}
 
 -- ---- one message
@@ -119,18 +121,17 @@ module _ (l : Option (List ℕ)) (f : ℕ) (l' : Option (List ℕ)) (f' : ℕ) (
   turned_given now good stream inlet (Err end) h = inr h
 
   -- the stream gives no more
-  pub turned_over : (k : Option (List ℕ)) (h : ℕ) (now : Sides) (good : Bool) (stream inlet : Inlet) (g : Giving l f k h was now good stream inlet) (budget : ℕ) (end : End) (place : ℕ) (result : MessageEnd)
-      → Halts l f l' f' budget (messages_of g.exchanges) end → result ≡ ended_by good place end → Ends l f l' f' was now result
-  turned_over k h now good stream inlet g budget end place result halts e = inl (record {
+  pub turned_over : (k : Option (List ℕ)) (h : ℕ) (now : Sides) (good : Bool) (stream inlet : Inlet) (g : Giving l f k h was now good stream inlet) (budget count : ℕ) (end : End) (result : MessageEnd)
+      → Halted l f l' f' budget count (messages_of g.exchanges) end → result ≡ ended_by good (count / 2) end → Ends l f l' f' was now result
+  turned_over k h now good stream inlet g budget count end result halted e = inl (record {
     exchanges = g.exchanges;
     budget = budget;
     end = end;
-    halts = halts;
+    halts = halted.0;
     given = given_now was.left was.heard now.left now.heard inlet (answers_of g.exchanges) g.going.reads;
     sent = g.going.sent;
     shown = g.going.shown;
-    place = place;
-    result_is = e ∙ ap (λ (b : Bool). ended_by b place end) g.good_is;
+    result_is = e ∙ ap (λ (n : ℕ). ended_by good n end) (half_units halted.0.read count halted.1) ∙ ap (λ (b : Bool). ended_by b (length (units_in halted.0.read)) end) g.good_is;
   })
 
   -- the inlets have read

@@ -1,2 +1,3 @@
 pub mod Exchanged
 pub mod Givings
+pub mod Halves

@@ -1,5 +1,6 @@
 -- What a run of messages comes to.
-use Rattle.std.specs.Prelude.{◌≡◌, ℕ, ◌≤◌, Bool, List, [], ◌∷◌, ◌++◌, Option, Result, Ok, Err, ◌⊎◌}
+use Rattle.std.specs.Prelude.{◌≡◌, ℕ, ◌≤◌, Bool, List, [], ◌∷◌, ◌++◌, length, Option, Result, Ok, Err, ◌⊎◌}
+use Rattle.mos_fields.specs.Characters.{units_in}
 use Rattle.mos_codec.specs.Codec.{encoding}
 use Rattle.mos_io.specs.Bytes.{Appends, AppendsFront}
 use Rattle.mos_io.specs.Counts.{Rose}
@@ -97,7 +98,7 @@ pub record Giving (l : Option (List ℕ)) (f : ℕ) (l' : Option (List ℕ)) (f'
 
 -- The stream gives no more messages than those of these exchanges. Each was sent, was answered, and its answer was told, nothing
 -- else. Why the stream gives no more says how the run ends, and where the stream is at its end, whether each message had the
--- answer that it wanted.
+-- answer that it wanted. Where it ends inside a message, the place is the number of the whole code units that it gave.
 pub record IsOver (l : Option (List ℕ)) (f : ℕ) (l' : Option (List ℕ)) (f' : ℕ) (was now : Sides) (result : MessageEnd) : Type 0 where
   pub exchanges : List Exchange
   pub budget : ℕ
@@ -106,8 +107,7 @@ pub record IsOver (l : Option (List ℕ)) (f : ℕ) (l' : Option (List ℕ)) (f'
   pub given : HasGiven was.left was.heard now.left now.heard (answers_of exchanges)
   pub sent : Appends was.sent now.sent (sent_of exchanges)
   pub shown : Appends was.shown now.shown (told_of exchanges)
-  pub place : ℕ
-  pub result_is : result ≡ ended_by (are_good exchanges) place end
+  pub result_is : result ≡ ended_by (are_good exchanges) (length (units_in halts.read)) end
 
 -- The stream gave the messages of these exchanges, and the next one. The first were sent and answered, and their answers told; the
 -- run stopped at the next one.

@@ -69,6 +69,6 @@ pub fn turn<R: Wait, S: Source, C: Source, D: Sink, K: Sink>(
     match stream.advance(source) {
         Next::More => Ok(()),
         Next::Message(e) => give_next(rt, alloc, good, inlet, from, to, out, e),
-        Next::Over(end) => Err(ended_by(*good, stream.decoder.place() as u64, end)),
+        Next::Over(end) => Err(ended_by(*good, stream.count / 2, end)),
     }
 }

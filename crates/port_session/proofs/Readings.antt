@@ -14,7 +14,7 @@ use Rattle.mos_lexer.specs.declared.kind.Kind.{Kind}
 use Rattle.mos_values.specs.MessageViews.{envelope_events}
 use Rattle.mos_values.specs.declared.message.Envelope.{Envelope}
 use Rattle.port_session.specs.Pieces.{ReadCame}
-use Rattle.port_session.specs.Reading.{AreMessages, Carries, EndedAt, Halts, IsWhole, Reads, Stands}
+use Rattle.port_session.specs.Reading.{AreMessages, Carries, EndedAt, Halted, Halts, IsWhole, Reads, Stands}
 use Rattle.port_session.specs.declared.end.End.{End}
 use Rattle.port_session.specs.declared.end.End.TheVariants.{Closed, Truncated, BadMessage, ReadFault, WriteFault, Budget, Stale, Unasked, Stopped, NoMemory}
 use Rattle.port_session.specs.declared.inlet.Rejection.{Rejection}
@@ -181,17 +181,20 @@ module _ (l : Option (List ℕ)) (f : ℕ) (l1 : Option (List ℕ)) (f1 : ℕ) (
   }
 
   module _ (none : d.ready ≡ []) where
-    pub halts_rejected : (x : Rejection) → rejection ≡ Some x → Halts l f l1 f1 budget given (BadMessage x.place x.kind)
-    halts_rejected x e = record {
-      read = r.read;
-      found = r.found;
-      took = r.took;
-      rises = r.rises;
-      carried = r.carried;
-      whole = r.whole;
-      within = let a = r.counted in let b = r.within in omega arith;
-      ceased = subst (λ (all : List FoundOf). IsRejected r.read all x.place x.kind) (no_more d r.found none) (subst (λ (o : Option Rejection). Stands o d r.read r.found) e r.stands);
-    }
+    pub halts_rejected : (x : Rejection) → rejection ≡ Some x → Halted l f l1 f1 budget count given (BadMessage x.place x.kind)
+    halts_rejected x e = (
+      record {
+        read = r.read;
+        found = r.found;
+        took = r.took;
+        rises = r.rises;
+        carried = r.carried;
+        whole = r.whole;
+        within = let a = r.counted in let b = r.within in omega arith;
+        ceased = subst (λ (all : List FoundOf). IsRejected r.read all x.place x.kind) (no_more d r.found none) (subst (λ (o : Option Rejection). Stands o d r.read r.found) e r.stands);
+      },
+      r.counted,
+    )
 
     module _ (clean : rejection ≡ None) where
       taken : HasTaken d r.read r.found
@@ -200,54 +203,66 @@ module _ (l : Option (List ℕ)) (f : ℕ) (l1 : Option (List ℕ)) (f1 : ℕ) (
       is_read : IsRead r.read r.found d.bytes
       is_read = subst (λ (all : List FoundOf). IsRead r.read all d.bytes) (no_more d r.found none) taken.read
 
-      pub halts_spent : count ≡ budget → Halts l f l1 f1 budget given Budget
-      halts_spent e = record {
-        read = r.read;
-        found = r.found;
-        took = r.took;
-        rises = r.rises;
-        carried = r.carried;
-        whole = r.whole;
-        within = let a = r.counted in let b = r.within in omega arith;
-        ceased = (r.counted ∙ e, (d.bytes, is_read));
-      }
+      pub halts_spent : count ≡ budget → Halted l f l1 f1 budget count given Budget
+      halts_spent e = (
+        record {
+          read = r.read;
+          found = r.found;
+          took = r.took;
+          rises = r.rises;
+          carried = r.carried;
+          whole = r.whole;
+          within = let a = r.counted in let b = r.within in omega arith;
+          ceased = (r.counted ∙ e, (d.bytes, is_read));
+        },
+        r.counted,
+      )
 
-      pub halts_failed : (l2 : Option (List ℕ)) (f2 : ℕ) → l2 ≡ l1 → Rose f1 f2 → f1 ≤ f2 → count < budget → Halts l f l2 f2 budget given ReadFault
-      halts_failed l2 f2 e rose le room = record {
-        read = r.read;
-        found = r.found;
-        took = takes_same l l1 l2 r.read r.took e;
-        rises = let a = r.rises in omega arith;
-        carried = r.carried;
-        whole = r.whole;
-        within = let a = r.counted in let b = r.within in omega arith;
-        ceased = (rose_from f f1 f2 r.rises rose, (let a = r.counted in omega arith), (d.bytes, is_read));
-      }
+      pub halts_failed : (l2 : Option (List ℕ)) (f2 : ℕ) → l2 ≡ l1 → Rose f1 f2 → f1 ≤ f2 → count < budget → Halted l f l2 f2 budget count given ReadFault
+      halts_failed l2 f2 e rose le room = (
+        record {
+          read = r.read;
+          found = r.found;
+          took = takes_same l l1 l2 r.read r.took e;
+          rises = let a = r.rises in omega arith;
+          carried = r.carried;
+          whole = r.whole;
+          within = let a = r.counted in let b = r.within in omega arith;
+          ceased = (rose_from f f1 f2 r.rises rose, (let a = r.counted in omega arith), (d.bytes, is_read));
+        },
+        r.counted,
+      )
 
       took_nothing : (l2 : Option (List ℕ)) → Takes l1 l2 [] → Takes l l2 r.read
       took_nothing l2 t = subst (λ (x : List ℕ). Takes l l2 x) (append-nil r.read) (takes_more l l1 l2 r.read [] r.took t)
 
-      pub halts_ended : (l2 : Option (List ℕ)) (f2 : ℕ) → Takes l1 l2 [] → IsAtEnd l1 → f1 ≤ f2 → count < budget → (end : End) → EndedAt d.bytes end → Halts l f l2 f2 budget given end
-      halts_ended l2 f2 t e le room Closed x = record {
-        read = r.read;
-        found = r.found;
-        took = took_nothing l2 t;
-        rises = let a = r.rises in omega arith;
-        carried = r.carried;
-        whole = r.whole;
-        within = let a = r.counted in let b = r.within in omega arith;
-        ceased = (at_end_on l1 l2 t e, (let a = r.counted in omega arith), (d.bytes, is_read, x));
-      }
-      halts_ended l2 f2 t e le room (Truncated n) x = record {
-        read = r.read;
-        found = r.found;
-        took = took_nothing l2 t;
-        rises = let a = r.rises in omega arith;
-        carried = r.carried;
-        whole = r.whole;
-        within = let a = r.counted in let b = r.within in omega arith;
-        ceased = (at_end_on l1 l2 t e, (let a = r.counted in omega arith), (d.bytes, is_read, x.0, x.1));
-      }
+      pub halts_ended : (l2 : Option (List ℕ)) (f2 : ℕ) → Takes l1 l2 [] → IsAtEnd l1 → f1 ≤ f2 → count < budget → (end : End) → EndedAt d.bytes end → Halted l f l2 f2 budget count given end
+      halts_ended l2 f2 t e le room Closed x = (
+        record {
+          read = r.read;
+          found = r.found;
+          took = took_nothing l2 t;
+          rises = let a = r.rises in omega arith;
+          carried = r.carried;
+          whole = r.whole;
+          within = let a = r.counted in let b = r.within in omega arith;
+          ceased = (at_end_on l1 l2 t e, (let a = r.counted in omega arith), (d.bytes, is_read, x));
+        },
+        r.counted,
+      )
+      halts_ended l2 f2 t e le room (Truncated n) x = (
+        record {
+          read = r.read;
+          found = r.found;
+          took = took_nothing l2 t;
+          rises = let a = r.rises in omega arith;
+          carried = r.carried;
+          whole = r.whole;
+          within = let a = r.counted in let b = r.within in omega arith;
+          ceased = (at_end_on l1 l2 t e, (let a = r.counted in omega arith), (d.bytes, is_read, x.0, x.1));
+        },
+        r.counted,
+      )
       halts_ended l2 f2 t e le room (BadMessage n k) x = absurd x
       halts_ended l2 f2 t e le room ReadFault x = absurd x
       halts_ended l2 f2 t e le room WriteFault x = absurd x
@@ -258,9 +273,10 @@ module _ (l : Option (List ℕ)) (f : ℕ) (l1 : Option (List ℕ)) (f1 : ℕ) (
       halts_ended l2 f2 t e le room NoMemory x = absurd x
 
       -- a read gave nothing
-      pub halts_unread : (l2 : Option (List ℕ)) (f2 most : ℕ) (buffer : List ℕ) → f1 ≤ f2 → count < budget → (end : End) → ReadCame l1 l2 f1 f2 most buffer (Err end) → Halts l f l2 f2 budget given end
+      pub halts_unread : (l2 : Option (List ℕ)) (f2 most : ℕ) (buffer : List ℕ) → f1 ≤ f2 → count < budget → (end : End) → ReadCame l1 l2 f1 f2 most buffer (Err end) → Halted l f l2 f2 budget count given end
+      unfolding begun_on
       halts_unread l2 f2 most buffer le room ReadFault x = halts_failed l2 f2 x.1 x.0 le room
-      halts_unread l2 f2 most buffer le room NoMemory x = begun_on l2 f2 x le
+      halts_unread l2 f2 most buffer le room NoMemory x = (begun_on l2 f2 x le, r.counted)
       halts_unread l2 f2 most buffer le room Closed x = absurd x
       halts_unread l2 f2 most buffer le room (Truncated n) x = absurd x
       halts_unread l2 f2 most buffer le room (BadMessage n k) x = absurd x
@@ -309,17 +325,20 @@ module _ (l : Option (List ℕ)) (f : ℕ) (l1 : Option (List ℕ)) (f1 : ℕ) (
           stands = (tells r.read r.found taken).0;
         }
 
-        pub fed_starved : Halts l f l2 f2 budget given NoMemory
-        fed_starved = record {
-          read = r.read ++ x;
-          found = r.found;
-          took = takes_more l l1 l2 r.read x r.took t;
-          rises = let a = r.rises in omega arith;
-          carried = r.carried;
-          whole = r.whole;
-          within = let a = longer in omega arith;
-          ceased = (r.read, r.found, (x, refl), ([], sym (append-nil r.found)), inl (d.bytes, is_read));
-        }
+        pub fed_starved : Halted l f l2 f2 budget (count + n) given NoMemory
+        fed_starved = (
+          record {
+            read = r.read ++ x;
+            found = r.found;
+            took = takes_more l l1 l2 r.read x r.took t;
+            rises = let a = r.rises in omega arith;
+            carried = r.carried;
+            whole = r.whole;
+            within = let a = longer in omega arith;
+            ceased = (r.read, r.found, (x, refl), ([], sym (append-nil r.found)), inl (d.bytes, is_read));
+          },
+          longer,
+        )
 
 -- before the first read
 pub reads_none : (l : Option (List ℕ)) (f : ℕ) (d : DecoderState) (rejection : Option Rejection) (count budget : ℕ) → HasTaken d [] [] → rejection ≡ None → count ≡ 0 → Reads l f l f d rejection count budget []

@@ -90,11 +90,21 @@ pub record Halts (l : Option (List ℕ)) (f : ℕ) (l' : Option (List ℕ)) (f' 
   pub within : length read ≤ budget
   pub ceased : Ceased l' f f' budget read found end
 
+-- so many bytes were read, and no more is
+abbrev pub Halted : Option (List ℕ) → ℕ → Option (List ℕ) → ℕ → ℕ → ℕ → List Envelope → End → Type 0
+Halted l f l' f' budget count given end = (h : Halts l f l' f' budget given end) × (length h.read ≡ count)
+
 -- one more message is handed out, or one read gave none, or no more is read
 abbrev pub Advances : Option (List ℕ) → ℕ → Option (List ℕ) → ℕ → Inlet → List Envelope → Next → Type 0
 Advances l f l' f' inlet given (Message e) = InletReads l f l' f' inlet (given ++ e ∷ [])
 Advances l f l' f' inlet given More = InletReads l f l' f' inlet given
-Advances l f l' f' inlet given (Over end) = Halts l f l' f' inlet.budget given end
+Advances l f l' f' inlet given (Over end) = Halted l f l' f' inlet.budget inlet.count given end
+
+-- Where no message is handed out and more is to be read, bytes were read.
+abbrev pub GoesOn : Next → ℕ → ℕ → Type 0
+GoesOn (Message e) before after = Unit {0}
+GoesOn More before after = before < after
+GoesOn (Over end) before after = Unit {0}
 
 -- what the end of a source is, by what stands behind the last message
 abbrev pub EndedAt : ByteStream → End → Type 0

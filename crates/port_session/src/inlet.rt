@@ -1,9 +1,9 @@
 //! The messages of a source, within a budget.
-ghost use Rattle.std.specs.Prelude.{◌≡◌, ◌+◌, ◌≤◌, ℕ, List, [], None, Option, length, take, vec_len};
+ghost use Rattle.std.specs.Prelude.{◌≡◌, ◌+◌, ◌<◌, ◌≤◌, ℕ, List, [], None, Option, length, take, vec_len};
 ghost use Rattle.mos_codec.specs.Decoding.{HasTaken};
 ghost use Rattle.mos_io.specs.Bytes.{Takes};
 ghost use Rattle.mos_values.specs.declared.message.Envelope.{Envelope as EnvelopeOf};
-ghost use Rattle.port_session.specs.Reading.{Advances, EndedAt, InletReads};
+ghost use Rattle.port_session.specs.Reading.{Advances, EndedAt, GoesOn, InletReads};
 
 use crate::buffer::read_piece;
 use crate::end::End;
@@ -44,7 +44,7 @@ pub struct Inlet {
 pub enum Next {
     /// The next message.
     Message(Envelope),
-    /// There was one read, and no message is handed out yet.
+    /// There was one read, which gave bytes, and no message is handed out yet.
     More,
     /// No message is left, and no more is read.
     Over(End),
@@ -73,6 +73,7 @@ impl Inlet {
         requires { (l : Option (List ℕ)) × (f : ℕ) × (given : List EnvelopeOf) × InletReads l f (S.left source.old) (S.faults source.old) self.old given }
         ensures next { (l : Option (List ℕ)) (f : ℕ) (given : List EnvelopeOf) → InletReads l f (S.left source.old) (S.faults source.old) self.old given → Advances l f (S.left source.new) (S.faults source.new) self.new given result }
         ensures budget { self.new.budget ≡ self.old.budget }
+        ensures goes_on { GoesOn result (self.old).count self.new.count }
         ensures rises { S.faults source.old ≤ S.faults source.new }
     {
         match self.decoder.next() {
@@ -87,6 +88,7 @@ impl Inlet {
         requires reads { (l : Option (List ℕ)) × (f : ℕ) × (given : List EnvelopeOf) × InletReads l f (S.left source.old) (S.faults source.old) self.old given }
         ensures next { (l : Option (List ℕ)) (f : ℕ) (given : List EnvelopeOf) → InletReads l f (S.left source.old) (S.faults source.old) self.old given → Advances l f (S.left source.new) (S.faults source.new) self.new given result }
         ensures budget { self.new.budget ≡ self.old.budget }
+        ensures goes_on { GoesOn result (self.old).count self.new.count }
         ensures rises { S.faults source.old ≤ S.faults source.new }
     {
         if let Some(rejection) = self.rejection {
@@ -128,9 +130,11 @@ impl Inlet {
         requires rejection { (self.old).rejection ≡ None }
         requires room { (self.old).count + count ≤ (self.old).budget }
         requires buffer { count ≤ vec_len (self.old).buffer }
+        requires some { 0 < count }
         requires reads { (l : Option (List ℕ)) × (f : ℕ) × (l' : Option (List ℕ)) × (f' : ℕ) × (given : List EnvelopeOf) × InletReads l f l' f' self.old given }
         ensures next { (l : Option (List ℕ)) (f : ℕ) (l' : Option (List ℕ)) (f' : ℕ) (l'' : Option (List ℕ)) (f'' : ℕ) (given : List EnvelopeOf) → InletReads l f l' f' self.old given → Takes l' l'' (take count (self.old).buffer.items) → f' ≤ f'' → Advances l f l'' f'' self.new given result }
         ensures budget { self.new.budget ≡ self.old.budget }
+        ensures goes_on { GoesOn result (self.old).count self.new.count }
     {
         let outcome = self.decoder.feed(&self.buffer[..count]);
         self.count += count as u64;

@@ -37,7 +37,7 @@ pub returns-in-More-clause-step : goal.returns-in-More-clause-step
 returns-in-More-clause-step g c seen was w = more_on _ _ _ _ _ _ _ _ _ _ _ _ _ w c.in-Awaits.is _ _ _ (c.in-More.ensures.next _ _ _ w.reads)
 
 pub returns-in-Over-advance-clause-step : goal.returns-in-Over-advance-clause-step
-returns-in-Over-advance-clause-step g c seen was w = read_over _ _ _ _ _ _ _ _ _ _ _ _ _ w c.in-Awaits.is _ _ _ _ refl (c.in-Over-advance.ensures.next _ _ _ w.reads)
+returns-in-Over-advance-clause-step g c seen was w = read_over _ _ _ _ _ _ _ _ _ _ _ _ _ w c.in-Awaits.is _ _ _ _ refl (c.in-Over-advance.ensures.next _ _ _ w.reads).0
 
 pub returns-in-Message-clause-step : goal.returns-in-Message-clause-step
 returns-in-Message-clause-step g c seen was w = let r = c.in-Message.ensures.next _ _ _ w.reads in heard_on _ _ _ _ _ _ _ _ _ _ _ _ _ w c.in-Awaits.is refl _ _ _ c.in-Message.e r (last_whole _ _ r.whole).sound

@@ -1,8 +1,14 @@
 use Rattle.std.proofs.Common.{rules, ◌≡◌, ◌<◌, ◌-◌, ◌≢◌, ℕ, take, arith, subst}
 use Rattle.std.proofs.lemmas.Grind.{common_steps}
 use Rattle.mos_io.specs.Bytes.{Takes}
-use Rattle.port_session.proofs.Readings.{halts_ended, halts_unread}
+use Rattle.port_session.proofs.Readings.{halts_ended, halts_rejected, halts_spent, halts_unread}
 use Rattle.port_session.proofs.inlet.Inlet.go_on.Goals as goal
+
+pub returns-in-Some-clause-next : goal.returns-in-Some-clause-next
+returns-in-Some-clause-next g c l f given r = halts_rejected l f _ _ _ _ _ _ given r c.requires.ready _ c.in-Some.is
+
+pub returns-then-self-clause-next : goal.returns-then-self-clause-next
+returns-then-self-clause-next g c l f given r = halts_spent l f _ _ _ _ _ _ given r c.requires.ready c.in_default.is c.if-self.true
 
 pub returns-in-Ok-eq0-clause-next : goal.returns-in-Ok-eq0-clause-next
 returns-in-Ok-eq0-clause-next g c l f given r =
