@@ -1,5 +1,6 @@
 //! The system's time.
 ghost use Rattle.std.specs.Prelude.{◌≡◌};
+ghost use Rattle.port_tcp.specs.Moments.{IsMoment};
 
 use crate::moment::{first_time, time_of};
 use mos_fields::{MosTime, NoMemory};
@@ -15,8 +16,10 @@ pub struct SystemClock<R: SystemsClock + Copy + Drop> {
 }
 
 impl<R: SystemsClock + Copy + Drop> SystemClock<R> {
-    /// A clock over the system's.
-    pub fn new(rt: R) -> Self {
+    /// A clock over the system's. Until it reads that one it tells the begin of 1970.
+    pub fn new(rt: R) -> Self
+        ensures { IsMoment 0 result.last }
+    {
         SystemClock {
             rt,
             last: first_time(),

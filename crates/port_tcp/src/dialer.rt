@@ -1,5 +1,5 @@
 //! Connections that this machine opens.
-ghost use Rattle.std.specs.Prelude.{◌≡◌};
+ghost use Rattle.std.specs.Prelude.{◌≡◌, None};
 
 use crate::cause::Cause;
 use crate::counting::count_one;
@@ -34,8 +34,13 @@ pub struct TcpDialer<R: Net<Stream = TcpStream> + Eprint + Copy + Drop> {
 }
 
 impl<R: Net<Stream = TcpStream> + Eprint + Copy + Drop> TcpDialer<R> {
-    /// A dialer, whose connections are at `side` and have the next numbers of `numbers`.
-    pub fn new(rt: R, alloc: Global, side: Side, numbers: Arc<AtomicU64>) -> Self {
+    /// A dialer, whose connections are at `side` and have the next numbers of `numbers`. Nothing was dialed yet.
+    pub fn new(rt: R, alloc: Global, side: Side, numbers: Arc<AtomicU64>) -> Self
+        ensures side { result.side ≡ side }
+        ensures calls { result.calls ≡ 0 }
+        ensures faults { result.faults ≡ 0 }
+        ensures cause { result.cause ≡ None }
+    {
         TcpDialer {
             rt,
             alloc,

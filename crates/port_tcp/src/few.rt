@@ -1,5 +1,8 @@
 //! Listeners that end.
-ghost use Rattle.std.specs.Prelude.{◌≡◌};
+ghost use Rattle.std.specs.Prelude.{◌≡◌, ◌+◌, ◌≤◌, ◌≢◌, None, Ok, IfOk, OnErr};
+ghost use Rattle.mos_io.specs.Counts.{Rose};
+ghost use Rattle.port_links.specs.Links.{Accepts};
+ghost use Rattle.port_tcp.specs.Counted.{coming as coming_of};
 
 use mos_io::Failed;
 use port_links::{Link, Listener};
@@ -13,7 +16,10 @@ pub struct Few<L: Listener> {
 
 impl<L: Listener> Few<L> {
     /// The first `left` connections of `inner`.
-    pub fn new(inner: L, left: u64) -> Self {
+    pub fn new(inner: L, left: u64) -> Self
+        ensures inner { result.inner ≡ inner }
+        ensures left { result.left ≡ left }
+    {
         Few { inner, left }
     }
 }
@@ -29,7 +35,18 @@ impl<L: Listener> Listener for Few<L> {
 
     ghost faults = { λ f. L.faults f.inner };
 
-    fn accept(&mut self) -> Result<Option<Link<L::S, L::K>>, Failed> {
+    fn accept(&mut self) -> Result<Option<Link<L::S, L::K>>, Failed>
+        ensures gives { IfOk result (λ link. Accepts coming_of coming_of link) }
+        ensures rises { L.faults self.old.inner ≤ L.faults self.new.inner }
+        ensures failed { OnErr result (Rose (L.faults self.old.inner) (L.faults self.new.inner)) }
+        ensures kept { OnErr result (coming_of ≡ coming_of) }
+
+        // None comes behind so many calls; until then each call is one of the inner listener's.
+        ensures ended { self.old.left ≡ 0 → result ≡ Ok None }
+        ensures still { self.old.left ≡ 0 → self.new ≡ self.old }
+        ensures counted { self.old.left ≢ 0 → self.new.left + 1 ≡ self.old.left }
+        ensures inner { self.old.left ≢ 0 → IfOk result (λ link. Accepts (L.coming self.old.inner) (L.coming self.new.inner) link) }
+    {
         if self.left == 0 {
             return Ok(None);
         }

@@ -34,7 +34,13 @@ fn stops_after(pace: Pace, stops: u64) -> u64
 impl<R: Clock + Copy + Drop> SleepPacer<R> {
     /// A pacer whose pauses have this length. Each pause of the number `every`, counted from the last such one, asks for
     /// a heartbeat; with 0 none does. It stops once `stop` is true; without one it never does.
-    pub fn new(rt: R, length: Duration, every: u64, stop: Option<Arc<AtomicBool>>) -> Self {
+    pub fn new(rt: R, length: Duration, every: u64, stop: Option<Arc<AtomicBool>>) -> Self
+        ensures length { result.length ≡ length }
+        ensures every { result.every ≡ every }
+        ensures pauses { result.pauses ≡ 0 }
+        ensures stop { result.stop ≡ stop }
+        ensures stops { result.stops ≡ 0 }
+    {
         SleepPacer {
             rt,
             length,

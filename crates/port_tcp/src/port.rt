@@ -36,8 +36,12 @@ pub struct TcpPort<R: Clock + AllocGlobal + Eprint + Drop> {
 }
 
 impl<R: Clock + AllocGlobal + Eprint + Drop> TcpPort<R> {
-    /// The port at which `listener` listens. Its connections are at `side`, and have the next numbers of `numbers`.
-    pub fn new(rt: R, listener: TcpListener, side: Side, numbers: Arc<AtomicU64>) -> Self {
+    /// The port at which `listener` listens. Its connections are at `side`, and have the next numbers of `numbers`. It had no
+    /// fault yet.
+    pub fn new(rt: R, listener: TcpListener, side: Side, numbers: Arc<AtomicU64>) -> Self
+        ensures side { result.side ≡ side }
+        ensures faults { result.faults ≡ 0 }
+    {
         TcpPort {
             rt,
             listener,

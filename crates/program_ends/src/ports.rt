@@ -1,5 +1,6 @@
 //! The ports of this machine, and the pauses of its workers.
 ghost use Rattle.std.specs.Prelude.{◌≡◌, IfErr};
+ghost use Rattle.port_tcp.specs.Pauses.{NeverStops, every as every_of, length as length_of};
 ghost use Rattle.program_ends.specs.declared.program_end.ProgramEnd.TheVariants.{NoPort};
 
 use crate::program_end::ProgramEnd;
@@ -30,6 +31,10 @@ pub fn port_at<
 }
 
 /// The pauses of a program's workers: a tenth of a second each, with a heartbeat every half minute. They never stop.
-pub fn pacer<R: Clock + Copy + Drop>(rt: R) -> SleepPacer<R> {
+pub fn pacer<R: Clock + Copy + Drop>(rt: R) -> SleepPacer<R>
+    ensures length { length_of result ≡ 100000000 }
+    ensures every { every_of result ≡ 300 }
+    ensures stop { NeverStops result }
+{
     SleepPacer::new(rt, Duration::from_millis(PAUSE), BEAT, None)
 }
