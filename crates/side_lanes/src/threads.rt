@@ -1,6 +1,8 @@
 //! A thread for each job.
-ghost use Rattle.std.specs.Prelude.{◌≡◌, ◌≤◌};
+ghost use Rattle.std.specs.Prelude.{◌≡◌, ◌≤◌, OnErr, OnOk};
 ghost use Rattle.mos_io.specs.Counts.{Rose};
+ghost use Rattle.port_links.specs.Links.{More};
+ghost use Rattle.side_lanes.specs.Uncounted.{uncounted};
 
 use mos_io::Failed;
 use port_links::{Job, Spawner};
@@ -71,7 +73,18 @@ impl<J: Job, F: Fn(J) -> Result<(), Failed> + Drop> Spawner<J> for StartSpawner<
 
     ghost faults = { λ s. s.faults };
 
-    fn start(&mut self, job: J) -> Result<(), Failed> {
+    fn start(&mut self, job: J) -> Result<(), Failed>
+        requires { F.IsAlwaysCallable self.old.start_job }
+        ensures ready { F.IsAlwaysCallable self.new.start_job }
+        ensures taken { OnOk result (More uncounted uncounted 1) }
+        ensures rises { self.old.faults ≤ self.new.faults }
+        ensures failed { OnErr result (Rose self.old.faults self.new.faults) }
+        ensures kept { OnErr result (uncounted ≡ uncounted) }
+
+        // It answers what the function answers for the job.
+        ensures answered { F.post self.old.start_job job result }
+        ensures same { self.new.start_job ≡ self.old.start_job }
+    {
         match (self.start_job)(job) {
             Ok(()) => Ok(()),
             Err(failed) => {
