@@ -6,11 +6,14 @@ use edit_program::{about, check_words, last_file_words, last_words, run_editor, 
 use edit_runs::EditStatus;
 use message_runs::MessageEnd;
 use mos_io::{Sink, StdSink, StdSource};
+use port_events::Side;
+use port_links::Dialer;
+use port_tcp::TcpDialer;
 use std::io::{ErrorKind, Lock};
-use std::net::{Net, TcpListener, TcpStream};
 use std::process::ExitCode;
 use std::rt::Files;
-use std::sync::Wait;
+use std::sync::atomic::AtomicU64;
+use std::sync::{Arc, Wait};
 use std::{env, fs};
 use stream_commands::refused_line;
 
@@ -41,11 +44,35 @@ fn say(rt: &HostRuntime, text: Option<&str>) {
     }
 }
 
-/// A run of the messages in the file at this path, which is opened before anything is sent.
-fn run_path<
-    R: Net<Listener = TcpListener, Stream = TcpStream> + Files + AllocGlobal + Wait,
-    K: Sink,
->(rt: &R, words: &[String], path: &str, out: &mut K) -> Result<MessageEnd, EditStatus>
+/// What opens the connection to the server.
+fn dialer_of(rt: &HostRuntime) -> Result<TcpDialer<HostRuntime>, EditStatus> {
+    match Arc::new(rt.alloc(), AtomicU64::new(1)) {
+        Ok(numbers) => Ok(TcpDialer::new(*rt, rt.alloc(), Side::Editor, numbers)),
+        Err(_) => Err(EditStatus::NoMemory),
+    }
+}
+
+/// A run of the lines on standard input.
+fn run_lines<R: AllocGlobal + Wait>(rt: &R, host: &HostRuntime, words: &[String]) -> EditStatus {
+    match dialer_of(host) {
+        Ok(mut dialer) => {
+            let mut source = StdSource::new(host.stdin().lock());
+            let mut out = StdSink::new(host.stdout().lock());
+            let mut notes = StdSink::new(host.stderr().lock());
+            run_editor(rt, words, &mut dialer, &mut source, &mut out, &mut notes)
+        }
+        Err(status) => status,
+    }
+}
+
+/// A run of the messages in the file at this path, which is opened before the connection.
+fn run_path<R: Files + AllocGlobal + Wait, D: Dialer, K: Sink>(
+    rt: &R,
+    words: &[String],
+    path: &str,
+    dialer: &mut D,
+    out: &mut K,
+) -> Result<MessageEnd, EditStatus>
 where
     R::File: Drop,
 {
@@ -54,11 +81,30 @@ where
         Ok(()) => match fs::open(rt, path) {
             Ok(file) => {
                 let mut source = StdSource::new(file);
-                run_file(rt, words, &mut source, out)
+                run_file(rt, words, dialer, &mut source, out)
             }
             Err(fault) if fault.kind() == ErrorKind::OutOfMemory => Err(EditStatus::NoMemory),
             Err(_) => Err(EditStatus::ReadFault),
         },
+    }
+}
+
+/// A run of the messages in the file at this path, of which standard output is told.
+fn give_path<R: Files + AllocGlobal + Wait>(
+    rt: &R,
+    host: &HostRuntime,
+    words: &[String],
+    path: &str,
+) -> Result<MessageEnd, EditStatus>
+where
+    R::File: Drop,
+{
+    match dialer_of(host) {
+        Ok(mut dialer) => {
+            let mut out = StdSink::new(host.stdout().lock());
+            run_path(rt, words, path, &mut dialer, &mut out)
+        }
+        Err(status) => Err(status),
     }
 }
 
@@ -85,15 +131,11 @@ fn main(rt: HostRuntime) -> ExitCode {
                 (status, last_words(status))
             }
             (None, [_, _, path]) => {
-                let mut out = StdSink::new(rt.stdout().lock());
-                let status = file_status(&rt, run_path(&rt, &words, path.as_str(), &mut out));
+                let status = file_status(&rt, give_path(&rt, &rt, &words, path.as_str()));
                 (status, last_file_words(status))
             }
             (None, _) => {
-                let mut source = StdSource::new(rt.stdin().lock());
-                let mut out = StdSink::new(rt.stdout().lock());
-                let mut notes = StdSink::new(rt.stderr().lock());
-                let status = run_editor(&rt, &words, &mut source, &mut out, &mut notes);
+                let status = run_lines(&rt, &rt, &words);
                 (status, last_words(status))
             }
         },

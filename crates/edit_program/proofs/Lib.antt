@@ -1,2 +1,4 @@
+pub mod ColonLemmas
+pub mod WordLemmas
 pub mod ProgramLemmas
 pub mod FileLemmas

@@ -1,22 +1,22 @@
 -- How the program's run ends that is given a file of messages.
-use Rattle.std.specs.Prelude.{◌≡◌, ℕ, true, List, [], ◌∷◌, Option, None, Result, Ok, Err}
-use Rattle.std.specs.Str.{chars}
-use Rattle.mos_fields.specs.Faults.{id_fault}
+use Rattle.std.specs.Prelude.{◌≡◌, ℕ, List, [], ◌∷◌, Option, Result, Ok, Err}
+use Rattle.port_links.specs.declared.place.Place.{Place}
 use Rattle.edit_runs.specs.declared.status.EditStatus.{EditStatus}
 use Rattle.edit_runs.specs.declared.status.EditStatus.TheVariants as statuses
 use Rattle.message_runs.specs.Given.{Ends, sides}
 use Rattle.message_runs.specs.declared.message_end.MessageEnd.{MessageEnd}
-use Rattle.edit_program.specs.Ends.{IsUnopened}
-use Rattle.edit_program.specs.Words.{is_place}
+use Rattle.edit_program.specs.Dials.{Dials, HasFailed, HasOpened}
+use Rattle.edit_program.specs.Words.{IsServer}
 
 -- where the server's port is, the server's ID, and the path of a file
 pub record AreFileWords (words : List (List ℕ)) : Type 0 where
-  pub place : List ℕ
-  pub word : List ℕ
+  pub first : List ℕ
+  pub second : List ℕ
   pub path : List ℕ
-  pub are : words ≡ place ∷ word ∷ path ∷ []
-  pub is_place : is_place place ≡ true
-  pub is_id : id_fault (chars word) ≡ None
+  pub are : words ≡ first ∷ second ∷ path ∷ []
+  pub place : Place
+  pub id : List ℕ
+  pub is_server : IsServer first second place id
 
 -- what looking at the words comes to
 abbrev pub Checks : List (List ℕ) → Result (Unit {0}) EditStatus → Type 0
@@ -47,15 +47,17 @@ pub record HasGivenFile (was now : FileStreams) (end : MessageEnd) : Type 0 wher
   pub sends_later : ℕ
   pub ends : Ends was.left was.reads now.left now.reads (sides left heard sent sends was.shown was.shows) (sides left_later heard_later sent_later sends_later now.shown now.shows) end
 
--- a run was made, or there was no connection
-abbrev pub Gave : FileStreams → FileStreams → Result MessageEnd EditStatus → Type 0
-Gave was now (Ok end) = HasGivenFile was now end
-Gave was now (Err status) = IsUnopened status × (now ≡ was)
+-- A run was made over a connection that the dialer opened; or it opened none, and nothing was read or written.
+abbrev pub Gave : Dials → Dials → FileStreams → FileStreams → Result MessageEnd EditStatus → Type 0
+Gave before after was now (Ok end) = HasOpened before after × HasGivenFile was now end
+Gave before after was now (Err statuses.Lost) = HasFailed before after × (now ≡ was)
+Gave before after was now (Err status) = ⊥
 
--- How the program's run ends. A run is made only with the words that it has to be given; else nothing is read or written.
-abbrev pub FileEnds : List (List ℕ) → FileStreams → FileStreams → Result MessageEnd EditStatus → Type 0
-FileEnds words was now (Ok end) = AreFileWords words × HasGivenFile was now end
-FileEnds words was now (Err statuses.Lost) = AreFileWords words × (now ≡ was)
-FileEnds words was now (Err statuses.Usage) = (AreFileWords words → ⊥) × (now ≡ was)
-FileEnds words was now (Err statuses.NoMemory) = now ≡ was
-FileEnds words was now (Err status) = ⊥
+-- How the program's run ends. The dialer is called, and a run is made, only with the words that it has to be given. Without a run
+-- nothing is read or written.
+abbrev pub FileEnds : List (List ℕ) → Dials → Dials → FileStreams → FileStreams → Result MessageEnd EditStatus → Type 0
+FileEnds words before after was now (Ok end) = AreFileWords words × HasOpened before after × HasGivenFile was now end
+FileEnds words before after was now (Err statuses.Lost) = AreFileWords words × HasFailed before after × (now ≡ was)
+FileEnds words before after was now (Err statuses.Usage) = (AreFileWords words → ⊥) × (after ≡ before) × (now ≡ was)
+FileEnds words before after was now (Err statuses.NoMemory) = (after ≡ before) × (now ≡ was)
+FileEnds words before after was now (Err status) = ⊥

@@ -1,3 +1,4 @@
 pub mod Words
+pub mod Dials
 pub mod Ends
 pub mod Files

@@ -1,92 +1,89 @@
-//! A run of the program with a file of messages.
-ghost use Rattle.std.specs.Prelude.{◌≡◌, ◌∷◌, [], None, IfErr, OnOk, map, string_bytes};
-ghost use Rattle.std.specs.Str.{chars};
-ghost use Rattle.mos_fields.specs.Faults.{id_fault};
-ghost use Rattle.edit_program.specs.Ends.{IsNoId};
-ghost use Rattle.edit_program.specs.Files.{Checks, FileEnds, Gave, file_streams};
+//! A run of the messages of a file.
+ghost use Rattle.std.specs.Prelude.{◌∷◌, [], map, string_bytes};
+ghost use Rattle.edit_program.specs.Dials.{dials};
+ghost use Rattle.edit_program.specs.Files.{Checks, FileEnds, Gave, HasGivenFile, file_streams};
 
-use crate::place::is_place;
-use crate::running::id_in;
+use crate::server::server_in;
 use edit_runs::EditStatus;
 use message_runs::{MessageEnd, run_messages};
 use mos_fields::let_go;
-use mos_io::{Sink, Source, StdSink, StdSource};
+use mos_io::{Sink, Source};
+use port_links::{Dialer, Link, Place};
 use std::alloc::Global;
-use std::io::ErrorKind;
-use std::net::{Net, TcpListener, TcpStream};
 use std::sync::Wait;
 
-// Whether a word is an ID.
-fn check_id(alloc: Global, word: &str) -> Result<(), EditStatus>
-    ensures ok { OnOk result (id_fault (chars word.now) ≡ None) }
-    ensures fault { IfErr result (IsNoId (chars word.now)) }
+// Whether the first two of three words are a place and an ID. What the third is doesn't matter.
+fn check_three(alloc: Global, first: &str, second: &str, _path: &str) -> Result<(), EditStatus>
+    ensures { Checks (first.now ∷ second.now ∷ _path.now ∷ []) result }
 {
-    match id_in(alloc, word) {
-        Ok(id) => {
-            let_go(id);
+    match server_in(alloc, first, second) {
+        Ok(server) => {
+            let_go(server);
             Ok(())
         }
         Err(status) => Err(status),
     }
 }
 
-// Whether the first two of three words are a place and an ID. What the third is doesn't matter.
-fn check_three(alloc: Global, place: &str, word: &str, _path: &str) -> Result<(), EditStatus>
-    ensures { Checks (place.now ∷ word.now ∷ _path.now ∷ []) result }
-{
-    if is_place(place.as_bytes()) {
-        check_id(alloc, word)
-    } else {
-        Err(EditStatus::Usage)
-    }
-}
-
-/// Whether the words behind the program's name are three, of which the first is a host, a colon and a port, and the second an ID.
+/// Whether the words behind the program's name are three, of which the first is a place, as `place_in` says, and the second an ID.
 /// `Usage` comes exactly where they aren't, and memory doesn't run out; the only other error is `NoMemory`. What the third is, the
 /// path of a file, the system says.
 pub fn check_words(alloc: Global, words: &[String]) -> Result<(), EditStatus>
     ensures { Checks (map string_bytes words.now) result }
 {
     match words {
-        [place, word, path] => check_three(alloc, place.as_str(), word.as_str(), path.as_str()),
+        [first, second, path] => {
+            check_three(alloc, first.as_str(), second.as_str(), path.as_str())
+        }
         _ => Err(EditStatus::Usage),
     }
 }
 
 // A run over a connection.
-fn give_over<
-    R: Net<Listener = TcpListener, Stream = TcpStream> + AllocGlobal + Wait,
-    S: Source,
-    K: Sink,
->(rt: &R, stream: TcpStream, source: &mut S, out: &mut K) -> Result<MessageEnd, EditStatus>
-    ensures { Gave (file_streams (S.left source.old) (S.faults source.old) (K.written out.old) (K.faults out.old)) (file_streams (S.left source.new) (S.faults source.new) (K.written out.new) (K.faults out.new)) result }
+fn give_over<R: AllocGlobal + Wait, C: Source + Drop, T: Sink + Drop, S: Source, K: Sink>(
+    rt: &R,
+    link: Link<C, T>,
+    source: &mut S,
+    out: &mut K,
+) -> MessageEnd
+    ensures { HasGivenFile (file_streams (S.left source.old) (S.faults source.old) (K.written out.old) (K.faults out.old)) (file_streams (S.left source.new) (S.faults source.new) (K.written out.new) (K.faults out.new)) result }
 {
-    match stream.try_clone() {
+    let mut from = link.source;
+    let mut to = link.sink;
+    run_messages(rt, rt.alloc(), source, &mut from, &mut to, out)
+}
+
+// A run at this place.
+fn give_at<R: AllocGlobal + Wait, D: Dialer, S: Source, K: Sink>(
+    rt: &R,
+    place: &Place,
+    dialer: &mut D,
+    source: &mut S,
+    out: &mut K,
+) -> Result<MessageEnd, EditStatus>
+    ensures { Gave (dials (D.links dialer.old) (D.calls dialer.old) (D.faults dialer.old)) (dials (D.links dialer.new) (D.calls dialer.new) (D.faults dialer.new)) (file_streams (S.left source.old) (S.faults source.old) (K.written out.old) (K.faults out.old)) (file_streams (S.left source.new) (S.faults source.new) (K.written out.new) (K.faults out.new)) result }
+{
+    match dialer.dial(place) {
+        Ok(link) => Ok(give_over(rt, link, source, out)),
         Err(_) => Err(EditStatus::Lost),
-        Ok(other) => {
-            // A connection that gathers what it sends is slower and no less right.
-            let _ = stream.set_nodelay(true);
-            let mut from = StdSource::new(stream);
-            let mut to = StdSink::new(other);
-            Ok(run_messages(rt, rt.alloc(), source, &mut from, &mut to, out))
-        }
     }
 }
 
-// A run at the port that a word says.
-fn give_at<
-    R: Net<Listener = TcpListener, Stream = TcpStream> + AllocGlobal + Wait,
-    S: Source,
-    K: Sink,
->(rt: &R, place: &str, source: &mut S, out: &mut K) -> Result<MessageEnd, EditStatus>
-    ensures { Gave (file_streams (S.left source.old) (S.faults source.old) (K.written out.old) (K.faults out.old)) (file_streams (S.left source.new) (S.faults source.new) (K.written out.new) (K.faults out.new)) result }
+// A run with three words.
+fn give_with<R: AllocGlobal + Wait, D: Dialer, S: Source, K: Sink>(
+    rt: &R,
+    first: &str,
+    second: &str,
+    _path: &str,
+    dialer: &mut D,
+    source: &mut S,
+    out: &mut K,
+) -> Result<MessageEnd, EditStatus>
+    ensures { FileEnds (first.now ∷ second.now ∷ _path.now ∷ []) (dials (D.links dialer.old) (D.calls dialer.old) (D.faults dialer.old)) (dials (D.links dialer.new) (D.calls dialer.new) (D.faults dialer.new)) (file_streams (S.left source.old) (S.faults source.old) (K.written out.old) (K.faults out.old)) (file_streams (S.left source.new) (S.faults source.new) (K.written out.new) (K.faults out.new)) result }
 {
-    match TcpStream::connect(rt, place) {
-        Ok(stream) => give_over(rt, stream, source, out),
-        Err(fault) => match fault.kind() {
-            ErrorKind::OutOfMemory => Err(EditStatus::NoMemory),
-            _ => Err(EditStatus::Lost),
-        },
+    match server_in(rt.alloc(), first, second) {
+        Ok(server) => give_at(rt, &server.place, dialer, source, out),
+        Err(status) => Err(status),
     }
 }
 
@@ -94,20 +91,28 @@ fn give_at<
 /// the server's ID, and the path of the file. What is told of each answer goes to `out`. The messages have names of their own, and the
 /// server's ID is only looked at.
 ///
-/// `Ok` is how the run ended that was made over a connection, as `run_messages` says. An error comes where no run was made: `Usage`
-/// as from `check_words`, `Lost` where the connection can't be opened. Nothing was read or written then.
-pub fn run_file<
-    R: Net<Listener = TcpListener, Stream = TcpStream> + AllocGlobal + Wait,
-    S: Source,
-    K: Sink,
->(rt: &R, words: &[String], source: &mut S, out: &mut K) -> Result<MessageEnd, EditStatus>
-    ensures { FileEnds (map string_bytes words.now) (file_streams (S.left source.old) (S.faults source.old) (K.written out.old) (K.faults out.old)) (file_streams (S.left source.new) (S.faults source.new) (K.written out.new) (K.faults out.new)) result }
+/// `Ok` is how the run ended that was made over the connection that the dialer opened, as `run_messages` says. An error comes where no
+/// run was made: `Usage` as from `check_words`, where the dialer isn't called; `Lost` where it was called, once, and opened no connection,
+/// and its count of faults rose. Nothing was read or written then.
+pub fn run_file<R: AllocGlobal + Wait, D: Dialer, S: Source, K: Sink>(
+    rt: &R,
+    words: &[String],
+    dialer: &mut D,
+    source: &mut S,
+    out: &mut K,
+) -> Result<MessageEnd, EditStatus>
+    ensures { FileEnds (map string_bytes words.now) (dials (D.links dialer.old) (D.calls dialer.old) (D.faults dialer.old)) (dials (D.links dialer.new) (D.calls dialer.new) (D.faults dialer.new)) (file_streams (S.left source.old) (S.faults source.old) (K.written out.old) (K.faults out.old)) (file_streams (S.left source.new) (S.faults source.new) (K.written out.new) (K.faults out.new)) result }
 {
-    match check_words(rt.alloc(), words) {
-        Err(status) => Err(status),
-        Ok(()) => match words {
-            [place, _, _] => give_at(rt, place.as_str(), source, out),
-            _ => Err(EditStatus::Usage),
-        },
+    match words {
+        [first, second, path] => give_with(
+            rt,
+            first.as_str(),
+            second.as_str(),
+            path.as_str(),
+            dialer,
+            source,
+            out,
+        ),
+        _ => Err(EditStatus::Usage),
     }
 }
