@@ -41,7 +41,7 @@ impl<L: Listener> Listener for Few<L> {
         ensures failed { OnErr result (Rose (L.faults self.old.inner) (L.faults self.new.inner)) }
         ensures kept { OnErr result (coming_of ≡ coming_of) }
 
-        // None comes behind so many calls; until then each call is one of the inner listener's.
+        // None comes behind so many calls, and until then as the inner listener's count of those to come allows.
         ensures ended { self.old.left ≡ 0 → result ≡ Ok None }
         ensures still { self.old.left ≡ 0 → self.new ≡ self.old }
         ensures counted { self.old.left ≢ 0 → self.new.left + 1 ≡ self.old.left }
