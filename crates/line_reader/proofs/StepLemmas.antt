@@ -1,9 +1,9 @@
 -- What steps come to.
 use Rattle.std.proofs.Common.{◌≡◌, ℕ, zero, suc, ◌+◌, ◌-◌, ◌<◌, ◌≤◌, List, [], ◌∷◌, ◌++◌, length, take, drop, slice_range, Option, Some, None, refl, sym, ap, ◌∙◌, arith}
-use Rattle.std.proofs.lemmas.List.{append_assoc, append-nil, drop-drop, drop-take, length-take, take-append-drop}
+use Rattle.std.proofs.lemmas.List.{append_assoc, append-nil, drop-drop, drop-take, length-drop, length-take, length-take-le, take-append-drop}
 use Rattle.mos_io.specs.Bytes.{IsAtEnd, Takes}
 use Rattle.line_reader.specs.declared.reader.LineReader.{LineReader}
-use Rattle.line_reader.specs.Lines.{Gives, HasNoEnd, IsEnd, Stands, HasLine, HasLast, ended, pending}
+use Rattle.line_reader.specs.Lines.{Gives, HasNoEnd, HasRoom, IsEnd, Stands, HasLine, HasLast, ended, pending}
 
 -- the front of bytes of which a front was held
 held_front : (most : ℕ) (xs ys : List ℕ) → take most (take most xs ++ ys) ≡ take most (xs ++ ys)
@@ -22,6 +22,14 @@ behind xs at end count h =
     let m = end - (at + (count + 1)) in
     let is : end - at ≡ (count + 1) + m = omega (arith, h, short) in
     ap (λ n. drop (count + 1) (take n (drop at xs))) is ∙ (drop-take (count + 1) m (drop at xs) ∙ ap (take m) (drop-drop (count + 1) at xs))
+
+-- how many bytes stand between two places of the room
+pub span : (xs : List ℕ) (at end : ℕ) → end ≤ length xs → length (slice_range xs at end) ≡ end - at
+span xs at end h = length-take-le (end - at) (drop at xs) (omega (arith, h, length-drop at xs))
+
+-- a place that stands behind another leaves fewer
+pub fewer : (r : LineReader) (now : ℕ) → HasRoom r → r.at < r.end → r.at < now → length (slice_range r.piece.items now r.end) < length (pending r)
+fewer r now h k m = let ok = r.piece.ok in let short : r.end ≤ length r.piece.items = omega (arith, ok, h.end) in omega (arith, span r.piece.items r.at r.end short, span r.piece.items now r.end short, k, m)
 
 -- so many bytes, a line feed and what stands behind it
 module _ (count : ℕ) (p : List ℕ) (e : IsEnd p (Some count)) where

@@ -1,5 +1,5 @@
 -- The lines of a source, and what a reader holds of them.
-use Rattle.std.specs.Prelude.{◌≡◌, ℕ, ◌+◌, ◌<◌, ◌≤◌, false, ◌==◌, List, [], ◌∷◌, ◌++◌, length, take, drop, slice_range, Option, Some, None, Result, Ok, Err, vec_len}
+use Rattle.std.specs.Prelude.{◌≡◌, ℕ, ◌+◌, ◌<◌, ◌≤◌, false, ◌==◌, List, [], ◌∷◌, ◌++◌, length, take, drop, slice_range, Option, Some, None, Result, Ok, Err, ◌⊎◌, vec_len}
 use Rattle.std.specs.List.{AllByRecursion, flat_map}
 use Rattle.mos_io.specs.Bytes.{IsAtEnd, Takes}
 use Rattle.mos_io.specs.Counts.{Rose}
@@ -82,3 +82,13 @@ Stepped l l' f f' r lines (Ok Line) = HasLine l l' r lines
 Stepped l l' f f' r lines (Ok Ended) = HasLast l l' r lines
 Stepped l l' f f' r lines (Err ReadFault) = Rose f f' × Stands l l' r lines
 Stepped l l' f f' r lines (Err NoMemory) = Gives l l' lines
+
+-- Bytes were gone over: fewer of the piece are left to be looked at; or, where none was left, a piece was read.
+abbrev pub Moves : List ℕ → List ℕ → Type 0
+Moves before after = (length after < length before) ⊎ ((before ≡ []) × (0 < length after))
+
+-- where the input isn't at its end, bytes were gone over
+abbrev pub GoesOn : Step → List ℕ → List ℕ → Type 0
+GoesOn More before after = Moves before after
+GoesOn Line before after = Moves before after
+GoesOn Ended before after = Unit {0}

@@ -1,6 +1,6 @@
 //! A reader of lines.
 ghost use Rattle.std.specs.Prelude.{◌≡◌, ◌≤◌, ◌<◌, ◌++◌, ◌∷◌, [], ℕ, List, Option, Some, IfOk, length, vec_len};
-ghost use Rattle.line_reader.specs.Lines.{HasLine, HasNoEnd, HasRoom, IsEnd, Stands, Stepped, pending};
+ghost use Rattle.line_reader.specs.Lines.{GoesOn, HasLine, HasNoEnd, HasRoom, IsEnd, Stands, Stepped, pending};
 
 use crate::steps::{hold, line_end, room};
 use mos_fields::NoMemory;
@@ -63,8 +63,10 @@ impl LineReader {
     // Where bytes of the piece are left and no line feed is among them: all of them are of the line.
     fn take_rest(&mut self) -> Result<Step, LineFault>
         requires room { HasRoom self.old }
+        requires left { self.old.at < self.old.end }
         requires no_end { HasNoEnd (pending self.old) }
         ensures stepped { (l : Option (List ℕ)) (l' : Option (List ℕ)) (f : ℕ) (lines : List (List ℕ)) → Stands l l' self.old lines → Stepped l l' f f self.new lines result }
+        ensures goes_on { IfOk result (λ step. GoesOn step (pending self.old) (pending self.new)) }
         ensures most { self.new.most ≡ self.old.most }
         ensures room { HasRoom self.new }
     {
@@ -80,8 +82,10 @@ impl LineReader {
     // Where a line feed stands behind so many bytes: they are of the line, which it ends.
     fn take_front(&mut self, count: usize) -> Result<Step, LineFault>
         requires room { HasRoom self.old }
+        requires left { self.old.at < self.old.end }
         requires end { IsEnd (pending self.old) (Some count) }
         ensures stepped { (l : Option (List ℕ)) (l' : Option (List ℕ)) (f : ℕ) (lines : List (List ℕ)) → Stands l l' self.old lines → Stepped l l' f f self.new lines result }
+        ensures goes_on { IfOk result (λ step. GoesOn step (pending self.old) (pending self.new)) }
         ensures most { self.new.most ≡ self.old.most }
         ensures room { HasRoom self.new }
     {
@@ -97,8 +101,10 @@ impl LineReader {
 
     // Where bytes of the piece are left.
     fn cut(&mut self) -> Result<Step, LineFault>
-        requires { HasRoom self.old }
+        requires room { HasRoom self.old }
+        requires left { self.old.at < self.old.end }
         ensures stepped { (l : Option (List ℕ)) (l' : Option (List ℕ)) (f : ℕ) (lines : List (List ℕ)) → Stands l l' self.old lines → Stepped l l' f f self.new lines result }
+        ensures goes_on { IfOk result (λ step. GoesOn step (pending self.old) (pending self.new)) }
         ensures most { self.new.most ≡ self.old.most }
         ensures room { HasRoom self.new }
     {
@@ -113,6 +119,7 @@ impl LineReader {
         requires room { HasRoom self.old }
         requires spent { pending self.old ≡ [] }
         ensures stepped { (l : Option (List ℕ)) (lines : List (List ℕ)) → Stands l (S.left source.old) self.old lines → Stepped l (S.left source.new) (S.faults source.old) (S.faults source.new) self.new lines result }
+        ensures goes_on { IfOk result (λ step. GoesOn step (pending self.old) (pending self.new)) }
         ensures most { self.new.most ≡ self.old.most }
         ensures room { HasRoom self.new }
         ensures rises { S.faults source.old ≤ S.faults source.new }
@@ -129,13 +136,15 @@ impl LineReader {
     }
 
     /// Goes on by one step: to the end of the line within the piece, or by one read. It is called where the line isn't ended.
-    /// Behind `Line` and `Ended` the line is whole, and `line` is what is held of it.
+    /// Behind `Line` and `Ended` the line is whole, and `line` is what is held of it. Behind `More` and `Line` bytes were gone
+    /// over.
     ///
     /// # Errors
     /// `ReadFault` only where the source's count of faults rose; nothing was taken then. `NoMemory` where memory runs out.
     pub fn advance<S: Source>(&mut self, source: &mut S) -> Result<Step, LineFault>
         requires { HasRoom self.old }
         ensures stepped { (l : Option (List ℕ)) (lines : List (List ℕ)) → Stands l (S.left source.old) self.old lines → Stepped l (S.left source.new) (S.faults source.old) (S.faults source.new) self.new lines result }
+        ensures goes_on { IfOk result (λ step. GoesOn step (pending self.old) (pending self.new)) }
         ensures most { self.new.most ≡ self.old.most }
         ensures room { HasRoom self.new }
         ensures rises { S.faults source.old ≤ S.faults source.new }
@@ -158,6 +167,7 @@ impl LineReader {
     pub fn clear(&mut self)
         requires { HasRoom self.old }
         ensures begun { (l : Option (List ℕ)) (l' : Option (List ℕ)) (lines : List (List ℕ)) (h : HasLine l l' self.old lines) → Stands l l' self.new (lines ++ h.current ∷ []) }
+        ensures kept { pending self.new ≡ pending self.old }
         ensures most { self.new.most ≡ self.old.most }
         ensures room { HasRoom self.new }
     {

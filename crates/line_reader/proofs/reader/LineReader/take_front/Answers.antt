@@ -1,5 +1,5 @@
-use Rattle.std.proofs.Common.{ℕ, List, ◌++◌, take, slice_range, refl, ap, ◌∙◌}
-use Rattle.line_reader.proofs.StepLemmas.{gives_open, line_ended}
+use Rattle.std.proofs.Common.{ℕ, ◌+◌, List, ◌++◌, take, slice_range, refl, ap, ◌∙◌, inl, arith}
+use Rattle.line_reader.proofs.StepLemmas.{fewer, gives_open, line_ended}
 use Rattle.line_reader.proofs.reader.LineReader.take_front.Goals as goal
 
 pub returns-in-Ok-clause-stepped : goal.returns-in-Ok-clause-stepped
@@ -9,3 +9,6 @@ returns-in-Ok-clause-stepped c l l' f lines h =
 
 pub returns-in-Err-clause-stepped : goal.returns-in-Err-clause-stepped
 returns-in-Err-clause-stepped c l l' f lines h = gives_open l l' c.args.self.now lines h
+
+pub returns-in-Ok-clause-goes_on : goal.returns-in-Ok-clause-goes_on
+returns-in-Ok-clause-goes_on c = inl (fewer c.args.self.now (c.args.self.now.at + (c.args.count + 1)) c.requires.room c.requires.left (omega arith))
