@@ -1,4 +1,5 @@
-//! Tests of a gateway's node with decks: what they are told, which deck is dropped when, and how a READY is answered then.
+//! Tests of decks, of the table of objects, and of a gateway's node with decks: what is loaded, which deck is dropped when, what a
+//! deck writes, how a table fills up, and how a READY is answered.
 #![tactic(auto)]
 
 #[cfg(test)]
@@ -9,3 +10,13 @@ mod lines;
 mod messages;
 #[cfg(test)]
 mod nodes;
+#[cfg(test)]
+mod objects;
+#[cfg(test)]
+mod orders;
+#[cfg(test)]
+mod rack_lines;
+#[cfg(test)]
+mod racks;
+#[cfg(test)]
+mod shared_deck;

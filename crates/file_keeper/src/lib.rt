@@ -3,7 +3,7 @@
 //!
 //! No contract says what a file holds. So none says that an append is synced before it is answered, that the file is cut
 //! back where writing failed, or that a load cuts off what ends inside a message and nothing else: these are a few lines
-//! each, and `keeper_tests` tries them. What contracts say is that an append that is answered Ok has put the bytes of
+//! each, and `end_tests` tries them. What contracts say is that an append that is answered Ok has put the bytes of
 //! its entry behind those of a file that tells what was written to it, that a load gives the entries of whole messages
 //! of which none was rejected, and that each call that fails is counted once.
 #![tactic(auto)]

@@ -3,7 +3,7 @@ use Rattle.std.specs.Prelude.{◌≢◌, ℕ, ◌<◌, ◌≤◌, List, [], ◌�
 use Rattle.std.proofs.Common.{ap, arith}
 use Rattle.std.proofs.lemmas.List.Elements.{All-nil, All-cons}
 use Rattle.std.proofs.lemmas.List.Kept.{AllPairs-cons}
-use Rattle.looking_tests.specs.Three.{three}
+use Rattle.session_tests.specs.Three.{three}
 
 abbrev differ : List ℕ → List ℕ → Type 0
 differ x y = x ≢ y
