@@ -1,3 +1,4 @@
 pub mod Moments
 pub mod Counted
 pub mod Pauses
+pub mod Sides

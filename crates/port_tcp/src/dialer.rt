@@ -1,5 +1,8 @@
 //! Connections that this machine opens.
-ghost use Rattle.std.specs.Prelude.{◌≡◌, None};
+ghost use Rattle.std.specs.Prelude.{◌≡◌, ◌≤◌, [], ◌∷◌, None, IfOk, OnErr, OnOk};
+ghost use Rattle.mos_io.specs.Counts.{Rose};
+ghost use Rattle.port_links.specs.Links.{Gives};
+ghost use Rattle.port_tcp.specs.Counted.{opened as opened_of};
 
 use crate::cause::Cause;
 use crate::counting::count_one;
@@ -54,7 +57,9 @@ impl<R: Net<Stream = TcpStream> + Eprint + Copy + Drop> TcpDialer<R> {
     }
 
     // A connection to the place, or why there is none.
-    fn connect(&self, place: &Place) -> Result<Link<TcpSource, TcpSink>, Cause> {
+    fn connect(&self, place: &Place) -> Result<Link<TcpSource, TcpSink>, Cause>
+        ensures { IfOk result (λ link. link.side ≡ self.now.side) }
+    {
         let Ok(host) = host_name(self.alloc, &place.host) else {
             return Err(Cause::NO_MEMORY);
         };
@@ -129,7 +134,19 @@ impl<R: Net<Stream = TcpStream> + Eprint + Copy + Drop> Dialer for TcpDialer<R> 
 
     ghost faults = { λ d. d.faults };
 
-    fn dial(&mut self, place: &Place) -> Result<Link<TcpSource, TcpSink>, Failed> {
+    fn dial(&mut self, place: &Place) -> Result<Link<TcpSource, TcpSink>, Failed>
+        ensures gives { IfOk result (λ link. Gives opened_of opened_of (link.number ∷ [])) }
+        ensures called { Rose self.old.calls self.new.calls }
+        ensures calls_rise { self.old.calls ≤ self.new.calls }
+        ensures rises { self.old.faults ≤ self.new.faults }
+        ensures failed { OnErr result (Rose self.old.faults self.new.faults) }
+        ensures kept { OnErr result (opened_of ≡ opened_of) }
+
+        // The connection is at the dialer's side, and is no fault.
+        ensures side { IfOk result (λ link. link.side ≡ self.old.side) }
+        ensures counted { OnOk result (self.new.faults ≡ self.old.faults) }
+        ensures same { self.new.side ≡ self.old.side }
+    {
         count_one(&mut self.calls);
         match self.connect(place) {
             Ok(link) => {
@@ -156,7 +173,13 @@ impl<R: Net<Stream = TcpStream> + Eprint + Copy + Drop> Dialer for TcpDialer<R> 
         }
     }
 
-    fn twin(&self) -> Result<Self, NoMemory> {
+    fn twin(&self) -> Result<Self, NoMemory>
+        ensures links { IfOk result (λ dialer. opened_of ≡ opened_of) }
+
+        // The twin's connections are at the same side, and nothing was dialed by it.
+        ensures side { IfOk result (λ dialer. dialer.side ≡ self.now.side) }
+        ensures counts { IfOk result (λ dialer. (dialer.calls ≡ 0) × (dialer.faults ≡ 0) × (dialer.cause ≡ None)) }
+    {
         let numbers = Arc::try_clone(&self.numbers)?;
         Ok(TcpDialer {
             rt: self.rt,

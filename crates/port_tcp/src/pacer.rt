@@ -1,6 +1,9 @@
 //! Pauses that last.
-ghost use Rattle.std.specs.Prelude.{◌≡◌, ◌≤◌};
-ghost use Rattle.mos_io.specs.Paces.{StopsBy};
+ghost use Rattle.std.specs.Prelude.{◌≡◌, ◌≤◌, IfOk};
+ghost use Rattle.std.specs.Arc.{arc_value};
+ghost use Rattle.std.specs.Option.{option_map};
+ghost use Rattle.mos_io.specs.Paces.{StopsBy, TakesPace};
+ghost use Rattle.port_tcp.specs.Pauses.{Paced, unseen};
 
 use mos_fields::NoMemory;
 use mos_io::{Pace, Pacer};
@@ -28,6 +31,16 @@ fn stops_after(pace: Pace, stops: u64) -> u64
     match pace {
         Pace::Again | Pace::Beat => stops,
         Pace::Stop => stops.saturating_add(1),
+    }
+}
+
+// What tells a pacer to stop again, shared.
+fn share_stop(stop: &Option<Arc<AtomicBool>>) -> Result<Option<Arc<AtomicBool>>, NoMemory>
+    ensures { IfOk result (λ shared. option_map arc_value shared ≡ option_map arc_value stop.now) }
+{
+    match stop {
+        Some(stop) => Ok(Some(Arc::try_clone(stop)?)),
+        None => Ok(None),
     }
 }
 
@@ -59,9 +72,28 @@ impl<R: Clock + Copy + Drop> SleepPacer<R> {
         }
     }
 
+    // Whether the pause that was just made is the one behind which a heartbeat is asked for.
+    fn count_pause(&mut self) -> Pace
+        ensures stops { self.new.stops ≡ self.old.stops }
+        ensures every { self.new.every ≡ self.old.every }
+        ensures paced { Paced self.old.every self.old.pauses self.new.pauses result }
+    {
+        self.pauses = self.pauses.saturating_add(1);
+        if self.every == 0 {
+            return Pace::Again;
+        }
+        if self.pauses < self.every {
+            return Pace::Again;
+        }
+        self.pauses = 0;
+        Pace::Beat
+    }
+
     // What is to be done after one more pause.
     fn next_pace(&mut self) -> Pace
-        ensures { self.new.stops ≡ self.old.stops }
+        ensures stops { self.new.stops ≡ self.old.stops }
+        ensures every { self.new.every ≡ self.old.every }
+        ensures paced { Paced self.old.every self.old.pauses self.new.pauses result }
     {
         if self.is_told() {
             return Pace::Stop;
@@ -70,12 +102,7 @@ impl<R: Clock + Copy + Drop> SleepPacer<R> {
         if self.is_told() {
             return Pace::Stop;
         }
-        self.pauses = self.pauses.saturating_add(1);
-        if self.every == 0 || self.pauses < self.every {
-            return Pace::Again;
-        }
-        self.pauses = 0;
-        Pace::Beat
+        self.count_pause()
     }
 }
 
@@ -86,17 +113,30 @@ impl<R: Clock + Copy + Drop> Pacer for SleepPacer<R> {
 
     ghost stops = { λ p. p.stops };
 
-    fn pause(&mut self) -> Pace {
+    fn pause(&mut self) -> Pace
+        ensures taken { TakesPace unseen unseen result }
+        ensures rises { self.old.stops ≤ self.new.stops }
+        ensures stopped { StopsBy result self.old.stops self.new.stops }
+
+        // A heartbeat is asked for after each of the number `every`, counted from the last such one.
+        ensures every { self.new.every ≡ self.old.every }
+        ensures paced { Paced self.old.every self.old.pauses self.new.pauses result }
+    {
         let pace = self.next_pace();
         self.stops = stops_after(pace, self.stops);
         pace
     }
 
-    fn twin(&self) -> Result<Self, NoMemory> {
-        let stop = match &self.stop {
-            Some(stop) => Some(Arc::try_clone(stop)?),
-            None => None,
-        };
+    fn twin(&self) -> Result<Self, NoMemory>
+        ensures paces { IfOk result (λ pacer. unseen ≡ unseen) }
+
+        // The twin begins to count, and is told to stop by the same.
+        ensures length { IfOk result (λ pacer. pacer.length ≡ self.now.length) }
+        ensures every { IfOk result (λ pacer. pacer.every ≡ self.now.every) }
+        ensures counts { IfOk result (λ pacer. (pacer.pauses ≡ 0) × (pacer.stops ≡ 0)) }
+        ensures stop { IfOk result (λ pacer. option_map arc_value pacer.stop ≡ option_map arc_value self.now.stop) }
+    {
+        let stop = share_stop(&self.stop)?;
         Ok(SleepPacer {
             rt: self.rt,
             length: self.length,

@@ -1,5 +1,9 @@
 //! Ports of this machine.
-ghost use Rattle.std.specs.Prelude.{◌≡◌};
+ghost use Rattle.std.specs.Prelude.{◌≡◌, ◌≤◌, IfOk, IfSome, OnErr, OnOk};
+ghost use Rattle.mos_io.specs.Counts.{Rose};
+ghost use Rattle.port_links.specs.Links.{Accepts};
+ghost use Rattle.port_tcp.specs.Counted.{coming as coming_of};
+ghost use Rattle.port_tcp.specs.Sides.{CameAt};
 
 use crate::counting::count_one;
 use crate::stream::{TcpSink, TcpSource, link_of};
@@ -60,7 +64,9 @@ impl<R: Clock + AllocGlobal + Eprint + Drop> TcpPort<R> {
     }
 
     // One attempt.
-    fn try_accept(&self) -> Option<Link<TcpSource, TcpSink>> {
+    fn try_accept(&self) -> Option<Link<TcpSource, TcpSink>>
+        ensures { IfSome result (λ link. link.side ≡ self.now.side) }
+    {
         let Ok((stream, from)) = self.listener.accept() else {
             return None;
         };
@@ -74,7 +80,9 @@ impl<R: Clock + AllocGlobal + Eprint + Drop> TcpPort<R> {
     }
 
     // Attempts, until one succeeds.
-    fn accept_soon(&self) -> Option<Link<TcpSource, TcpSink>> {
+    fn accept_soon(&self) -> Option<Link<TcpSource, TcpSink>>
+        ensures { IfSome result (λ link. link.side ≡ self.now.side) }
+    {
         for _ in 0..ATTEMPTS {
             if let Some(link) = self.try_accept() {
                 return Some(link);
@@ -96,7 +104,17 @@ impl<R: Clock + AllocGlobal + Eprint + Drop> Listener for TcpPort<R> {
 
     ghost faults = { λ p. p.faults };
 
-    fn accept(&mut self) -> Result<Option<Link<TcpSource, TcpSink>>, Failed> {
+    fn accept(&mut self) -> Result<Option<Link<TcpSource, TcpSink>>, Failed>
+        ensures gives { IfOk result (λ link. Accepts coming_of coming_of link) }
+        ensures rises { self.old.faults ≤ self.new.faults }
+        ensures failed { OnErr result (Rose self.old.faults self.new.faults) }
+        ensures kept { OnErr result (coming_of ≡ coming_of) }
+
+        // It never says that none comes, and a connection that came is no fault.
+        ensures came { IfOk result (λ link. CameAt self.old.side link) }
+        ensures counted { OnOk result (self.new.faults ≡ self.old.faults) }
+        ensures side { self.new.side ≡ self.old.side }
+    {
         match self.accept_soon() {
             Some(link) => Ok(Some(link)),
             None => {

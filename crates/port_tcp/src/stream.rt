@@ -1,4 +1,6 @@
 //! Connections over TCP.
+ghost use Rattle.std.specs.Prelude.{◌≡◌, IfOk};
+
 use mos_io::{StdSink, StdSource};
 use port_events::Side;
 use port_links::Link;
@@ -18,7 +20,9 @@ pub(crate) fn link_of(
     numbers: &AtomicU64,
     side: Side,
     stream: TcpStream,
-) -> io::Result<Link<TcpSource, TcpSink>> {
+) -> io::Result<Link<TcpSource, TcpSink>>
+    ensures { IfOk result (λ link. link.side ≡ side) }
+{
     let other = stream.try_clone()?;
     // A connection that gathers what it sends is slower and no less right.
     let _ = stream.set_nodelay(true);

@@ -1,6 +1,7 @@
 //! The ports of this machine, and the pauses of its workers.
-ghost use Rattle.std.specs.Prelude.{◌≡◌, IfErr};
+ghost use Rattle.std.specs.Prelude.{◌≡◌, IfErr, IfOk};
 ghost use Rattle.port_tcp.specs.Pauses.{NeverStops, every as every_of, length as length_of};
+ghost use Rattle.port_tcp.specs.Sides.{side_of};
 ghost use Rattle.program_ends.specs.declared.program_end.ProgramEnd.TheVariants.{NoPort};
 
 use crate::program_end::ProgramEnd;
@@ -22,7 +23,8 @@ const BEAT: u64 = 300;
 pub fn port_at<
     R: Net<Listener = TcpListener, Stream = TcpStream> + Clock + AllocGlobal + Eprint + Copy + Drop,
 >(rt: R, port: u16, side: Side, numbers: Arc<AtomicU64>) -> Result<TcpPort<R>, ProgramEnd>
-    ensures { IfErr result (λ end. end ≡ NoPort port) }
+    ensures fault { IfErr result (λ end. end ≡ NoPort port) }
+    ensures side { IfOk result (λ opened. side_of opened ≡ side) }
 {
     match TcpListener::bind(&rt, (Ipv4Addr::UNSPECIFIED, port)) {
         Ok(listener) => Ok(TcpPort::new(rt, listener, side, numbers)),

@@ -1,0 +1,13 @@
+-- At which side a port's connections are.
+use Rattle.std.specs.Prelude.{◌≡◌, Option, Some, None}
+use Rattle.port_events.specs.declared.event.Side.{Side}
+use Rattle.port_links.specs.declared.link.Link.{Link}
+use Rattle.port_tcp.specs.declared.port.TcpPort.{TcpPort}
+
+abbrev pub side_of : {R : Type 0} → TcpPort R → Side
+side_of p = p.side
+
+-- a connection came, at this side
+abbrev pub CameAt : {S K : Type 0} → Side → Option (Link S K) → Type 0
+CameAt side None = ⊥
+CameAt side (Some link) = link.side ≡ side
