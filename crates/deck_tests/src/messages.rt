@@ -20,8 +20,8 @@ fn opt_id(alloc: Global, text: &str) -> Result<OptId, FieldFault> {
     OptId::try_new(alloc, &chars)
 }
 
-// An item of the device dev1 with this objID.
-fn item(alloc: Global, item: &str, obj: &str) -> Result<Item, FieldFault>
+/// An item of the device dev1 with this objID.
+pub fn item(alloc: Global, item: &str, obj: &str) -> Result<Item, FieldFault>
     ensures { IfOk result (λ i. IsSoundItem i) }
 {
     let id = id(alloc, item)?;
@@ -46,7 +46,8 @@ fn item(alloc: Global, item: &str, obj: &str) -> Result<Item, FieldFault>
     })
 }
 
-fn header(alloc: Global) -> Result<Header, FieldFault>
+/// The header of the order R1.
+pub fn header(alloc: Global) -> Result<Header, FieldFault>
     ensures { IfOk result (λ h. AllFit tables.Body (header_events h)) }
 {
     let ro = id(alloc, "R1")?;

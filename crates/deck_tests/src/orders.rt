@@ -1,61 +1,11 @@
 //! Orders of one story, whose items have the mosID `dev1`.
 
-use mos_fields::{FieldFault, Id, OptId, Slug, let_go};
-use mos_values::{Header, Item, OrderBody, Story, Unreads};
+use crate::messages::{header, id, item};
+use mos_fields::let_go;
+use mos_values::{OrderBody, Story};
 use running_order::Order;
 use std::alloc::Global;
 use std::test::Fail;
-
-pub fn id(alloc: Global, text: &str) -> Result<Id, FieldFault> {
-    let chars = text.chars().collect::<Vec<char>>(alloc)?;
-    Id::try_new(alloc, &chars)
-}
-
-fn opt_id(alloc: Global, text: &str) -> Result<OptId, FieldFault> {
-    let chars = text.chars().collect::<Vec<char>>(alloc)?;
-    OptId::try_new(alloc, &chars)
-}
-
-// An item of the device dev1 with this objID.
-fn item(alloc: Global, item: &str, obj: &str) -> Result<Item, FieldFault> {
-    let id = id(alloc, item)?;
-    let obj = opt_id(alloc, obj)?;
-    let mos = opt_id(alloc, "dev1")?;
-    Ok(Item {
-        id,
-        slug: None,
-        obj,
-        mos,
-        mos_abstract: None,
-        obj_paths: None,
-        channel: None,
-        ed_start: None,
-        ed_dur: None,
-        user_timing_dur: None,
-        trigger: None,
-        macro_in: None,
-        macro_out: None,
-        metadata: Unreads::new(alloc),
-        others: Unreads::new(alloc),
-    })
-}
-
-fn header(alloc: Global) -> Result<Header, FieldFault> {
-    let ro = id(alloc, "R1")?;
-    let slug = Slug::try_new(alloc, &[])?;
-    Ok(Header {
-        ro,
-        slug,
-        channel: None,
-        ed_start: None,
-        ed_dur: None,
-        trigger: None,
-        macro_in: None,
-        macro_out: None,
-        metadata: Unreads::new(alloc),
-        others: Unreads::new(alloc),
-    })
-}
 
 // Adds these items, each of which has the objID O and its own number.
 fn push_items(alloc: Global, story: &mut Story, numbers: &str) -> Result<(), Fail> {

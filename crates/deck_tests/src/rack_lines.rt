@@ -1,6 +1,7 @@
 //! The lines of a deck that writes what it is told.
 
-use crate::orders::{id, order};
+use crate::messages::id;
+use crate::orders::order;
 use deck_rack::{Deck, DeckFault, LineDeck};
 use mos_fields::{Id, let_go};
 use mos_io::MemSink;

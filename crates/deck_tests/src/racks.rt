@@ -1,6 +1,7 @@
 //! Racks of decks that fail at chosen calls.
 
-use crate::orders::{id, order};
+use crate::messages::id;
+use crate::orders::order;
 use crate::shared_deck::SharedDeck;
 use deck_rack::{Deck, MemDeck, Rack};
 use mos_fields::let_go;

@@ -2,7 +2,7 @@
 ghost use Rattle.std.specs.Prelude.{◌≡◌, ◌≤◌};
 ghost use Rattle.mos_io.specs.Counts.{Rose};
 
-use crate::ends::{Patient, Telling};
+use crate::ends::{Patient, Telling, count_one};
 use crate::signs::{Sign, share};
 use mos_fields::NoMemory;
 use mos_io::{Failed, MemSource};
@@ -19,13 +19,6 @@ pub struct Reaching {
     sign: Sign,
     calls: u64,
     faults: u64,
-}
-
-fn count_one(count: &mut u64)
-    ensures rose { Rose count.old count.new }
-    ensures rises { count.old ≤ count.new }
-{
-    *count = count.saturating_add(1);
 }
 
 // A connection of this number.

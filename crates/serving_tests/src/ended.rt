@@ -1,5 +1,5 @@
 //! Each end of a connection.
-use crate::line_texts::text;
+use crate::words::text;
 use connection_lines::ended_line;
 use mos_fields::Field;
 use mos_lexer::Kind;

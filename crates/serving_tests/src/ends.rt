@@ -13,8 +13,8 @@ pub struct Patient {
     faults: u64,
 }
 
-// One fault more.
-fn count_one(count: &mut u64)
+/// Counts one more, and stays at the last value of its 64 bits.
+pub fn count_one(count: &mut u64)
     ensures rose { Rose count.old count.new }
     ensures rises { count.old ≤ count.new }
 {

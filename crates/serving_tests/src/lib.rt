@@ -11,8 +11,6 @@ mod ended;
 #[cfg(test)]
 mod ends;
 #[cfg(test)]
-mod line_texts;
-#[cfg(test)]
 mod lines;
 #[cfg(test)]
 mod pauses;

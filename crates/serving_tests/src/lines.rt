@@ -1,5 +1,5 @@
 //! Each form of a line.
-use crate::line_texts::text;
+use crate::words::text;
 use connection_lines::{accepted_line, dialed_line, ended_line, failed_line};
 use port_events::Side;
 use port_session::End;

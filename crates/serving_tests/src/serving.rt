@@ -5,8 +5,9 @@ ghost use Rattle.end_settings.specs.Devices.{AreDevices};
 use crate::dialer::Reaching;
 use crate::ends::{Patient, Telling};
 use crate::signs::{Sign, new_sign, share, wait_for};
+use crate::words::{time, wide};
 use end_settings::{ServerSettings, read_server_settings};
-use mos_fields::{MosTime, NoMemory, Zone, let_go, pair_ok};
+use mos_fields::{NoMemory, let_go, pair_ok};
 use mos_io::{FixedClock, MemPacer, MemSource};
 use port_events::Side;
 use port_links::{Link, MemListener};
@@ -36,29 +37,6 @@ lower = 8
 const HEARTBEAT: &str =
     "<mos><mosID>e</mosID><ncsID>ncs1</ncsID><messageID>1</messageID><heartbeat><time>2000-01-01T00:00:00</time></heartbeat></mos>";
 
-/// The time of all tests.
-fn time() -> MosTime {
-    MosTime {
-        year: 2000,
-        month: 1,
-        day: 1,
-        hour: 0,
-        minute: 0,
-        second: 0,
-        millis: None,
-        zone: Zone::None,
-    }
-}
-
-// The bytes of a text of ASCII characters.
-fn bytes_of(alloc: Global, text: &str) -> Result<Vec<u8>, NoMemory> {
-    let mut bytes = Vec::new(alloc);
-    for byte in text.as_bytes() {
-        bytes.extend_from_slice(&[0, *byte])?;
-    }
-    Ok(bytes)
-}
-
 // The signs that a source waits for.
 fn awaited(alloc: Global, signs: &[&Sign]) -> Result<Vec<Sign>, NoMemory> {
     let mut list = Vec::new(alloc);
@@ -75,7 +53,7 @@ fn editor(
     signs: &[&Sign],
     own: &Sign,
 ) -> Result<Link<Patient, Telling>, NoMemory> {
-    let (bytes, awaited) = pair_ok(bytes_of(alloc, HEARTBEAT), awaited(alloc, signs))?;
+    let (bytes, awaited) = pair_ok(wide(alloc, HEARTBEAT), awaited(alloc, signs))?;
     let source = MemSource::new(bytes, Vec::new(alloc), Vec::new(alloc));
     let source = Patient::new(source, awaited);
     match share(own) {
