@@ -1,6 +1,5 @@
 //! A dialer that reaches one port.
-ghost use Rattle.std.specs.Prelude.{◌≡◌, ◌≤◌};
-ghost use Rattle.mos_io.specs.Counts.{Rose};
+ghost use Rattle.std.specs.Prelude.{◌≡◌};
 
 use crate::ends::{Patient, Telling, count_one};
 use crate::signs::{Sign, share};
