@@ -9,3 +9,4 @@ pub mod AddedEntries
 pub mod ListedIds
 pub mod KeptUnits
 pub mod KnownFronts
+pub mod LookedRows

@@ -16,7 +16,7 @@ equal-by a b e = grind (arith, nat_tests)
 other-by : (a b : ℕ) → (a == b) ≡ false → a ≡ b → ⊥
 other-by a b e f = grind (arith, nat_tests)
 
-peer-at : (peers : List PeerTables) (d : ℕ) (x : PeerTables) → d < length peers → (e : ℕ) → peer_of (get_or (set peers d x) e no_peer_tables) ≡ set_number (λ e. peer_of (get_or peers e no_peer_tables)) d (peer_of x) e
+pub peer-at : (peers : List PeerTables) (d : ℕ) (x : PeerTables) → d < length peers → (e : ℕ) → peer_of (get_or (set peers d x) e no_peer_tables) ≡ set_number (λ e. peer_of (get_or peers e no_peer_tables)) d (peer_of x) e
 peer-at peers d x h e = by (e == d) refl
   where
     by : (c : Bool) → (e == d) ≡ c → peer_of (get_or (set peers d x) e no_peer_tables) ≡ (if c then peer_of x else peer_of (get_or peers e no_peer_tables))

@@ -4,3 +4,4 @@ pub mod Accepting
 pub mod Commands
 pub mod Starting
 pub mod Listed
+pub mod Looks

@@ -5,6 +5,7 @@ ghost use Rattle.mos_machines.specs.Values.{seen};
 ghost use Rattle.machine_answers.specs.Answers.{step_of};
 ghost use Rattle.ncs_core.specs.State.{ncs_of, devices_of, LeavesRest, sent_by};
 
+use crate::looks::{look_if_answered, look_on};
 use crate::ncs::Ncs;
 use machine_answers::{Sent, Step};
 use mos_fields::{MosTime, NoMemory};
@@ -51,6 +52,7 @@ impl<K: Keeper> Ncs<K> {
         if !self.peers[d as usize].is_upper(link) {
             return Step::Stale;
         }
+        look_if_answered(&mut self.looks, &self.peers, &self.journal, d as usize);
         self.peers[d as usize].answered(&self.journal, m)
     }
 
@@ -102,6 +104,7 @@ impl<K: Keeper> Ncs<K> {
         if !self.peers[d as usize].is_upper(link) {
             return Ok(Sent::Stale);
         }
-        self.peers[d as usize].next_send(&self.journal, now)
+        let from = look_on(&mut self.looks, &self.peers, &self.journal, d as usize);
+        self.peers[d as usize].next_send_from(&self.journal, now, from)
     }
 }

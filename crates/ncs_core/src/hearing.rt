@@ -15,6 +15,7 @@ ghost use Rattle.mos_values.specs.declared.message.Message.TheVariants as carrie
 ghost use Rattle.ncs_core.specs.Answers.{acked, other_status, list_said, peer_listed, IsHeartbeat};
 ghost use Rattle.ncs_core.specs.State.{ncs_of, devices_of, LeavesRest};
 
+use crate::looks::look_if_settled;
 use crate::ncs::Ncs;
 use crate::reading::{ack_with, other_ack};
 use machine_answers::{Heard, Status};
@@ -141,6 +142,7 @@ impl<K: Keeper> Ncs<K> {
     {
         match m {
             Message::Heartbeat(time) => {
+                look_if_settled(&mut self.looks, &self.peers, &self.journal, d as usize);
                 self.peers[d as usize].settle(&self.journal, true);
                 Ok(Heard::Say(Message::Heartbeat(*time)))
             }

@@ -12,6 +12,7 @@ mod hearing;
 mod keeping;
 mod limits;
 mod listing;
+mod looks;
 mod ncs;
 mod orders;
 mod reading;

@@ -5,6 +5,7 @@ ghost use Rattle.mos_edits.specs.Entries.{entry_count, order_now};
 ghost use Rattle.server_peer.specs.Parts.{upper_of, view_of};
 ghost use Rattle.ncs_core.specs.State.{ncs_of, devices_of};
 
+use crate::looks::Looks;
 use crate::orders::Orders;
 use mos_fields::Id;
 use rundown_log::{Journal, Keeper};
@@ -23,19 +24,21 @@ pub struct Ncs<K: Keeper> {
     pub(crate) journal: Journal,
     pub(crate) orders: Orders,
     pub(crate) peers: Vec<Peer>,
+    pub(crate) looks: Looks,
     pub(crate) stopped: bool,
 }
 
 impl<K: Keeper> Model for Ncs<K> {
     ghost use Rattle.std.specs.Prelude.{◌≤◌, length};
-    ghost use Rattle.ncs_core.specs.State.{NcsTables, AreOrders};
+    ghost use Rattle.ncs_core.specs.Looks.{AreLooked};
+    ghost use Rattle.ncs_core.specs.State.{NcsTables, AreOrders, states};
     ghost use Rattle.ncs_core.specs.Starting.{IsKept};
 
     ghost Value = { NcsTables K };
 
     ghost view = { λ n. record { server = record { journal = n.journal; stopped = n.stopped; faults = K.faults n.keeper; peers = n.peers.items }; keeper = n.keeper; kept = K.kept n.keeper } };
 
-    ghost invariant = { λ n. AreOrders n.journal n.orders × (length n.peers.items ≤ 64) × (1 ≤ length n.peers.items) × IsKept n.stopped (K.kept n.keeper) (K.certainty n.keeper) n.journal };
+    ghost invariant = { λ n. AreOrders n.journal n.orders × (length n.peers.items ≤ 64) × (1 ≤ length n.peers.items) × IsKept n.stopped (K.kept n.keeper) (K.certainty n.keeper) n.journal × AreLooked n.journal (states n.peers.items) n.looks };
 }
 
 impl<K: Keeper> Ncs<K> {

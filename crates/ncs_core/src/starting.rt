@@ -9,6 +9,7 @@ ghost use Rattle.ncs_core.specs.State.{ncs_of, devices_of, AreNew, AreOrders};
 
 use crate::accepting::edit_order;
 use crate::fault::{CommandFault, StartCause, StartFault};
+use crate::looks::Looks;
 use crate::ncs::Ncs;
 use crate::orders::Orders;
 use mos_fields::{NoMemory, let_go};
@@ -154,6 +155,7 @@ impl<K: Keeper> Ncs<K> {
                 journal,
                 orders,
                 peers,
+                looks: Looks::new(),
                 stopped: false,
             }),
             Err(cause) => {
@@ -251,6 +253,7 @@ impl<K: Keeper> Ncs<K> {
             journal,
             orders,
             peers,
+            looks: _,
             stopped: _,
         } = self;
         let_go(peers);

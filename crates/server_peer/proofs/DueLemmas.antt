@@ -102,7 +102,7 @@ is-due journal r (From m) k n e h =
     made-due journal r (From m) k m n false e (ap (λ (i : ℕ). due_found m false (slice_get (positions r journal) i)) m_is)
 
 -- the one that was found so far stands at this place or before it
-abbrev AtMost : Option Due → ℕ → Type 0
+abbrev pub AtMost : Option Due → ℕ → Type 0
 AtMost None n = ⊥
 AtMost (Some d) n = d.place ≤ n
 
@@ -136,7 +136,7 @@ first-best : (journal : List Entry) (best : Option Due) (rows : List (Text × Vi
 first-best journal best [] n h = h
 first-best journal best (x ∷ xs) n h = first-best journal (sooner best (due_of journal x.0 x.1)) xs n (sooner-left best (due_of journal x.0 x.1) n h)
 
-first-row : (journal : List Entry) (best : Option Due) (rows : List (Text × View)) (r : Text) (e : Due) → due_of journal r (look Out rows r) ≡ Some e → AtMost (first_from journal best rows) e.place
+pub first-row : (journal : List Entry) (best : Option Due) (rows : List (Text × View)) (r : Text) (e : Due) → due_of journal r (look Out rows r) ≡ Some e → AtMost (first_from journal best rows) e.place
 first-row journal best [] r e h = absurd (cc)
 first-row journal best (x ∷ xs) r e h = by (same_id r x.0) refl h (first-row journal (sooner best (due_of journal x.0 x.1)) xs r e)
   where
@@ -203,7 +203,7 @@ got (x ∷ xs) zero h = record { entry = x; there = refl }
 got (x ∷ xs) (suc n) h = let g = got xs n (omega (arith, h)) in record { entry = g.entry; there = g.there }
 
 -- what stands before the one that was found isn't due
-idle-before : (journal : List Entry) (rows : List (Text × View)) (n : ℕ) → n < length journal → (AtMost (first_from journal None rows) n → ⊥) → due_in (look Out rows) (λ r. 0) journal n ≡ Idle
+pub idle-before : (journal : List Entry) (rows : List (Text × View)) (n : ℕ) → n < length journal → (AtMost (first_from journal None rows) n → ⊥) → due_in (look Out rows) (λ r. 0) journal n ≡ Idle
 idle-before journal rows n w b = by (idle-or (due_in (look Out rows) (λ r. 0) journal n))
   where
     by : (due_in (look Out rows) (λ r. 0) journal n ≡ Idle) ⊎ (due_in (look Out rows) (λ r. 0) journal n ≡ Idle → ⊥) → due_in (look Out rows) (λ r. 0) journal n ≡ Idle

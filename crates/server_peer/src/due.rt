@@ -1,11 +1,15 @@
 //! The entry that a device is sent next.
-ghost use Rattle.std.specs.Prelude.{◌≡◌, ◌≤◌, None, true, false, length, slice_get};
+ghost use Rattle.std.specs.Prelude.{◌≡◌, ◌<◌, ◌≤◌, None, true, false, length, slice_get};
+ghost use Rattle.mos_machines.specs.Server.View.{Out};
+ghost use Rattle.mos_machines.specs.Tables.{look};
 ghost use Rattle.rundown_log.specs.Positions.{positions};
 ghost use Rattle.server_peer.specs.Parts.{view_of};
-ghost use Rattle.server_peer.specs.Dues.{due_found, due_again, due_of as due_of_view, sooner as sooner_of, first_from};
+ghost use Rattle.server_peer.specs.Dues.{due_found, due_again, due_of as due_of_view, sooner as sooner_of, first_from, IsIdleBefore, at_place as at_place_of, due_here as due_here_of};
 
 use crate::view::{Seen, View, view_in_row};
+use crate::views::view_in;
 use mos_fields::Id;
+use order_table::OrderTable;
 use rundown_log::Journal;
 
 // An entry that is due: its place in the journal, its number in its order, or the number of the one after a READY that is
@@ -55,7 +59,7 @@ fn again_from(m: u64, place: Option<usize>) -> Option<Due>
 }
 
 // What a view makes due.
-fn due_of(journal: &Journal, ro: &Id, view: View) -> Option<Due>
+pub fn due_of(journal: &Journal, ro: &Id, view: View) -> Option<Due>
     ensures { result ≡ due_of_view journal.now ro.now (view_of view) }
 {
     match view {
@@ -67,7 +71,7 @@ fn due_of(journal: &Journal, ro: &Id, view: View) -> Option<Due>
 }
 
 // The one of two that stands first in the journal.
-fn sooner(a: Option<Due>, b: Option<Due>) -> Option<Due>
+pub fn sooner(a: Option<Due>, b: Option<Due>) -> Option<Due>
     ensures { result ≡ sooner_of a b }
 {
     match (a, b) {
@@ -78,7 +82,7 @@ fn sooner(a: Option<Due>, b: Option<Due>) -> Option<Due>
 }
 
 // The one of all views that stands first in the journal.
-pub fn first_due(journal: &Journal, rows: &[(Id, Seen)]) -> Option<Due>
+fn first_due(journal: &Journal, rows: &[(Id, Seen)]) -> Option<Due>
     ensures { result ≡ first_from journal.now None rows.now }
 {
     let mut best = None;
@@ -86,6 +90,55 @@ pub fn first_due(journal: &Journal, rows: &[(Id, Seen)]) -> Option<Due>
         best = sooner(best, due_of(journal, &row.0, view_in_row(&row.1)));
     }
     best
+}
+
+// What is due, where it stands at this place.
+fn at_place(place: usize, due: Option<Due>) -> Option<Due>
+    ensures { result ≡ at_place_of place due }
+{
+    match due {
+        Some(due) => { if due.place == place { Some(due) } else { None } }
+        None => None,
+    }
+}
+
+// The entry at this place, where it is due.
+fn due_here(journal: &Journal, views: &OrderTable<Seen>, place: usize) -> Option<Due>
+    requires { place < length journal.now }
+    ensures { result ≡ due_here_of journal.now views.now place }
+{
+    let ro = journal.at(place).ro();
+    at_place(place, due_of(journal, ro, view_in(views, ro)))
+}
+
+// The first entry from this place on that is due, where none before it is.
+fn due_behind(journal: &Journal, views: &OrderTable<Seen>, from: usize) -> Option<Due>
+    requires { IsIdleBefore from journal.now (look Out views.now) }
+    ensures { result ≡ first_from journal.now None views.now }
+{
+    views.has_ascending_ids();
+    let mut place = from;
+    'places: while place < journal.len() {
+        match due_here(journal, views, place) {
+            Some(due) => return Some(due),
+            None => {}
+        }
+        place += 1;
+    }
+    None
+}
+
+// The entry that is due and stands first in the journal, where none before this place is due. Of the entries from that place
+// on and the views it goes over those of which there are fewer.
+pub fn first_due_from(journal: &Journal, views: &OrderTable<Seen>, from: usize) -> Option<Due>
+    requires { IsIdleBefore from journal.now (look Out views.now) }
+    ensures { result ≡ first_from journal.now None views.now }
+{
+    if journal.len().saturating_sub(from) > views.rows().len() {
+        first_due(journal, views.rows())
+    } else {
+        due_behind(journal, views, from)
+    }
 }
 
 // How many entries there are, which is a number of 64 bits.

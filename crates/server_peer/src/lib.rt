@@ -12,6 +12,7 @@ mod known;
 mod peer;
 mod sends;
 mod statuses;
+mod until;
 mod upper;
 mod view;
 mod views;

@@ -1,6 +1,7 @@
 //! What the server sends a device next.
-ghost use Rattle.std.specs.Prelude.{◌≡◌, Some, OnOk, OnErr, IfOk, IsSome};
-ghost use Rattle.mos_machines.specs.Server.{Upper as ServerUpper, peer_next};
+ghost use Rattle.std.specs.Prelude.{◌≡◌, ◌≤◌, length, true, Some, OnOk, OnErr, IfOk, IsSome};
+ghost use Rattle.mos_machines.specs.Server.{Upper as ServerUpper, peer_answered, peer_next, peer_settled};
+ghost use Rattle.mos_machines.specs.Messages.{Message as Said};
 ghost use Rattle.mos_machines.specs.Tables.{peer_of};
 ghost use Rattle.mos_machines.specs.Values.{edit_message as edit_message_of};
 ghost use Rattle.order_table.specs.Rows.{find_row};
@@ -8,10 +9,11 @@ ghost use Rattle.machine_answers.specs.declared.answers.Sent.TheVariants as sent
 ghost use Rattle.machine_answers.specs.declared.answers.Tag.TheVariants as tags;
 ghost use Rattle.mos_values.specs.declared.message.Message.TheVariants as carried;
 ghost use Rattle.server_peer.specs.Parts.{out_of, upper_of, link_if_idle as link_if_idle_of, idle_link as idle_link_of, sent_of, sent_idle, IsNumbered};
-ghost use Rattle.server_peer.specs.Dues.{due_tag as due_tag_of, due_out};
+ghost use Rattle.server_peer.specs.Dues.{due_tag as due_tag_of, due_out, IsIdleBefore};
 
-use crate::due::{Due, entries_in, first_due};
+use crate::due::{Due, entries_in, first_due_from};
 use crate::peer::Peer;
+use crate::until::{first_listed, out_until, place_until};
 use crate::upper::{ServerOut, Upper};
 use machine_answers::{Sent, Tag};
 use mos_fields::{Id, MosTime, NoMemory};
@@ -135,15 +137,22 @@ impl Peer {
         Ok(sent)
     }
 
-    fn send(&mut self, journal: &Journal, link: u64, now: &MosTime) -> Result<Sent, NoMemory>
-        requires { idle_link_of self.old.upper ≡ Some link }
+    fn send(
+        &mut self,
+        journal: &Journal,
+        link: u64,
+        now: &MosTime,
+        from: usize,
+    ) -> Result<Sent, NoMemory>
+        requires link { idle_link_of self.old.upper ≡ Some link }
+        requires idle { IsIdleBefore from journal.now (peer_of self.old).views }
         ensures answer { IfOk result (λ a. a ≡ sent_of (peer_next journal.now now.now (peer_of self.old)).1) }
         ensures step { OnOk result (peer_of self.new ≡ (peer_next journal.now now.now (peer_of self.old)).0) }
         ensures err { OnErr result (self.new ≡ self.old) }
     {
         self.views.has_ascending_ids();
         let _count = entries_in(journal);
-        match first_due(journal, self.views.rows()) {
+        match first_due_from(journal, &self.views, from) {
             Some(due) => self.send_entry(link, journal.at(due.place), due),
             None => Ok(self.send_beat(link, now)),
         }
@@ -159,9 +168,59 @@ impl Peer {
         ensures step { OnOk result (peer_of self.new ≡ (peer_next journal.now now.now (peer_of self.old)).0) }
         ensures err { OnErr result (self.new ≡ self.old) }
     {
+        self.next_send_from(journal, now, 0)
+    }
+
+    /// The same, where it is known that no entry before this place is due. It goes over the entries from there on, or over the
+    /// views, of whichever there are fewer.
+    pub fn next_send_from(
+        &mut self,
+        journal: &Journal,
+        now: &MosTime,
+        from: usize,
+    ) -> Result<Sent, NoMemory>
+        requires { IsIdleBefore from journal.now (peer_of self.old).views }
+        ensures answer { IfOk result (λ a. a ≡ sent_of (peer_next journal.now now.now (peer_of self.old)).1) }
+        ensures step { OnOk result (peer_of self.new ≡ (peer_next journal.now now.now (peer_of self.old)).0) }
+        ensures err { OnErr result (self.new ≡ self.old) }
+    {
         match idle_link(&self.upper) {
-            Some(link) => self.send(journal, link, now),
+            Some(link) => self.send(journal, link, now, from),
             None => Ok(Sent::Nothing),
         }
+    }
+
+    /// The place of the first entry that is due, or the end of the journal, where it is known that no entry before this place
+    /// is due. It takes no memory.
+    pub fn look(&self, journal: &Journal, from: usize) -> usize
+        requires { IsIdleBefore from journal.now (peer_of self.now).views }
+        ensures idle { IsIdleBefore result journal.now (peer_of self.now).views }
+        ensures within { result ≤ length journal.now }
+    {
+        self.views.has_ascending_ids();
+        match first_due_from(journal, &self.views, from) {
+            Some(due) => due.place,
+            None => journal.len(),
+        }
+    }
+
+    /// A place before which nothing is due once what is in flight is answered, whatever the answer is, where it is known that
+    /// no entry before this place is due. It takes no memory.
+    pub fn look_if_answered(&self, journal: &Journal, from: usize) -> usize
+        requires { IsIdleBefore from journal.now (peer_of self.now).views }
+        ensures idle { (m : Said) → IsIdleBefore result journal.now (peer_answered journal.now (peer_of self.now) m).0.views }
+        ensures within { result ≤ from }
+    {
+        out_until(journal, &self.upper, from)
+    }
+
+    /// A place before which nothing is due once a heartbeat of the device is heard, where it is known that no entry before
+    /// this place is due. It takes no memory.
+    pub fn look_if_settled(&self, journal: &Journal, from: usize) -> usize
+        requires { IsIdleBefore from journal.now (peer_of self.now).views }
+        ensures idle { IsIdleBefore result journal.now (peer_settled journal.now true (peer_of self.now)).views }
+        ensures within { result ≤ from }
+    {
+        place_until(from, first_listed(journal, self.views.rows()))
     }
 }

@@ -1,9 +1,13 @@
-use Rattle.std.proofs.Common.{◌≡◌, set, false, ap, ◌∙◌}
-use Rattle.mos_machines.specs.Server.{peer_settled}
+use Rattle.std.proofs.Common.{◌≡◌, set, false, ap, ◌∙◌, ℕ, ◌<◌, ◌≤◌, List, length, sym, subst}
+use Rattle.mos_machines.specs.Server.{peer_settled, PeerState}
 use Rattle.mos_machines.specs.Steps.{with_peer}
-use Rattle.mos_machines.specs.Tables.{server_state}
+use Rattle.mos_machines.specs.Tables.{server_state, PeerTables, peer_of}
 use Rattle.ncs_core.specs.State.{NcsTables, ncs_of}
 use Rattle.ncs_core.proofs.PeerRows.{set-peer, peer-here}
+use Rattle.std.proofs.lemmas.List.{length-set}
+use Rattle.server_peer.specs.Dues.{IsIdleBefore}
+use Rattle.server_peer.proofs.LookLaws.{idle-unsettled}
+use Rattle.ncs_core.proofs.LookedRows.{looked-kept}
 use Rattle.ncs_core.proofs.ncs.Ncs.hear_other.Goals as goal
 
 pub returns-clause-step : goal.returns-clause-step
@@ -15,3 +19,14 @@ returns-clause-step g c =
     let here = peer-here c.self.inside.peers.items t.server.peers d c.index_mut.result.now same c.requires c.index_mut.ensures.value in
     ap (λ (n : NcsTables _). server_state (record n.server { peers = set n.server.peers d c.settle.new.self })) c.self.view_is
     ∙ (set-peer t.server d c.settle.new.self c.requires ∙ ap (with_peer (ncs_of t) d) (c.settle.ensures.step ∙ (λ i. peer_settled (journal i) false (here i))))
+
+pub invariant_of-self : goal.invariant_of-self
+invariant_of-self g c =
+    let t : NcsTables _ = c.args.self.now in
+    let d = c.args.d in
+    let items = c.self.inside.peers.items in
+    let same : items ≡ t.server.peers = ap (λ (n : NcsTables _). n.server.peers) c.self.view_is in
+    let h : d < length items = subst (λ (xs : List PeerTables). d < length xs) (sym same) c.requires in
+    let few : length (set items d c.settle.new.self) ≤ 64 = subst (λ (n : ℕ). n ≤ 64) (sym (length-set items d c.settle.new.self)) c.self.invariant.1 in
+    let one : 1 ≤ length (set items d c.settle.new.self) = subst (λ (n : ℕ). 1 ≤ n) (sym (length-set items d c.settle.new.self)) c.self.invariant.2 in
+    (c.self.invariant.0, few, one, c.self.invariant.3, looked-kept c.self.inside.journal items c.self.inside.looks d c.index_mut.result.now c.settle.new.self h c.index_mut.ensures.value (λ n i. subst (λ (s : PeerState). IsIdleBefore n c.self.inside.journal s.views) (sym c.settle.ensures.step) (idle-unsettled n c.self.inside.journal (peer_of c.index_mut.result.now).views i)) c.self.invariant.4)

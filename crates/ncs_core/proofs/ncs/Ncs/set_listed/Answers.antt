@@ -1,10 +1,15 @@
-use Rattle.std.proofs.Common.{◌≡◌, set, IsSome, sym, ap, ◌∙◌, subst}
+use Rattle.std.proofs.Common.{◌≡◌, set, IsSome, sym, ap, ◌∙◌, subst, ℕ, ◌<◌, ◌≤◌, List, length}
 use Rattle.mos_machines.specs.Steps.{with_peer}
-use Rattle.mos_machines.specs.Tables.{PeerTables, server_state}
+use Rattle.mos_machines.specs.Tables.{PeerTables, server_state, peer_of}
 use Rattle.order_table.specs.Rows.{find_row}
 use Rattle.ncs_core.specs.Answers.{peer_listed}
 use Rattle.ncs_core.specs.State.{NcsTables, ncs_of}
 use Rattle.ncs_core.proofs.PeerRows.{set-peer, peer-here, table-here}
+use Rattle.std.proofs.lemmas.List.{length-set}
+use Rattle.mos_machines.specs.Server.{PeerState}
+use Rattle.server_peer.specs.Dues.{IsIdleBefore}
+use Rattle.server_peer.proofs.LookLaws.{idle-listed}
+use Rattle.ncs_core.proofs.LookedRows.{looked-kept}
 use Rattle.ncs_core.proofs.ncs.Ncs.set_listed.Goals as goal
 
 pub listed-requires : goal.listed-requires
@@ -22,3 +27,14 @@ returns-clause-step g c =
     let here = peer-here c.self.inside.peers.items t.server.peers d c.index_mut.result.now same c.requires.within c.index_mut.ensures.value in
     ap (λ (n : NcsTables _). server_state (record n.server { peers = set n.server.peers d c.listed.new.self })) c.self.view_is
     ∙ (set-peer t.server d c.listed.new.self c.requires.within ∙ ap (with_peer (ncs_of t) d) (c.listed.ensures ∙ (λ i. peer_listed (journal i) c.args.ro.now (here i))))
+
+pub invariant_of-self : goal.invariant_of-self
+invariant_of-self g c =
+    let t : NcsTables _ = c.args.self.now in
+    let d = c.args.d in
+    let items = c.self.inside.peers.items in
+    let same : items ≡ t.server.peers = ap (λ (n : NcsTables _). n.server.peers) c.self.view_is in
+    let h : d < length items = subst (λ (xs : List PeerTables). d < length xs) (sym same) c.requires.within in
+    let few : length (set items d c.listed.new.self) ≤ 64 = subst (λ (n : ℕ). n ≤ 64) (sym (length-set items d c.listed.new.self)) c.self.invariant.1 in
+    let one : 1 ≤ length (set items d c.listed.new.self) = subst (λ (n : ℕ). 1 ≤ n) (sym (length-set items d c.listed.new.self)) c.self.invariant.2 in
+    (c.self.invariant.0, few, one, c.self.invariant.3, looked-kept c.self.inside.journal items c.self.inside.looks d c.index_mut.result.now c.listed.new.self h c.index_mut.ensures.value (λ n i. subst (λ (s : PeerState). IsIdleBefore n c.self.inside.journal s.views) (sym c.listed.ensures) (idle-listed n c.self.inside.journal (peer_of c.index_mut.result.now).views c.args.ro.now _ i)) c.self.invariant.4)

@@ -10,10 +10,11 @@ use Rattle.ncs_core.proofs.AcceptedRows.{orders-same, acceptance-here, orders-ad
 use Rattle.ncs_core.proofs.CommandSteps.{refused-keeper, refused-tables, taken-tables, unkept-keeper, unkept-tables}
 use Rattle.ncs_core.proofs.KeptUnits.{undone-units}
 use Rattle.ncs_core.proofs.KnownFronts.{known-kept, known-unkept}
+use Rattle.ncs_core.proofs.LookedRows.{looked-pushed, looked-same}
 use Rattle.ncs_core.proofs.ncs.Ncs.take.Goals as goal
 
 pub invariant_of-self : goal.invariant_of-self
-invariant_of-self g c = (orders-same c.self.inside.journal c.self.inside.orders c.accept_edit.new.orders c.self.invariant.0 c.in-Err.ensures.err, c.self.invariant.1, c.self.invariant.2, c.self.invariant.3)
+invariant_of-self g c = (orders-same c.self.inside.journal c.self.inside.orders c.accept_edit.new.orders c.self.invariant.0 c.in-Err.ensures.err, c.self.invariant.1, c.self.invariant.2, c.self.invariant.3, c.self.invariant.4)
 
 pub invariant_of-self-in-Ok-keep_and_give : goal.invariant_of-self-in-Ok-keep_and_give
 invariant_of-self-in-Ok-keep_and_give g c =
@@ -21,6 +22,7 @@ invariant_of-self-in-Ok-keep_and_give g c =
     let count : length (with_items c.self.inside.peers c.keep_and_give.new.peers).items ≡ length c.self.inside.peers.items = ap length whole ∙ (c.keep_and_give.auto.peers ∙ ap length c.deref_mut.ensures.value) in
     let few : length (with_items c.self.inside.peers c.keep_and_give.new.peers).items ≤ 64 = subst (λ (n : ℕ). n ≤ 64) (sym count) c.self.invariant.1 in
     let one : 1 ≤ length (with_items c.self.inside.peers c.keep_and_give.new.peers).items = subst (λ (n : ℕ). 1 ≤ n) (sym count) c.self.invariant.2 in
+    let begun : states c.deref_mut.result.now ≡ states c.self.inside.peers.items = ap states c.deref_mut.ensures.value in
     let running : c.self.inside.stopped ≡ false = ap (λ (n : NcsTables _). n.server.stopped) c.self.view_is ∙ c.requires.running in (
       orders-added c.self.inside.journal c.keep_and_give.new.journal (entry_of c.args.edit.now) (entry_of c.args.edit.now) c.self.inside.orders c.accept_edit.new.orders c.self.invariant.0 refl c.in-Ok.ensures.rows c.in-Ok-keep_and_give.ensures.journal,
       few,
@@ -28,6 +30,7 @@ invariant_of-self-in-Ok-keep_and_give g c =
       known-kept c.self.inside.stopped (g.K.Keeper.kept c.self.inside.keeper) (g.K.Keeper.kept c.keep_and_give.new.keeper) (g.K.Keeper.faults c.self.inside.keeper) (g.K.Keeper.faults c.keep_and_give.new.keeper) (g.K.Keeper.certainty c.self.inside.keeper) (g.K.Keeper.certainty c.keep_and_give.new.keeper) c.self.inside.journal c.keep_and_give.new.journal (entry_of c.args.edit.now) running c.self.invariant.3
           (sym (acceptance-here c.self.inside.journal c.self.inside.journal (entry_of c.args.edit.now) (entry_of c.args.edit.now) c.self.inside.orders c.self.invariant.0 c.has_ascending_ids.ensures refl refl) ∙ c.in-Ok.ensures.accepted)
           c.in-Ok-keep_and_give.ensures.appends c.in-Ok-keep_and_give.ensures.certainty c.in-Ok-keep_and_give.ensures.journal,
+      looked-pushed c.self.inside.journal c.keep_and_give.new.journal (entry_of c.args.edit.now) (states c.self.inside.peers.items) (states (with_items c.self.inside.peers c.keep_and_give.new.peers).items) c.self.inside.looks c.in-Ok-keep_and_give.ensures.journal (ap states whole ∙ (c.in-Ok-keep_and_give.ensures.peers ∙ (λ i. λ d. peer_given (entry_of c.args.edit.now) (entry_count c.self.inside.journal (entry_of c.args.edit.now).ro) (begun i d)))) c.self.invariant.4,
     )
 
 pub undo-requires-clause-there : goal.undo-requires-clause-there
@@ -44,6 +47,7 @@ invariant_of-self-in-Err-keep_and_give g c =
     let count : length (with_items c.self.inside.peers c.keep_and_give.new.peers).items ≡ length c.self.inside.peers.items = ap length whole ∙ (c.keep_and_give.auto.peers ∙ ap length c.deref_mut.ensures.value) in
     let few : length (with_items c.self.inside.peers c.keep_and_give.new.peers).items ≤ 64 = subst (λ (n : ℕ). n ≤ 64) (sym count) c.self.invariant.1 in
     let one : 1 ≤ length (with_items c.self.inside.peers c.keep_and_give.new.peers).items = subst (λ (n : ℕ). 1 ≤ n) (sym count) c.self.invariant.2 in
+    let begun : states c.deref_mut.result.now ≡ states c.self.inside.peers.items = ap states c.deref_mut.ensures.value in
     let running : c.self.inside.stopped ≡ false = ap (λ (n : NcsTables _). n.server.stopped) c.self.view_is ∙ c.requires.running in (
       orders-undone c.self.inside.journal c.keep_and_give.new.journal (entry_of c.args.edit.now) c.self.inside.orders c.accept_edit.new.orders c.undo.new.orders c.edit_ro.result.now c.in-Ok.order c.self.invariant.0 c.in-Ok.ensures.rows c.edit_ro.ensures c.in-Ok.ensures.order
           c.undo.ensures c.in-Err-keep_and_give.ensures.journal_err,
@@ -51,6 +55,7 @@ invariant_of-self-in-Err-keep_and_give g c =
       one,
       known-unkept c.self.inside.stopped c.is_failed-self-inside.result (g.K.Keeper.kept c.self.inside.keeper) (g.K.Keeper.kept c.keep_and_give.new.keeper) (g.K.Keeper.faults c.self.inside.keeper) (g.K.Keeper.faults c.keep_and_give.new.keeper) (g.K.Keeper.certainty c.self.inside.keeper) (g.K.Keeper.certainty c.keep_and_give.new.keeper) c.self.inside.journal c.keep_and_give.new.journal (entry_of c.args.edit.now)
           c.in-Err-keep_and_give.fault running c.is_failed-self-inside.ensures c.self.invariant.3 c.in-Err-keep_and_give.ensures.appends c.in-Err-keep_and_give.ensures.certainty c.in-Err-keep_and_give.ensures.journal_err,
+      looked-same c.self.inside.journal c.keep_and_give.new.journal (states c.self.inside.peers.items) (states (with_items c.self.inside.peers c.keep_and_give.new.peers).items) c.self.inside.looks c.in-Err-keep_and_give.ensures.journal_err (ap states whole ∙ (c.in-Err-keep_and_give.ensures.peers_err ∙ begun)) c.self.invariant.4,
     )
 
 pub returns-in-Err-clause-step : goal.returns-in-Err-clause-step

@@ -1,0 +1,20 @@
+use Rattle.std.proofs.Common.{◌≡◌, ℕ, ◌<◌, ◌≤◌, List, length, set, sym, ap, subst}
+use Rattle.std.proofs.lemmas.List.{length-set}
+use Rattle.mos_machines.specs.Server.{PeerState}
+use Rattle.mos_machines.specs.Tables.{PeerTables, peer_of}
+use Rattle.server_peer.specs.Dues.{IsIdleBefore}
+use Rattle.server_peer.proofs.LookLaws.{idle-unlisted}
+use Rattle.ncs_core.specs.State.{NcsTables}
+use Rattle.ncs_core.proofs.LookedRows.{looked-kept}
+use Rattle.ncs_core.proofs.ncs.Ncs.device_accepted.Goals as goal
+
+pub invariant_of-self : goal.invariant_of-self
+invariant_of-self g c =
+    let t : NcsTables _ = c.args.self.now in
+    let d = c.args.d in
+    let items = c.self.inside.peers.items in
+    let same : items ≡ t.server.peers = ap (λ (n : NcsTables _). n.server.peers) c.self.view_is in
+    let h : d < length items = subst (λ (xs : List PeerTables). d < length xs) (sym same) c.requires in
+    let few : length (set items d c.linked.new.self) ≤ 64 = subst (λ (n : ℕ). n ≤ 64) (sym (length-set items d c.linked.new.self)) c.self.invariant.1 in
+    let one : 1 ≤ length (set items d c.linked.new.self) = subst (λ (n : ℕ). 1 ≤ n) (sym (length-set items d c.linked.new.self)) c.self.invariant.2 in
+    (c.self.invariant.0, few, one, c.self.invariant.3, looked-kept c.self.inside.journal items c.self.inside.looks d c.index_mut.result.now c.linked.new.self h c.index_mut.ensures.value (λ n i. subst (λ (s : PeerState). IsIdleBefore n c.self.inside.journal s.views) (sym c.linked.ensures) (idle-unlisted n c.self.inside.journal (peer_of c.index_mut.result.now).views i)) c.self.invariant.4)
