@@ -62,3 +62,14 @@ ended_line number side device end = connection_text number side device ++ codes 
 -- none could be opened
 abbrev pub failed_line : Side → Text → Text → ℕ → List ℕ → List ℕ
 failed_line side device host port cause = codes "dial " ++ side_text side ++ device_text device ++ codes " to " ++ place_text host port ++ codes " failed: " ++ cause ++ 10 ∷ []
+
+-- a port takes no connections, and takes some again
+abbrev pub stalled_line : Side → List ℕ → List ℕ
+stalled_line side cause = codes "port " ++ side_text side ++ codes " can't take connections: " ++ cause ++ 10 ∷ []
+
+abbrev pub works_line : Side → List ℕ
+works_line side = codes "port " ++ side_text side ++ codes " takes connections again\n"
+
+-- a device was silent for so many seconds
+abbrev pub silent_line : Side → Text → ℕ → List ℕ
+silent_line side device seconds = side_text side ++ device_text device ++ codes " hasn't answered for " ++ decimal seconds ++ codes " s\n"

@@ -6,6 +6,9 @@
 //! connection 4 upper dev1 to 127.0.0.1:10541
 //! connection 4 upper dev1 ended: Closed
 //! dial upper dev1 to 127.0.0.1:10541 failed: ConnectionRefused
+//! upper dev1 hasn't answered for 30 s
+//! port upper can't take connections: Uncategorized
+//! port upper takes connections again
 //! ```
 #![tactic(auto)]
 
@@ -13,5 +16,7 @@ mod lines;
 mod parts;
 mod saying;
 
-pub use lines::{accepted_line, dialed_line, ended_line, failed_line};
+pub use lines::{
+    accepted_line, dialed_line, ended_line, failed_line, silent_line, stalled_line, works_line,
+};
 pub use saying::say;

@@ -8,12 +8,13 @@ use message_runs::MessageEnd;
 use mos_io::{Sink, StdSink, StdSource};
 use port_events::Side;
 use port_links::Dialer;
-use port_tcp::TcpDialer;
+use port_tcp::{Common, TcpDialer};
 use std::io::{ErrorKind, Lock};
+use std::net::{Net, TcpStream};
 use std::process::ExitCode;
 use std::rt::Files;
-use std::sync::atomic::AtomicU64;
 use std::sync::{Arc, Wait};
+use std::time::Clock;
 use std::{env, fs};
 use stream_commands::refused_line;
 
@@ -45,16 +46,25 @@ fn say(rt: &HostRuntime, text: Option<&str>) {
 }
 
 /// What opens the connection to the server.
-fn dialer_of(rt: &HostRuntime) -> Result<TcpDialer<HostRuntime>, EditStatus> {
-    match Arc::new(rt.alloc(), AtomicU64::new(1)) {
-        Ok(numbers) => Ok(TcpDialer::new(*rt, rt.alloc(), Side::Editor, numbers)),
+fn dialer_of<R: Net<Stream = TcpStream> + Clock + Wait + Eprint + AllocGlobal + Copy + Drop>(
+    rt: &R,
+) -> Result<TcpDialer<R>, EditStatus> {
+    let Ok(common) = Arc::new(rt.alloc(), Common::new(1)) else {
+        return Err(EditStatus::NoMemory);
+    };
+    match TcpDialer::new(*rt, rt.alloc(), Side::Editor, common, None) {
+        Ok(dialer) => Ok(dialer),
         Err(_) => Err(EditStatus::NoMemory),
     }
 }
 
 /// A run of the lines on standard input.
-fn run_lines<R: AllocGlobal + Wait>(rt: &R, host: &HostRuntime, words: &[String]) -> EditStatus {
-    match dialer_of(host) {
+fn run_lines<R: Net<Stream = TcpStream> + Clock + Wait + Eprint + AllocGlobal + Copy + Drop>(
+    rt: &R,
+    host: &HostRuntime,
+    words: &[String],
+) -> EditStatus {
+    match dialer_of(rt) {
         Ok(mut dialer) => {
             let mut source = StdSource::new(host.stdin().lock());
             let mut out = StdSink::new(host.stdout().lock());
@@ -90,16 +100,13 @@ where
 }
 
 /// A run of the messages in the file at this path, of which standard output is told.
-fn give_path<R: Files + AllocGlobal + Wait>(
-    rt: &R,
-    host: &HostRuntime,
-    words: &[String],
-    path: &str,
-) -> Result<MessageEnd, EditStatus>
+fn give_path<
+    R: Files + Net<Stream = TcpStream> + Clock + Wait + Eprint + AllocGlobal + Copy + Drop,
+>(rt: &R, host: &HostRuntime, words: &[String], path: &str) -> Result<MessageEnd, EditStatus>
 where
     R::File: Drop,
 {
-    match dialer_of(host) {
+    match dialer_of(rt) {
         Ok(mut dialer) => {
             let mut out = StdSink::new(host.stdout().lock());
             run_path(rt, words, path, &mut dialer, &mut out)

@@ -10,12 +10,11 @@ use mos_io::{Capped, StdSource};
 use object_reading::read_objects;
 use object_table::ObjectTable;
 use port_events::Side;
-use port_tcp::{SystemClock, TcpDialer, TcpPort};
-use program_ends::{FileOf, ProgramEnd, pacer, path_of, port_at, read_file};
+use port_tcp::{Common, SystemClock, TcpPort};
+use program_ends::{FileOf, ProgramEnd, dialer, pacer, path_of, port_at, read_file};
 use std::fs;
 use std::net::{Net, TcpListener, TcpStream};
 use std::rt::Files;
-use std::sync::atomic::AtomicU64;
 use std::sync::{Arc, Wait};
 use std::thread::Threads;
 use std::time::Clock;
@@ -80,14 +79,14 @@ where
 // One port more, for connections at this side.
 fn next_port<
     R: Net<Listener = TcpListener, Stream = TcpStream> + Clock + AllocGlobal + Eprint + Copy + Drop,
->(rt: R, port: u16, side: Side, numbers: &Arc<AtomicU64>) -> Result<TcpPort<R>, ProgramEnd>
+>(rt: R, port: u16, side: Side, common: &Arc<Common>) -> Result<TcpPort<R>, ProgramEnd>
     ensures fault { IfErr result (λ end. (end ≡ NoMemory) ⊎ (end ≡ NoPort port)) }
     ensures run { IfErr result (λ end. IsGateRunEnd end) }
 {
-    let Ok(numbers) = Arc::try_clone(numbers) else {
+    let Ok(common) = Arc::try_clone(common) else {
         return Err(ProgramEnd::NoMemory);
     };
-    match port_at(rt, port, side, numbers) {
+    match port_at(rt, port, side, common) {
         Ok(port) => Ok(port),
         Err(_) => Err(ProgramEnd::NoPort(port)),
     }
@@ -99,15 +98,15 @@ fn ports_of<
 >(
     rt: R,
     settings: &GateSettings,
-    numbers: &Arc<AtomicU64>,
+    common: &Arc<Common>,
 ) -> Result<GateListeners<TcpPort<R>>, ProgramEnd>
     ensures refused { IfOk result (λ l. l.refused ≡ 0) }
     ensures fault { IfErr result (λ end. (end ≡ NoMemory) ⊎ ((end ≡ NoPort settings.now.upper) ⊎ (end ≡ NoPort settings.now.lower))) }
     ensures run { IfErr result (λ end. IsGateRunEnd end) }
 {
     Ok(GateListeners {
-        upper: next_port(rt, settings.upper, Side::Upper, numbers)?,
-        lower: next_port(rt, settings.lower, Side::Lower, numbers)?,
+        upper: next_port(rt, settings.upper, Side::Upper, common)?,
+        lower: next_port(rt, settings.lower, Side::Lower, common)?,
         refused: 0,
     })
 }
@@ -139,14 +138,19 @@ where
         Ok(objects) => objects,
         Err(end) => return end,
     };
-    let Ok(numbers) = Arc::new(alloc, AtomicU64::new(1)) else {
+    let Ok(common) = Arc::new(alloc, Common::new(1)) else {
         return ProgramEnd::NoMemory;
     };
-    let listeners = match ports_of(rt, settings, &numbers) {
+    let listeners = match ports_of(rt, settings, &common) {
         Ok(listeners) => listeners,
         Err(end) => return end,
     };
-    let dialer = TcpDialer::new(rt, alloc, Side::Upper, numbers);
+    let (Ok(pacing), Ok(dialing)) = (Arc::try_clone(&common), Arc::try_clone(&common)) else {
+        return ProgramEnd::NoMemory;
+    };
+    let Ok(dialer) = dialer(rt, alloc, dialing) else {
+        return ProgramEnd::NoMemory;
+    };
     let clock = SystemClock::new(rt);
     let (end, _listeners) = gate_serve_by_threads(
         &rt,
@@ -156,7 +160,7 @@ where
         decks,
         listeners,
         dialer,
-        pacer(rt),
+        pacer(rt, pacing),
         clock,
     );
     ProgramEnd::of_serving(end)

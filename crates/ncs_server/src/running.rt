@@ -8,13 +8,14 @@ ghost use Rattle.program_ends.specs.declared.program_end.ProgramEnd.TheVariants.
 use end_settings::{ServerSettings, read_server_settings};
 use file_keeper::FileKeeper;
 use port_events::Side;
-use port_tcp::{SystemClock, TcpDialer, TcpPort};
-use program_ends::{FileOf, ProgramEnd, pacer, path_of, port_at, read_file};
+use port_tcp::{Common, SystemClock, TcpPort};
+use program_ends::{FileOf, ProgramEnd, dialer, pacer, path_of, port_at, read_file};
 use rundown_log::KeepFault;
 use server_serving::ncs_serve_by_threads;
-use std::sync::atomic::AtomicU64;
+use std::net::{Net, TcpListener, TcpStream};
 use std::sync::{Arc, Wait};
 use std::thread::Threads;
+use std::time::Clock;
 use thread_doors::ServerListeners;
 
 // The settings in a file.
@@ -51,49 +52,56 @@ fn keeper_of(
 }
 
 // One port more, for connections at this side.
-fn next_port(
-    rt: HostRuntime,
-    port: u16,
-    side: Side,
-    numbers: &Arc<AtomicU64>,
-) -> Result<TcpPort<HostRuntime>, ProgramEnd>
+fn next_port<
+    R: Net<Listener = TcpListener, Stream = TcpStream> + Clock + AllocGlobal + Eprint + Copy + Drop,
+>(rt: R, port: u16, side: Side, common: &Arc<Common>) -> Result<TcpPort<R>, ProgramEnd>
     ensures fault { IfErr result (λ end. (end ≡ NoMemory) ⊎ (end ≡ NoPort port)) }
     ensures run { IfErr result (λ end. IsServerRunEnd end) }
 {
-    let Ok(numbers) = Arc::try_clone(numbers) else {
+    let Ok(common) = Arc::try_clone(common) else {
         return Err(ProgramEnd::NoMemory);
     };
-    match port_at(rt, port, side, numbers) {
+    match port_at(rt, port, side, common) {
         Ok(port) => Ok(port),
         Err(_) => Err(ProgramEnd::NoPort(port)),
     }
 }
 
 // The three ports: for running orders, for objects, and for editors. No worker is refused so far.
-fn ports_of(
-    rt: HostRuntime,
+fn ports_of<
+    R: Net<Listener = TcpListener, Stream = TcpStream> + Clock + AllocGlobal + Eprint + Copy + Drop,
+>(
+    rt: R,
     settings: &ServerSettings,
-    numbers: &Arc<AtomicU64>,
-) -> Result<ServerListeners<TcpPort<HostRuntime>>, ProgramEnd>
+    common: &Arc<Common>,
+) -> Result<ServerListeners<TcpPort<R>>, ProgramEnd>
     ensures refused { IfOk result (λ l. l.refused ≡ 0) }
     ensures fault { IfErr result (λ end. (end ≡ NoMemory) ⊎ ((end ≡ NoPort settings.now.upper) ⊎ ((end ≡ NoPort settings.now.lower) ⊎ (end ≡ NoPort settings.now.editor)))) }
     ensures run { IfErr result (λ end. IsServerRunEnd end) }
 {
     Ok(ServerListeners {
-        upper: next_port(rt, settings.upper, Side::Upper, numbers)?,
-        lower: next_port(rt, settings.lower, Side::Lower, numbers)?,
-        editor: next_port(rt, settings.editor, Side::Editor, numbers)?,
+        upper: next_port(rt, settings.upper, Side::Upper, common)?,
+        lower: next_port(rt, settings.lower, Side::Lower, common)?,
+        editor: next_port(rt, settings.editor, Side::Editor, common)?,
         refused: 0,
     })
 }
 
 // Serves by these settings.
 #[tactic(auto, using(program_ends::proofs::RunEnds::server_log, program_ends::proofs::RunEnds::server_served))]
-fn serve<R: Threads + Wait + Eprint + Copy + Drop + Send + Sync + 'static>(
-    rt: HostRuntime,
-    threads: R,
-    settings: &ServerSettings,
-) -> ProgramEnd
+fn serve<
+    R: Net<Listener = TcpListener, Stream = TcpStream>
+        + Clock
+        + AllocGlobal
+        + Threads
+        + Wait
+        + Eprint
+        + Copy
+        + Drop
+        + Send
+        + Sync
+        + 'static,
+>(rt: HostRuntime, threads: R, settings: &ServerSettings) -> ProgramEnd
     requires { AreDevices settings.now.devices }
     ensures { IsServerRunEnd result }
 {
@@ -102,14 +110,19 @@ fn serve<R: Threads + Wait + Eprint + Copy + Drop + Send + Sync + 'static>(
         Ok(keeper) => keeper,
         Err(end) => return end,
     };
-    let Ok(numbers) = Arc::new(alloc, AtomicU64::new(1)) else {
+    let Ok(common) = Arc::new(alloc, Common::new(1)) else {
         return ProgramEnd::NoMemory;
     };
-    let listeners = match ports_of(rt, settings, &numbers) {
+    let listeners = match ports_of(threads, settings, &common) {
         Ok(listeners) => listeners,
         Err(end) => return end,
     };
-    let dialer = TcpDialer::new(rt, alloc, Side::Upper, numbers);
+    let (Ok(pacing), Ok(dialing)) = (Arc::try_clone(&common), Arc::try_clone(&common)) else {
+        return ProgramEnd::NoMemory;
+    };
+    let Ok(dialer) = dialer(threads, alloc, dialing) else {
+        return ProgramEnd::NoMemory;
+    };
     let clock = SystemClock::new(rt);
     let (end, _listeners) = ncs_serve_by_threads(
         &threads,
@@ -118,7 +131,7 @@ fn serve<R: Threads + Wait + Eprint + Copy + Drop + Send + Sync + 'static>(
         keeper,
         listeners,
         dialer,
-        pacer(rt),
+        pacer(threads, pacing),
         clock,
     );
     ProgramEnd::of_serving(end)
@@ -126,11 +139,19 @@ fn serve<R: Threads + Wait + Eprint + Copy + Drop + Send + Sync + 'static>(
 
 // A run with the settings in a file.
 #[tactic(auto, using(program_ends::proofs::RunEnds::server_settings))]
-fn run_with<R: Threads + Wait + Eprint + Copy + Drop + Send + Sync + 'static>(
-    rt: HostRuntime,
-    threads: R,
-    path: &str,
-) -> ProgramEnd
+fn run_with<
+    R: Net<Listener = TcpListener, Stream = TcpStream>
+        + Clock
+        + AllocGlobal
+        + Threads
+        + Wait
+        + Eprint
+        + Copy
+        + Drop
+        + Send
+        + Sync
+        + 'static,
+>(rt: HostRuntime, threads: R, path: &str) -> ProgramEnd
     ensures { IsServerRunEnd result }
 {
     match settings_in(&rt, path) {
@@ -144,11 +165,19 @@ fn run_with<R: Threads + Wait + Eprint + Copy + Drop + Send + Sync + 'static>(
 ///
 /// `Usage` comes exactly where these words aren't one. What else isn't as it should be is looked for in this order: the
 /// settings' file, the settings, the journal's file, the ports, the journal. Memory may run out at each.
-pub fn run_server<R: Threads + Wait + Eprint + Copy + Drop + Send + Sync + 'static>(
-    rt: HostRuntime,
-    threads: R,
-    words: &[String],
-) -> ProgramEnd
+pub fn run_server<
+    R: Net<Listener = TcpListener, Stream = TcpStream>
+        + Clock
+        + AllocGlobal
+        + Threads
+        + Wait
+        + Eprint
+        + Copy
+        + Drop
+        + Send
+        + Sync
+        + 'static,
+>(rt: HostRuntime, threads: R, words: &[String]) -> ProgramEnd
     ensures usage { length words.now ≢ 1 → result ≡ Usage }
     ensures run { length words.now ≡ 1 → IsServerRunEnd result }
 {

@@ -5,9 +5,10 @@ ghost use Rattle.port_links.specs.Links.{Gives};
 ghost use Rattle.port_tcp.specs.Counted.{opened as opened_of};
 
 use crate::cause::Cause;
+use crate::common::Common;
 use crate::counting::count_one;
-use crate::stream::{TcpSink, TcpSource, link_of};
-use connection_lines::{dialed_line, ended_line, failed_line, say};
+use crate::stream::{TcpSink, TcpSource, opened_link};
+use connection_lines::{dialed_line, ended_line, failed_line, say, silent_line};
 use mos_fields::{NoMemory, Text};
 use mos_io::Failed;
 use port_events::Side;
@@ -15,19 +16,42 @@ use port_links::{Dialer, Link, News, Place};
 use port_session::Port;
 use std::alloc::Global;
 use std::net::{Net, TcpStream};
-use std::sync::Arc;
-use std::sync::atomic::AtomicU64;
+use std::sync::atomic::{AtomicBool, Ordering};
+use std::sync::{Arc, Wait};
+use std::thread::sleep;
+use std::time::{Clock, Duration, Instant};
+
+// Two dials are at least so far from each other where the first one failed, or its connection was short, in milliseconds.
+const LEAST: u64 = 100;
+
+// They are so far at most, after several such ones; each pause is twice as long as that before it.
+const MOST: u64 = 5_000;
+
+// A connection is short that ended within so long, in milliseconds.
+const SHORT: u64 = 1_000;
 
 /// Connects to other machines. The connections aren't observable.
+///
+/// Behind a dial that failed, or a connection that was short, it pauses before the next one, from a tenth of a second up to
+/// five seconds. Such a pause ends early where a connection comes from outside: the peer may be there again.
 ///
 /// What it hears of its dials it says on standard error: each connection that was opened, and how it ended; of dials that
 /// fail one after the other the first, and each whose cause is another one than that before it. A twin begins anew.
 #[derive(Drop)]
-pub struct TcpDialer<R: Net<Stream = TcpStream> + Eprint + Copy + Drop> {
+pub struct TcpDialer<R: Net<Stream = TcpStream> + Clock + Wait + Eprint + Copy + Drop> {
     rt: R,
     alloc: Global,
     side: Side,
-    numbers: Arc<AtomicU64>,
+    common: Arc<Common>,
+    // how long an answer is awaited
+    patience: Option<Duration>,
+    // whether the peer of the last connection was silent for longer
+    late: Arc<AtomicBool>,
+    // when the last dial began, and how many changes of connections there were then
+    begun: Option<Instant>,
+    changes: u64,
+    // the pause that is made before the next dial
+    wait: Duration,
     calls: u64,
     faults: u64,
     // why the last dial failed, if it did
@@ -36,23 +60,91 @@ pub struct TcpDialer<R: Net<Stream = TcpStream> + Eprint + Copy + Drop> {
     is_news: bool,
 }
 
-impl<R: Net<Stream = TcpStream> + Eprint + Copy + Drop> TcpDialer<R> {
-    /// A dialer, whose connections are at `side` and have the next numbers of `numbers`. Nothing was dialed yet.
-    pub fn new(rt: R, alloc: Global, side: Side, numbers: Arc<AtomicU64>) -> Self
-        ensures side { result.side ≡ side }
-        ensures calls { result.calls ≡ 0 }
-        ensures faults { result.faults ≡ 0 }
-        ensures cause { result.cause ≡ None }
+impl<R: Net<Stream = TcpStream> + Clock + Wait + Eprint + Copy + Drop> TcpDialer<R> {
+    /// A dialer, whose connections are at `side` and have the next numbers of `common`. An answer is awaited on them for as
+    /// long as `patience`, without one for ever. Nothing was dialed yet. The only error is that memory runs out.
+    pub fn new(
+        rt: R,
+        alloc: Global,
+        side: Side,
+        common: Arc<Common>,
+        patience: Option<Duration>,
+    ) -> Result<Self, NoMemory>
+        ensures side { IfOk result (λ dialer. dialer.side ≡ side) }
+        ensures counts { IfOk result (λ dialer. (dialer.calls ≡ 0) × (dialer.faults ≡ 0) × (dialer.cause ≡ None)) }
     {
-        TcpDialer {
+        let late = Arc::new(alloc, AtomicBool::new(false))?;
+        let changes = common.changes();
+        Ok(TcpDialer {
             rt,
             alloc,
             side,
-            numbers,
+            common,
+            patience,
+            late,
+            begun: None,
+            changes,
+            wait: Duration::from_millis(0),
             calls: 0,
             faults: 0,
             cause: None,
             is_news: false,
+        })
+    }
+
+    // The pause before a dial that begins so long behind the last one.
+    fn next_wait(&self, passed: Duration) -> Duration {
+        if self.cause.is_none() && passed >= Duration::from_millis(SHORT) {
+            return Duration::from_millis(0);
+        }
+        let longer = self
+            .wait
+            .saturating_mul(2)
+            .max(Duration::from_millis(LEAST));
+        longer.min(Duration::from_millis(MOST))
+    }
+
+    // How much is left of a pause that began with the last dial.
+    fn left_of(&self, pause: Duration) -> Duration {
+        match (self.begun, Instant::now(&self.rt)) {
+            (Some(begun), Ok(now)) => pause.saturating_sub(now.duration_since(begun)),
+            _ => Duration::from_millis(0),
+        }
+    }
+
+    // Pauses before a dial, where the last one failed or its connection was short.
+    fn await_turn(&mut self)
+        ensures side { self.new.side ≡ self.old.side }
+        ensures calls { self.new.calls ≡ self.old.calls }
+        ensures faults { self.new.faults ≡ self.old.faults }
+        ensures cause { self.new.cause ≡ self.old.cause }
+    {
+        if let (Some(begun), Ok(now)) = (self.begun, Instant::now(&self.rt)) {
+            self.wait = self.next_wait(now.duration_since(begun));
+            let left = self.left_of(self.wait);
+            if !left.is_zero() {
+                self.common.await_change(&self.rt, self.changes, left);
+                let left = self.left_of(self.wait.min(Duration::from_millis(LEAST)));
+                if !left.is_zero() {
+                    sleep(&self.rt, left);
+                }
+            }
+        }
+        self.changes = self.common.changes();
+        self.begun = match Instant::now(&self.rt) {
+            Ok(now) => Some(now),
+            Err(_) => None,
+        };
+    }
+
+    // Says that the peer was silent for too long, where it was.
+    fn say_late(&self, port: &Port) {
+        if !self.late.swap(false, Ordering::SeqCst) {
+            return;
+        }
+        if let Some(patience) = self.patience {
+            let line = silent_line(self.alloc, port.side, port.mos.text(), patience.as_secs());
+            say(&self.rt, line);
         }
     }
 
@@ -64,12 +156,22 @@ impl<R: Net<Stream = TcpStream> + Eprint + Copy + Drop> TcpDialer<R> {
             return Err(Cause::NO_MEMORY);
         };
         let opened = match TcpStream::connect(&self.rt, (host.as_str(), place.port)) {
-            Ok(stream) => link_of(&self.numbers, self.side, stream),
-            Err(fault) => Err(fault),
+            Ok(stream) => stream,
+            Err(fault) => return Err(Cause::of_fault(&fault)),
         };
-        match opened {
+        let Ok(late) = Arc::try_clone(&self.late) else {
+            return Err(Cause::NO_MEMORY);
+        };
+        match opened_link(
+            self.alloc,
+            &self.common,
+            self.side,
+            opened,
+            self.patience,
+            late,
+        ) {
             Ok(link) => Ok(link),
-            Err(fault) => Err(Cause::of_fault(&fault)),
+            Err(_) => Err(Cause::NO_MEMORY),
         }
     }
 
@@ -121,7 +223,7 @@ fn host_name(alloc: Global, host: &Text) -> Result<String, NoMemory> {
     Ok(name)
 }
 
-impl<R: Net<Stream = TcpStream> + Eprint + Copy + Drop> Dialer for TcpDialer<R> {
+impl<R: Net<Stream = TcpStream> + Clock + Wait + Eprint + Copy + Drop> Dialer for TcpDialer<R> {
     ghost use Rattle.std.specs.Prelude.{None};
 
     type S = TcpSource;
@@ -148,6 +250,7 @@ impl<R: Net<Stream = TcpStream> + Eprint + Copy + Drop> Dialer for TcpDialer<R> 
         ensures same { self.new.side ≡ self.old.side }
     {
         count_one(&mut self.calls);
+        self.await_turn();
         match self.connect(place) {
             Ok(link) => {
                 self.cause = None;
@@ -167,6 +270,7 @@ impl<R: Net<Stream = TcpStream> + Eprint + Copy + Drop> Dialer for TcpDialer<R> 
             News::Failed => self.say_failed(port, place),
             News::Opened { number } => self.say_opened(port, place, number),
             News::Ended { number, end } => {
+                self.say_late(port);
                 let line = ended_line(self.alloc, number, port.side, port.mos.text(), end);
                 say(&self.rt, line);
             }
@@ -180,16 +284,7 @@ impl<R: Net<Stream = TcpStream> + Eprint + Copy + Drop> Dialer for TcpDialer<R> 
         ensures side { IfOk result (λ dialer. dialer.side ≡ self.now.side) }
         ensures counts { IfOk result (λ dialer. (dialer.calls ≡ 0) × (dialer.faults ≡ 0) × (dialer.cause ≡ None)) }
     {
-        let numbers = Arc::try_clone(&self.numbers)?;
-        Ok(TcpDialer {
-            rt: self.rt,
-            alloc: self.alloc,
-            side: self.side,
-            numbers,
-            calls: 0,
-            faults: 0,
-            cause: None,
-            is_news: false,
-        })
+        let common = Arc::try_clone(&self.common)?;
+        TcpDialer::new(self.rt, self.alloc, self.side, common, self.patience)
     }
 }

@@ -4,6 +4,7 @@
 
 mod cause;
 mod clock;
+mod common;
 mod counting;
 mod dialer;
 mod few;
@@ -13,9 +14,10 @@ mod port;
 mod stream;
 
 pub use clock::SystemClock;
+pub use common::Common;
 pub use dialer::TcpDialer;
 pub use few::Few;
 pub use moment::time_of;
 pub use pacer::SleepPacer;
 pub use port::TcpPort;
-pub use stream::{TcpSink, TcpSource};
+pub use stream::{TcpHalf, TcpSink, TcpSource};

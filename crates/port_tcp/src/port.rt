@@ -5,44 +5,46 @@ ghost use Rattle.port_links.specs.Links.{Accepts};
 ghost use Rattle.port_tcp.specs.Counted.{coming as coming_of};
 ghost use Rattle.port_tcp.specs.Sides.{CameAt};
 
+use crate::common::Common;
 use crate::counting::count_one;
-use crate::stream::{TcpSink, TcpSource, link_of};
-use connection_lines::{accepted_line, say};
+use crate::stream::{TcpSink, TcpSource, accepted_link};
+use connection_lines::{accepted_line, say, stalled_line, works_line};
 use mos_io::Failed;
 use port_events::Side;
 use port_links::{Link, Listener};
+use std::io::ErrorKind;
 use std::net::{SocketAddr, TcpListener};
 use std::sync::Arc;
-use std::sync::atomic::AtomicU64;
 use std::thread::sleep;
 use std::time::{Clock, Duration};
 
-// How often in a row a connection may fail to be accepted.
-const ATTEMPTS: u32 = 100;
+// How long to wait before the next attempt, in milliseconds: at first, and at most. Each pause is twice as long as that before
+// it.
+const FIRST: u64 = 50;
 
-// How long to wait before the next attempt, in milliseconds.
-const PAUSE: u64 = 50;
+const MOST: u64 = 1_000;
 
 /// A port of this machine, at which others connect. It never ends, and how many connections are to come isn't
 /// observable.
 ///
-/// A connection that is gone before it is accepted, or for which the system has no descriptor, is no fault of the port:
-/// it tries again after 50 milliseconds, and fails after 100 attempts in a row.
+/// A connection that is gone before it is accepted, or for which the system has no descriptor or no memory, is no fault of the
+/// port: it tries again after 50 milliseconds, and then after pauses that grow to a second, for as long as it takes.
 ///
-/// Of each connection it says on standard error that it came, and from where.
+/// Of each connection it says on standard error that it came, and from where; of attempts that fail in a row the second one,
+/// with its cause, and that the port works again.
 #[derive(Drop)]
 pub struct TcpPort<R: Clock + AllocGlobal + Eprint + Drop> {
     rt: R,
     listener: TcpListener,
     side: Side,
-    numbers: Arc<AtomicU64>,
+    common: Arc<Common>,
     faults: u64,
 }
 
 impl<R: Clock + AllocGlobal + Eprint + Drop> TcpPort<R> {
-    /// The port at which `listener` listens. Its connections are at `side`, and have the next numbers of `numbers`. It had no
+    /// The port at which `listener` listens. Its connections are at `side`, and have the next numbers of `common`. It had no
     /// fault yet.
-    pub fn new(rt: R, listener: TcpListener, side: Side, numbers: Arc<AtomicU64>) -> Self
+    pub fn new(rt: R, listener: TcpListener, side: Side, common: Arc<Common>) -> Self
         ensures side { result.side ≡ side }
         ensures faults { result.faults ≡ 0 }
     {
@@ -50,7 +52,7 @@ impl<R: Clock + AllocGlobal + Eprint + Drop> TcpPort<R> {
             rt,
             listener,
             side,
-            numbers,
+            common,
             faults: 0,
         }
     }
@@ -64,18 +66,36 @@ impl<R: Clock + AllocGlobal + Eprint + Drop> TcpPort<R> {
     }
 
     // One attempt.
-    fn try_accept(&self) -> Option<Link<TcpSource, TcpSink>>
-        ensures { IfSome result (λ link. link.side ≡ self.now.side) }
+    fn try_accept(&self) -> Result<Link<TcpSource, TcpSink>, ErrorKind>
+        ensures { IfOk result (λ link. link.side ≡ self.now.side) }
     {
-        let Ok((stream, from)) = self.listener.accept() else {
-            return None;
+        let (stream, from) = match self.listener.accept() {
+            Ok(came) => came,
+            Err(fault) => return Err(fault.kind()),
         };
-        match link_of(&self.numbers, self.side, stream) {
+        match accepted_link(self.rt.alloc(), &self.common, self.side, stream) {
             Ok(link) => {
                 self.say_accepted(link.number, from);
-                Some(link)
+                Ok(link)
             }
-            Err(_) => None,
+            Err(_) => Err(ErrorKind::OutOfMemory),
+        }
+    }
+
+    // Says that the port fails, at the second of the attempts in a row.
+    fn say_stalled(&self, attempt: u64, cause: ErrorKind) {
+        if attempt == 1 {
+            let alloc = self.rt.alloc();
+            if let Ok(word) = format!(in alloc; "{cause:?}") {
+                say(&self.rt, stalled_line(alloc, self.side, word.as_str()));
+            }
+        }
+    }
+
+    // Says that it works again, where it was said that it fails.
+    fn say_works(&self, attempt: u64) {
+        if attempt > 1 {
+            say(&self.rt, works_line(self.rt.alloc(), self.side));
         }
     }
 
@@ -83,11 +103,17 @@ impl<R: Clock + AllocGlobal + Eprint + Drop> TcpPort<R> {
     fn accept_soon(&self) -> Option<Link<TcpSource, TcpSink>>
         ensures { IfSome result (λ link. link.side ≡ self.now.side) }
     {
-        for _ in 0..ATTEMPTS {
-            if let Some(link) = self.try_accept() {
-                return Some(link);
+        let mut pause = FIRST;
+        for attempt in 0..u64::MAX {
+            match self.try_accept() {
+                Ok(link) => {
+                    self.say_works(attempt);
+                    return Some(link);
+                }
+                Err(cause) => self.say_stalled(attempt, cause),
             }
-            sleep(&self.rt, Duration::from_millis(PAUSE));
+            sleep(&self.rt, Duration::from_millis(pause));
+            pause = pause.saturating_mul(2).min(MOST);
         }
         None
     }

@@ -1,35 +1,155 @@
 //! Connections over TCP.
 ghost use Rattle.std.specs.Prelude.{◌≡◌, IfOk};
 
+use crate::common::{Common, Leaves};
+use mos_fields::NoMemory;
 use mos_io::{StdSink, StdSource};
 use port_events::Side;
 use port_links::Link;
+use std::alloc::Global;
 use std::io;
+use std::io::{ErrorKind, Read, Write};
 use std::net::TcpStream;
-use std::sync::atomic::{AtomicU64, Ordering};
+use std::sync::Arc;
+use std::sync::atomic::{AtomicBool, Ordering};
+use std::time::Duration;
 
 /// What comes on a connection over TCP. The bytes aren't observable.
-pub type TcpSource = StdSource<TcpStream>;
+pub type TcpSource = StdSource<TcpHalf>;
 
 /// What goes out on a connection over TCP. The bytes aren't observable.
-pub type TcpSink = StdSink<TcpStream>;
+pub type TcpSink = StdSink<TcpHalf>;
 
-/// A connection of the next number. What is written goes out at once, without waiting for more. The error is the system's,
-/// where it has no second descriptor for the stream; the connection is then closed.
-pub(crate) fn link_of(
-    numbers: &AtomicU64,
-    side: Side,
+// A stream, which is closed where both its halves were let go.
+#[derive(Drop)]
+struct Whole {
     stream: TcpStream,
-) -> io::Result<Link<TcpSource, TcpSink>>
+    // tells the end of the connection, where it is one that others opened, and no editor's
+    leaves: Option<Leaves>,
+}
+
+/// The source's half of a stream, or the sink's: both share one descriptor.
+#[derive(Drop)]
+pub struct TcpHalf {
+    whole: Arc<Whole>,
+    // is told of each piece that was written, where the connection is one that others opened
+    told: Option<Arc<Common>>,
+    // whether the peer was silent for too long, where it is one that this machine opened
+    late: Option<Arc<AtomicBool>>,
+}
+
+impl TcpHalf {
+    // Notes that the peer was silent for too long.
+    fn note_late(&self) {
+        if let Some(late) = &self.late {
+            late.store(true, Ordering::SeqCst);
+        }
+    }
+}
+
+impl Read for TcpHalf {
+    fn read(&mut self, buf: &mut [u8]) -> io::Result<usize> {
+        let mut stream = &self.whole.stream;
+        let outcome = stream.read(buf);
+        if let Err(fault) = &outcome {
+            if fault.kind() == ErrorKind::WouldBlock {
+                self.note_late();
+            }
+        }
+        outcome
+    }
+}
+
+impl Write for TcpHalf {
+    fn write(&mut self, buf: &[u8]) -> io::Result<usize> {
+        let mut stream = &self.whole.stream;
+        stream.write(buf)
+    }
+
+    fn flush(&mut self) -> io::Result<()> {
+        if let Some(common) = &self.told {
+            common.moved();
+        }
+        Ok(())
+    }
+}
+
+// The connection of the next number over a stream.
+fn link_over(
+    alloc: Global,
+    number: u64,
+    side: Side,
+    whole: Whole,
+    told: Option<Arc<Common>>,
+    late: Option<Arc<AtomicBool>>,
+) -> Result<Link<TcpSource, TcpSink>, NoMemory>
     ensures { IfOk result (λ link. link.side ≡ side) }
 {
-    let other = stream.try_clone()?;
-    // A connection that gathers what it sends is slower and no less right.
-    let _ = stream.set_nodelay(true);
+    let whole = Arc::new(alloc, whole)?;
+    let other = Arc::try_clone(&whole)?;
     Ok(Link {
-        number: numbers.fetch_add(1, Ordering::SeqCst),
+        number,
         side,
-        source: StdSource::new(stream),
-        sink: StdSink::new(other),
+        source: StdSource::new(TcpHalf {
+            whole: other,
+            told: None,
+            late,
+        }),
+        sink: StdSink::new(TcpHalf {
+            whole,
+            told,
+            late: None,
+        }),
     })
+}
+
+/// A connection of the next number that this machine opened. What is written goes out at once, without waiting for more. A
+/// read that waits for longer than `patience` fails, and sets `late`; so does a write, without that. The only error is that
+/// memory runs out; the connection is then closed.
+pub(crate) fn opened_link(
+    alloc: Global,
+    common: &Common,
+    side: Side,
+    stream: TcpStream,
+    patience: Option<Duration>,
+    late: Arc<AtomicBool>,
+) -> Result<Link<TcpSource, TcpSink>, NoMemory>
+    ensures { IfOk result (λ link. link.side ≡ side) }
+{
+    // A connection that gathers what it sends is slower and no less right, and so is one that waits for longer.
+    let _ = stream.set_nodelay(true);
+    let _ = stream.set_read_timeout(patience);
+    let _ = stream.set_write_timeout(patience);
+    let whole = Whole {
+        stream,
+        leaves: None,
+    };
+    link_over(alloc, common.next_number(), side, whole, None, Some(late))
+}
+
+// What tells of a connection at this side that others opened: an editor's coming and going makes nothing due.
+fn leaves_of(common: &Arc<Common>, side: Side) -> Result<Option<Leaves>, NoMemory> {
+    match side {
+        Side::Editor => Ok(None),
+        Side::Upper | Side::Lower => Ok(Some(Leaves::new(Arc::try_clone(common)?))),
+    }
+}
+
+/// The same for a connection that others opened. Pauses end early where it comes and where it ends, unless it is an editor's,
+/// and where a piece was written on it.
+pub(crate) fn accepted_link(
+    alloc: Global,
+    common: &Arc<Common>,
+    side: Side,
+    stream: TcpStream,
+) -> Result<Link<TcpSource, TcpSink>, NoMemory>
+    ensures { IfOk result (λ link. link.side ≡ side) }
+{
+    let _ = stream.set_nodelay(true);
+    let told = Arc::try_clone(common)?;
+    let whole = Whole {
+        stream,
+        leaves: leaves_of(common, side)?,
+    };
+    link_over(alloc, common.next_number(), side, whole, Some(told), None)
 }

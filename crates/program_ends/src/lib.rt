@@ -7,5 +7,5 @@ mod ports;
 mod program_end;
 
 pub use files::{path_of, read_file};
-pub use ports::{pacer, port_at};
+pub use ports::{dialer, pacer, port_at};
 pub use program_end::{FileOf, ProgramEnd};

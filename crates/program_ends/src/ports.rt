@@ -5,38 +5,64 @@ ghost use Rattle.port_tcp.specs.Sides.{side_of};
 ghost use Rattle.program_ends.specs.declared.program_end.ProgramEnd.TheVariants.{NoPort};
 
 use crate::program_end::ProgramEnd;
+use mos_fields::NoMemory;
 use port_events::Side;
-use port_tcp::{SleepPacer, TcpPort};
+use port_tcp::{Common, SleepPacer, TcpDialer, TcpPort};
+use std::alloc::Global;
 use std::net::{Ipv4Addr, Net, TcpListener, TcpStream};
-use std::sync::Arc;
-use std::sync::atomic::AtomicU64;
+use std::sync::{Arc, Wait};
 use std::time::{Clock, Duration};
 
-// How long a worker that dials pauses before it asks for what is next, or dials again, in milliseconds.
-const PAUSE: u64 = 100;
+// How long a worker that dials pauses at most before it asks for what is next, in milliseconds.
+const PAUSE: u64 = 1_000;
 
-// After so many pauses a worker that dials sends a heartbeat: after half a minute.
-const BEAT: u64 = 300;
+// For so long no heartbeat was sent before a worker that dials sends one, in seconds.
+const BEAT: u64 = 5;
+
+// So long it awaits an answer, in seconds.
+const PATIENCE: u64 = 30;
 
 /// The port of this number, on every address of this machine, for connections at this side. The only error is `NoPort`,
 /// where it can't be opened.
 pub fn port_at<
     R: Net<Listener = TcpListener, Stream = TcpStream> + Clock + AllocGlobal + Eprint + Copy + Drop,
->(rt: R, port: u16, side: Side, numbers: Arc<AtomicU64>) -> Result<TcpPort<R>, ProgramEnd>
+>(rt: R, port: u16, side: Side, common: Arc<Common>) -> Result<TcpPort<R>, ProgramEnd>
     ensures fault { IfErr result (λ end. end ≡ NoPort port) }
     ensures side { IfOk result (λ opened. side_of opened ≡ side) }
 {
     match TcpListener::bind(&rt, (Ipv4Addr::UNSPECIFIED, port)) {
-        Ok(listener) => Ok(TcpPort::new(rt, listener, side, numbers)),
+        Ok(listener) => Ok(TcpPort::new(rt, listener, side, common)),
         Err(_) => Err(ProgramEnd::NoPort(port)),
     }
 }
 
-/// The pauses of a program's workers: a tenth of a second each, with a heartbeat every half minute. They never stop.
-pub fn pacer<R: Clock + Copy + Drop>(rt: R) -> SleepPacer<R>
-    ensures length { length_of result ≡ 100000000 }
-    ensures every { every_of result ≡ 300 }
+/// The pauses of a program's workers: of a second at most, and less where something may be due; with a heartbeat where none was
+/// for five seconds, and where a connection came or ended. They never stop.
+pub fn pacer<R: Clock + Wait + Copy + Drop>(rt: R, common: Arc<Common>) -> SleepPacer<R>
+    ensures length { length_of result ≡ 1000000000 }
+    ensures every { every_of result ≡ 5000000000 }
     ensures stop { NeverStops result }
 {
-    SleepPacer::new(rt, Duration::from_millis(PAUSE), BEAT, None)
+    SleepPacer::new(
+        rt,
+        common,
+        Duration::from_millis(PAUSE),
+        Duration::from_secs(BEAT),
+        None,
+    )
+}
+
+/// What opens the connections of a program's workers. They await an answer for half a minute.
+pub fn dialer<R: Net<Stream = TcpStream> + Clock + Wait + Eprint + Copy + Drop>(
+    rt: R,
+    alloc: Global,
+    common: Arc<Common>,
+) -> Result<TcpDialer<R>, NoMemory> {
+    TcpDialer::new(
+        rt,
+        alloc,
+        Side::Upper,
+        common,
+        Some(Duration::from_secs(PATIENCE)),
+    )
 }

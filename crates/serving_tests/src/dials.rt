@@ -10,13 +10,13 @@ use port_events::{PortEvent, Side, What};
 use port_links::{Dialer, Link, Place};
 use port_machines::GatewayMachine;
 use port_session::{End, drive_port};
-use port_tcp::{TcpDialer, TcpSink, TcpSource};
+use port_tcp::{Common, TcpDialer, TcpSink, TcpSource};
 use shared_machine::{Hub, Pass};
 use std::alloc::Global;
 use std::net::{Net, TcpListener, TcpStream};
-use std::sync::atomic::AtomicU64;
 use std::sync::{Arc, Wait};
 use std::test::Fail;
+use std::time::Clock;
 
 /// The gateway's first message and its answer, and its second one.
 const REQUEST: &str =
@@ -35,12 +35,12 @@ fn place(alloc: Global, port: u16) -> Result<Place, Fail> {
     })
 }
 
-fn dialer<R: Net<Stream = TcpStream> + Eprint + Copy + Drop>(
+fn dialer<R: Net<Stream = TcpStream> + Clock + Wait + Eprint + Copy + Drop>(
     rt: &R,
     alloc: Global,
 ) -> Result<TcpDialer<R>, Fail> {
-    let numbers = Arc::new(alloc, AtomicU64::new(8))?;
-    Ok(TcpDialer::new(*rt, alloc, Side::Upper, numbers))
+    let common = Arc::new(alloc, Common::new(8))?;
+    Ok(TcpDialer::new(*rt, alloc, Side::Upper, common, None)?)
 }
 
 // The server opened a connection.
@@ -121,11 +121,9 @@ fn driven_anew<R: Wait>(
 }
 
 // How a connection ends that is dialed, whose peer answers the first message, and whether these bytes are written on it.
-fn comes_to<R: Net<Listener = TcpListener, Stream = TcpStream> + Eprint + Wait + Copy + Drop>(
-    rt: &R,
-    alloc: Global,
-    wanted: &[u8],
-) -> Result<(&'static str, bool), Fail> {
+fn comes_to<
+    R: Net<Listener = TcpListener, Stream = TcpStream> + Clock + Eprint + Wait + Copy + Drop,
+>(rt: &R, alloc: Global, wanted: &[u8]) -> Result<(&'static str, bool), Fail> {
     let (listener, number) = listening(rt)?;
     let mut dialer = dialer(rt, alloc)?;
     let place = place(alloc, number)?;
@@ -151,7 +149,7 @@ fn a_request_is_sent_and_its_answer_is_read(rt: HostRuntime) -> Result<(), Fail>
 }
 
 // Whether a dial to a port fails at which none listens any more.
-fn fails<R: Net<Listener = TcpListener, Stream = TcpStream> + Eprint + Copy + Drop>(
+fn fails<R: Net<Listener = TcpListener, Stream = TcpStream> + Clock + Wait + Eprint + Copy + Drop>(
     rt: &R,
     alloc: Global,
 ) -> Result<bool, Fail> {
