@@ -24,12 +24,14 @@ use std::rt::Files;
 /// that fails too, the next append does it first, before it writes. An append fails also where the file would have more
 /// than 1,099,511,627,776 bytes.
 ///
-/// A load gives the entries of the whole messages, cuts off what stands behind them inside a message, and brings the file
-/// to the disk. It fails where the file has more than 1,099,511,627,776 bytes, where its bytes are rejected, where a
+/// A load gives the entries of the whole messages, saves what stands behind them inside a message in a new file beside the
+/// journal and cuts it off, says so on standard error, and brings the file to the disk. It fails where the file has more than 1,099,511,627,776 bytes, where its bytes are rejected, where a
 /// message is no entry, and where the file can't be read, cut or synced; but for the last two nothing is cut then. An
 /// append before the first load goes behind whatever stands in the file.
 #[derive(Drop)]
-pub struct FileKeeper<R: Files> {
+pub struct FileKeeper<R: Files + AllocGlobal + Eprint + Copy + Drop> {
+    rt: R,
+    path: String,
     file: R::File,
     alloc: Global,
     // the length to which the file is still to be cut before more is written
@@ -131,16 +133,17 @@ fn count(faults: &mut u64, fault: KeepFault) -> KeepFault
     }
 }
 
-impl<R: Files> FileKeeper<R> {
+impl<R: Files + AllocGlobal + Eprint + Copy + Drop> FileKeeper<R> {
     /// The keeper of the file at this path, which is made where there is none, with no fault so far. It fails where the
     /// file can't be opened.
     pub fn open(rt: &R, path: &str) -> Result<Self, KeepFault>
-    where
-        R: AllocGlobal,
         ensures faults { IfOk result (λ k. faults_of k ≡ 0) }
         ensures doubt { IfOk result (λ k. doubt_of k ≡ None) }
         ensures fault { IfErr result (λ fault. fault ≡ KeepFault.Failed) }
     {
+        let Ok(own) = String::from_str(rt.alloc(), path) else {
+            return Err(KeepFault::Failed);
+        };
         match OpenOptions::new()
             .read(true)
             .append(true)
@@ -148,6 +151,8 @@ impl<R: Files> FileKeeper<R> {
             .open(rt, path)
         {
             Ok(file) => Ok(FileKeeper {
+                rt: *rt,
+                path: own,
                 file,
                 alloc: rt.alloc(),
                 torn: None,
@@ -169,7 +174,13 @@ impl<R: Files> FileKeeper<R> {
         ensures rises { self.old.faults ≤ self.new.faults }
     {
         set_doubt(&mut self.doubt, None);
-        match load_file(self.alloc, &mut self.file, known) {
+        match load_file(
+            &self.rt,
+            self.path.as_str(),
+            self.alloc,
+            &mut self.file,
+            known,
+        ) {
             Ok(entries) => {
                 self.torn = None;
                 Ok(entries)
@@ -179,7 +190,7 @@ impl<R: Files> FileKeeper<R> {
     }
 }
 
-impl<R: Files> Keeper for FileKeeper<R> {
+impl<R: Files + AllocGlobal + Eprint + Copy + Drop> Keeper for FileKeeper<R> {
     ghost use Rattle.std.specs.Prelude.{None};
     ghost use Rattle.file_keeper.specs.Keepers.{certainty as certainty_of, faults as faults_of, IsAppended, IsLoaded};
 

@@ -11,5 +11,6 @@
 mod file;
 mod keeper;
 mod reading;
+mod tail;
 
 pub use keeper::FileKeeper;

@@ -4,12 +4,13 @@ ghost use Rattle.journal_bytes.specs.Journals.{HasRead};
 ghost use Rattle.file_keeper.specs.Reading.{AreRead, HasCome, IsWhole, Steps, count_of, keep_fault as fault_of};
 
 use crate::file::{MOST, cut, length_of, sync};
+use crate::tail::save_rest;
 use journal_bytes::{JournalFault, JournalReader};
 use mos_fields::{NoMemory, let_go};
 use rundown_log::{Entries, KeepFault};
 use std::alloc::Global;
-use std::fs::OpenFile;
 use std::io::{ErrorKind, Read, Seek, SeekFrom};
+use std::rt::Files;
 
 /// So many bytes are read at once.
 const PIECE: usize = 65_536;
@@ -101,18 +102,30 @@ fn read_all<F: Read>(
     Err(KeepFault::Failed)
 }
 
-/// Brings the file to the disk without the rest behind so many bytes; whether that succeeded.
-fn settle<F: OpenFile>(file: &F, total: u64, rest: usize) -> bool {
-    if rest > 0 && !cut(file, total.saturating_sub(rest as u64)) {
-        return false;
+/// Brings the file to the disk without the rest behind so many bytes, which is saved beside it first; whether that succeeded.
+fn settle<R: Files + AllocGlobal + Eprint>(
+    rt: &R,
+    path: &str,
+    file: &mut R::File,
+    total: u64,
+    rest: usize,
+    piece: &mut [u8],
+) -> bool {
+    if rest > 0 {
+        let left = total.saturating_sub(rest as u64);
+        if !save_rest(rt, path, file, left, rest, piece) || !cut(file, left) {
+            return false;
+        }
     }
     sync(file)
 }
 
 /// Reads a file from its beginning, with a reader to which nothing was fed, and cuts off what ends inside a message.
-fn read_file<F: Read + Seek + OpenFile>(
+fn read_file<R: Files + AllocGlobal + Eprint>(
+    rt: &R,
+    path: &str,
     alloc: Global,
-    file: &mut F,
+    file: &mut R::File,
     reader: &mut JournalReader,
 ) -> Result<(), KeepFault>
     requires nothing { HasRead reader.old [] }
@@ -123,7 +136,7 @@ fn read_file<F: Read + Seek + OpenFile>(
     }
     let mut piece = room(alloc)?;
     let total = read_all(file, &mut piece, reader)?;
-    if settle(file, total, reader.rest()) {
+    if settle(rt, path, file, total, reader.rest(), &mut piece) {
         return Ok(());
     }
     Err(KeepFault::Failed)
@@ -145,16 +158,18 @@ fn behind(entries: Entries, known: usize) -> Option<Entries>
 }
 
 /// The entries of a file's whole messages, behind the first so many; there have to be these. What ends inside a message is
-/// cut off, and what is left is on the disk.
-pub(crate) fn load_file<F: Read + Seek + OpenFile>(
+/// cut off and saved beside it, and what is left is on the disk.
+pub(crate) fn load_file<R: Files + AllocGlobal + Eprint>(
+    rt: &R,
+    path: &str,
     alloc: Global,
-    file: &mut F,
+    file: &mut R::File,
     known: usize,
 ) -> Result<Entries, KeepFault>
     ensures { IfOk result (λ entries. AreRead known entries) }
 {
     let mut reader = JournalReader::new(alloc);
-    let read = read_file(alloc, file, &mut reader);
+    let read = read_file(rt, path, alloc, file, &mut reader);
     let entries = reader.into_entries();
     match read {
         Ok(()) => match behind(entries, known) {

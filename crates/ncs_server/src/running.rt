@@ -7,11 +7,13 @@ ghost use Rattle.program_ends.specs.declared.program_end.ProgramEnd.TheVariants.
 
 use end_settings::{ServerSettings, read_server_settings};
 use file_keeper::FileKeeper;
+use mos_fields::let_go;
 use port_events::Side;
 use port_tcp::{Common, SystemClock, TcpPort};
 use program_ends::{FileOf, ProgramEnd, dialer, pacer, path_of, port_at, read_file};
 use rundown_log::KeepFault;
 use server_serving::ncs_serve_by_threads;
+use std::fs::{File, OpenOptions, TryLockError};
 use std::net::{Net, TcpListener, TcpStream};
 use std::sync::{Arc, Wait};
 use std::thread::Threads;
@@ -48,6 +50,35 @@ fn keeper_of(
         Ok(keeper) => Ok(keeper),
         Err(KeepFault::NoMemory) => Err(ProgramEnd::NoMemory),
         Err(KeepFault::Failed) => Err(ProgramEnd::NoFile(FileOf::Log)),
+    }
+}
+
+// Says on standard error that another server has the journal.
+fn say_taken(rt: &HostRuntime, path: &str) {
+    let _ = eprintln!(rt; "log {path}: another server has it");
+}
+
+// A lock on the journal, which lasts as long as the value. Where the journal's file system has no locks, there is none.
+fn lock_of(rt: &HostRuntime, settings: &ServerSettings) -> Result<File, ProgramEnd>
+    ensures { IfErr result (λ end. IsNoFile Log end) }
+{
+    let Ok(path) = path_of(rt.alloc(), &settings.log) else {
+        return Err(ProgramEnd::NoMemory);
+    };
+    let opened = OpenOptions::new()
+        .read(true)
+        .append(true)
+        .create(true)
+        .open(rt, path.as_str());
+    let Ok(file) = opened else {
+        return Err(ProgramEnd::NoFile(FileOf::Log));
+    };
+    match file.try_lock() {
+        Err(TryLockError::WouldBlock) => {
+            say_taken(rt, path.as_str());
+            Err(ProgramEnd::NoFile(FileOf::Log))
+        }
+        Ok(()) | Err(TryLockError::Error(_)) => Ok(file),
     }
 }
 
@@ -106,6 +137,10 @@ fn serve<
     ensures { IsServerRunEnd result }
 {
     let alloc = rt.alloc();
+    let lock = match lock_of(&rt, settings) {
+        Ok(lock) => lock,
+        Err(end) => return end,
+    };
     let keeper = match keeper_of(&rt, settings) {
         Ok(keeper) => keeper,
         Err(end) => return end,
@@ -134,6 +169,7 @@ fn serve<
         pacer(threads, pacing),
         clock,
     );
+    let_go(lock);
     ProgramEnd::of_serving(end)
 }
 
