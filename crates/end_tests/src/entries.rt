@@ -55,12 +55,15 @@ fn names_loaded(
 }
 
 /// The letters of what is loaded.
-pub fn load<R: Files>(alloc: Global, keeper: &mut FileKeeper<R>) -> Result<Vec<char>, FieldFault> {
+pub fn load<R: Files + AllocGlobal + Eprint + Copy + Drop>(
+    alloc: Global,
+    keeper: &mut FileKeeper<R>,
+) -> Result<Vec<char>, FieldFault> {
     names_loaded(alloc, keeper.load())
 }
 
 /// The letters of what is loaded behind so many.
-pub fn load_behind<R: Files>(
+pub fn load_behind<R: Files + AllocGlobal + Eprint + Copy + Drop>(
     alloc: Global,
     keeper: &mut FileKeeper<R>,
     known: usize,
@@ -69,7 +72,7 @@ pub fn load_behind<R: Files>(
 }
 
 /// Appends the entry of a roDelete.
-pub fn append<R: Files>(
+pub fn append<R: Files + AllocGlobal + Eprint + Copy + Drop>(
     alloc: Global,
     keeper: &mut FileKeeper<R>,
     name: char,
@@ -81,7 +84,7 @@ pub fn append<R: Files>(
 }
 
 /// Whether the entries of these orders are all appended.
-pub fn append_all<R: Files>(
+pub fn append_all<R: Files + AllocGlobal + Eprint + Copy + Drop>(
     alloc: Global,
     keeper: &mut FileKeeper<R>,
     names: &str,

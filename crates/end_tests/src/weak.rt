@@ -1,6 +1,7 @@
 //! A runtime whose files fail at chosen calls.
 use std::alloc::{Alloc, Allocator, Global};
 use std::cell::Cell;
+use std::fmt::Display;
 use std::fs::{File, Metadata, OpenFile, OpenOptions};
 use std::io;
 use std::io::{Read, Seek, SeekFrom, Write};
@@ -100,6 +101,16 @@ impl Alloc for Weak {
 
     fn alloc(&self) -> Global {
         self.rt.alloc()
+    }
+}
+
+impl Eprint for Weak {
+    fn eprint<D: Display + Drop>(&self, value: D) -> io::Result<()> {
+        self.rt.eprint(value)
+    }
+
+    fn eprintln<D: Display + Drop>(&self, value: D) -> io::Result<()> {
+        self.rt.eprintln(value)
     }
 }
 
