@@ -4,6 +4,7 @@ ghost use Rattle.shared_machine.specs.History.{StartsWith, calls_by, IsLegalFrom
 ghost use Rattle.shared_machine.specs.Passes.{IsPassOf, Follows};
 ghost use Rattle.shared_machine.specs.declared.entry.Entry.{Entry};
 
+use crate::bells::Bells;
 use crate::machine::{Machine, NoMemory, StepRelation};
 use crate::meeting::{meet_seats, split_seat_off};
 use crate::pass::Pass;
@@ -20,6 +21,7 @@ use std::sync::Wait;
 #[derive(Drop)]
 pub struct Hub<M: StepRelation, D: Drop = ()> {
     table: HubTable<M, D>,
+    bells: Bells,
 }
 
 impl<M: StepRelation, D: Drop> Model for Hub<M, D> {
@@ -39,8 +41,9 @@ impl<M: Machine<D>, D: Drop> Hub<M, D> {
     pub fn new(alloc: Global, machine: (M, D)) -> Result<(Hub<M, D>, Pass<M, D>), NoMemory>
         ensures { IfOk result (λ r. (r.0.start ≡ machine) × IsPassOf r.0 r.1 × (r.1.seen ≡ [])) }
     {
+        let bells = Bells::new(alloc)?;
         let (table, seat) = open_table(alloc, machine)?;
-        Ok((Hub { table }, Pass { seat }))
+        Ok((Hub { table, bells }, Pass { seat }))
     }
 
     /// One more pass, for another caller. It has seen what the old one had seen, has a caller's number of its own, and
@@ -72,8 +75,8 @@ impl<M: Machine<D>, D: Drop> Hub<M, D> {
         ensures err { IfErr result (λ _. pass.new ≡ pass.old) }
     {
         let top = &self.table.shared;
-        let ticket = wait_for_turn(rt, top, &mut pass.seat);
-        call_in_turn(top, &mut pass.seat, ticket, event)
+        let ticket = wait_for_turn(rt, top, &self.bells, &mut pass.seat);
+        call_in_turn(top, &self.bells, &mut pass.seat, ticket, event)
     }
 
     /// Brings two passes together: both have then seen one legal history, which begins with what each had seen. It
@@ -104,6 +107,7 @@ impl<M: Machine<D>, D: Drop> Hub<M, D> {
         ensures { (history : List (Entry M.Event M.Answer)) × StartsWith history pass.seen × (calls_by pass.caller history ≡ calls_by pass.caller pass.seen) × Reaches M.steps M.refusal M.decks_left self.start.0 history result.0 }
     {
         let Pass { seat } = pass;
-        close_table(rt, self.table, seat)
+        let Hub { table, bells } = self;
+        close_table(rt, table, &bells, seat)
     }
 }

@@ -1,6 +1,7 @@
 //! A machine that threads share, one call at a time, with one legal history of all calls.
 #![tactic(auto)]
 
+mod bells;
 mod entry;
 mod hub;
 mod machine;

@@ -3,6 +3,7 @@ ghost use Rattle.std.specs.Prelude.{◌≡◌, [], IfOk};
 ghost use Rattle.shared_machine.specs.Turns.{opening_view, ClosesWith};
 ghost use Rattle.shared_machine.specs.declared.turn_state.TurnState.TheVariants.{Idle, HasTurn};
 
+use crate::bells::Bells;
 use crate::machine::{Machine, NoMemory};
 use crate::rule::{HubSeat, HubTable};
 use crate::slot_value::SlotValue;
@@ -52,11 +53,12 @@ fn take_out<M: Machine<D>, D: Drop>(
 pub(crate) fn close_table<M: Machine<D>, D: Drop, R: Wait>(
     rt: &R,
     table: HubTable<M, D>,
+    bells: &Bells,
     mut seat: HubSeat<M, D>,
 ) -> (M, D)
     requires { (seat.table_id ≡ table.shared.table_id) × (table.shared.table_id.words ≡ 3) × (table.shared.table_id.slots ≡ 1) × (seat.me.0.turn ≡ Idle) }
     ensures { ClosesWith (λ x e a y. M.steps x.0 e a y.0) (λ x y. M.refusal x.0 y.0) (λ x. M.decks_left x.0) seat.me.0.start seat.me.0.caller seat.me.0.seen result }
 {
-    let ticket = wait_for_turn(rt, &table.shared, &mut seat);
+    let ticket = wait_for_turn(rt, &table.shared, bells, &mut seat);
     take_out(table, seat, ticket)
 }

@@ -3,6 +3,7 @@ ghost use Rattle.std.specs.Prelude.{◌≡◌, ◌+◌, ◌<◌, ◌^◌};
 ghost use Rattle.shared_machine.specs.Turns.{with_turn};
 ghost use Rattle.shared_machine.specs.declared.turn_state.TurnState.TheVariants.{Idle, Waiting, HasTurn};
 
+use crate::bells::Bells;
 use crate::machine::Machine;
 use crate::rule::{HubSeat, HubSteps, SERVING, TICKET};
 use crate::steps::{LookAtServing, TakeTicket};
@@ -13,7 +14,7 @@ use std::thread;
 const LOOKS: u32 = 50;
 
 // Looks a few times whether the ticket that would be drawn next is served already. Nothing is known afterwards, and
-// nothing rests on it. But a caller that takes a ticket while another has the turn is parked, and all behind it wait until
+// nothing rests on it. But a caller that takes a ticket while another has the turn sleeps, and all after it wait until
 // its thread runs again; where turns are short, giving way a few times is much cheaper.
 fn look_for_free_turn<M: Machine<D>, D: Drop>(top: &HubSteps<M, D>)
     requires { top.now.table_id.words ≡ 3 }
@@ -51,10 +52,11 @@ fn take_ticket<M: Machine<D>, D: Drop, R: Wait>(
 }
 
 /// Takes a ticket, and waits until it is served. The caller then holds the turn. While another ticket is served the
-/// thread is parked on the word that says which; the end of each turn wakes it.
+/// thread sleeps; the end of the turn before its own wakes it.
 pub(crate) fn wait_for_turn<M: Machine<D>, D: Drop, R: Wait>(
     rt: &R,
     top: &HubSteps<M, D>,
+    bells: &Bells,
     seat: &mut HubSeat<M, D>,
 ) -> u64
     requires { (seat.old.table_id ≡ top.now.table_id) × (top.now.table_id.words ≡ 3) × (seat.old.me.0.turn ≡ Idle) }
@@ -62,11 +64,12 @@ pub(crate) fn wait_for_turn<M: Machine<D>, D: Drop, R: Wait>(
 {
     let ticket = take_ticket(rt, top, seat);
     for _ in rt.forever() {
+        let seen = bells.rung(ticket);
         let serving = top.load::<LookAtServing>(seat, SERVING);
         if serving == ticket {
             return ticket;
         }
-        top.park(rt, SERVING, (serving % 4294967296) as u32);
+        bells.sleep(rt, ticket, seen);
     }
     unreachable!()
 }

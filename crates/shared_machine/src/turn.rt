@@ -5,8 +5,9 @@ ghost use Rattle.shared_machine.specs.declared.entry.Entry.{Entry};
 ghost use Rattle.shared_machine.specs.declared.slot_value.SlotValue.{SlotValue};
 ghost use Rattle.shared_machine.specs.declared.turn_state.TurnState.TheVariants.{Idle, HasTurn, HoldsMachine};
 
+use crate::bells::Bells;
 use crate::machine::{Machine, NoMemory};
-use crate::rule::{COUNT, HubSeat, HubSteps, SERVING, TICKET};
+use crate::rule::{COUNT, HubSeat, HubSteps, SERVING};
 use crate::slot_value::SlotValue;
 use crate::steps::{PassTurn, RaiseCount, TakeMachine};
 use std::snapshot::Snapshot;
@@ -48,30 +49,21 @@ fn step_in_slot<M: Machine<D>, D: Drop>(
     step_machine(slot, event)
 }
 
-// Wakes the callers that are parked, where tickets are out beside the one that was `served`. A caller parks only after it
-// took its ticket, so one that takes a ticket after this look finds the turn passed on already.
-fn wake_waiting<M: Machine<D>, D: Drop>(top: &HubSteps<M, D>, served: u64)
-    requires { top.now.table_id.words ≡ 3 }
-{
-    if top.peek(TICKET).wrapping_sub(served) != 1 {
-        top.wake_all(SERVING);
-    }
-}
-
-// Puts the slot back, passes the turn on, and wakes the callers that wait.
-fn pass_turn<M: Machine<D>, D: Drop>(top: &HubSteps<M, D>, seat: &mut HubSeat<M, D>)
+// Puts the slot back, passes the turn on, and wakes the caller that has the next ticket.
+fn pass_turn<M: Machine<D>, D: Drop>(top: &HubSteps<M, D>, bells: &Bells, seat: &mut HubSeat<M, D>)
     requires seat { (seat.old.table_id ≡ top.now.table_id) × (top.now.table_id.words ≡ 3) }
     requires held { (t : ℕ) × (x : M × D) × (r : Bool) × (b : SlotValue (M × D) M.Event M.Answer) × (seat.old.me.0.turn ≡ HoldsMachine t x r) × (seat.old.me.1 ≡ (0, b) ∷ []) × M.refusal x.0 b.machine.0 }
     ensures { (seat.new.table_id ≡ seat.old.table_id) × (seat.new.id ≡ seat.old.id) × (seat.new.me ≡ (with_turn seat.old.me.0 Idle, [])) }
 {
     let served = top.fetch_add::<PassTurn>(seat, SERVING, 1);
-    wake_waiting(top, served);
+    bells.ring(served.wrapping_add(1));
 }
 
 /// One call by the holder of the turn: a step of the machine, entered into the history where the machine answered. The
 /// turn is then passed on. A step that was refused is no entry.
 pub(crate) fn call_in_turn<M: Machine<D>, D: Drop>(
     top: &HubSteps<M, D>,
+    bells: &Bells,
     seat: &mut HubSeat<M, D>,
     ticket: u64,
     event: M::Event,
@@ -85,11 +77,11 @@ pub(crate) fn call_in_turn<M: Machine<D>, D: Drop>(
     match step_in_slot(top, seat, event) {
         Ok(answer) => {
             top.fetch_add::<RaiseCount<M>>(seat, COUNT, 1);
-            pass_turn(top, seat);
+            pass_turn(top, bells, seat);
             Ok(answer)
         }
         Err(none) => {
-            pass_turn(top, seat);
+            pass_turn(top, bells, seat);
             Err(none)
         }
     }
