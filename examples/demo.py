@@ -1,8 +1,8 @@
 """A server and a gateway over loopback, driven by edit_orders; `./run demo` builds the three programs and runs this.
 
 An order is created, two of its stories are swapped, the gateway is killed, the order is edited meanwhile, the gateway is started
-again, and the order is released. Each line shows who says it. It ends with 0 exactly where the gateway's deck ends with the
-server's order, released, and with 1 else, within 10 seconds.
+again, and the order is released. Each line shows who says it. It waits for what the programs say, and ends with 0 exactly where the
+gateway's deck ends with the server's order, released, and with 1 else: where a program ends, or nothing is said for two minutes.
 
 Usage: examples/demo.py [FOLDER]. The programs are FOLDER/crates/NAME/out/NAME, of this repository unless another is given; with
 the variable DEMO_PROGRAMS they are NAME in that folder.
@@ -17,7 +17,8 @@ import tempfile
 import threading
 import time
 
-LIMIT = 9.0
+# so many seconds without news are too many
+LIMIT = 120.0
 ORDER = "EVENING"
 NCS = "ncs1"
 # items of edit_orders are for this device
@@ -65,8 +66,11 @@ class Demo:
         """So many seconds are left."""
         left = self.until - time.time()
         if left <= 0:
-            raise Failed(f"not done after {LIMIT:.0f} seconds")
+            raise Failed(f"nothing new for {LIMIT:.0f} seconds")
         return left
+
+    def news_came(self):
+        self.until = time.time() + LIMIT
 
     def settings(self):
         with open(f"{self.folder}/ncs.toml", "w", encoding="utf-8") as it:
@@ -103,6 +107,7 @@ class Demo:
             line = line.decode("utf-8").rstrip("\n")
             say("deck", line)
             words = line.split(" ")
+            self.news_came()
             with self.news:
                 if gateway is self.gateway and words[1:2] == [ORDER]:
                     if words[0] == "load":
@@ -139,6 +144,7 @@ class Demo:
             raise Failed(f"no answer to: {line}") from None
         if answer is None:
             raise Failed(f"edit_orders ended after: {line}")
+        self.news_came()
         say("editor", answer)
         return answer
 
