@@ -1,4 +1,4 @@
-// The same tally as crates/bench_hub, under std's Mutex: `mutex THREADS CALLS`, with the calls of each thread.
+// The same tally as bench/programs/bench_hub, under std's Mutex: `mutex THREADS CALLS`, with the calls of each thread.
 use std::hint::black_box;
 use std::sync::Mutex;
 use std::thread;
