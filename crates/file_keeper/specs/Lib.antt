@@ -1,2 +1,5 @@
+pub mod Causes
 pub mod Reading
 pub mod Keepers
+pub mod Tails
+pub mod Zeros

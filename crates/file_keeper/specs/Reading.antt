@@ -2,18 +2,10 @@
 use Rattle.std.specs.Prelude.{◌≡◌, ℕ, ◌+◌, ◌≤◌, List, drop, length, Option, Result, Ok, Err, ⊤}
 use Rattle.std.specs.Io.KnownBytes.{Consumes, IsAtEnd}
 use Rattle.journal_bytes.specs.Journals.{HasRead, ReaderState}
-use Rattle.journal_bytes.specs.declared.fault.JournalFault.{JournalFault}
-use Rattle.journal_bytes.specs.declared.fault.JournalFault.TheVariants.{Damaged, NoMemory}
 use Rattle.mos_edits.specs.Entries.{Entry}
-use Rattle.rundown_log.specs.declared.keeper.KeepFault.{KeepFault}
-use Rattle.rundown_log.specs.declared.keeper.KeepFault.TheVariants.{Failed, NoMemory as OutOfMemory}
+use Rattle.file_keeper.specs.declared.cause.Cause.{Cause}
 use Rattle.file_keeper.specs.declared.reading.Step.{Step}
 use Rattle.file_keeper.specs.declared.reading.Step.TheVariants.{More, End}
-
--- what a fault of the journal's bytes is to a keeper
-abbrev pub keep_fault : JournalFault → KeepFault
-keep_fault Damaged = Failed
-keep_fault NoMemory = OutOfMemory
 
 -- A file that told these bytes at the start has these left now: what lies between was fed, so many bytes.
 pub record HasCome (start now : Option (List ℕ)) (total : ℕ) (r : ReaderState) : Type 0 where
@@ -27,7 +19,7 @@ abbrev pub IsWhole : Option (List ℕ) → Option (List ℕ) → ℕ → ReaderS
 IsWhole start now total r = HasCome start now total r × IsAtEnd now
 
 -- what one more read came to
-abbrev pub Steps : Option (List ℕ) → Option (List ℕ) → ℕ → ReaderState → Result Step KeepFault → Type 0
+abbrev pub Steps : Option (List ℕ) → Option (List ℕ) → ℕ → ReaderState → Result Step Cause → Type 0
 Steps start now total r (Ok (More n)) = HasCome start now (total + n) r
 Steps start now total r (Ok End) = IsWhole start now total r
 Steps start now total r (Err fault) = ⊤

@@ -7,13 +7,16 @@ ghost use Rattle.rundown_log.specs.Keeping.{Appends, LeavesCertain, Loads, Loads
 ghost use Rattle.file_keeper.specs.Keepers.{IsAppended, IsLoaded, certainty as certainty_of, count_after, doubt as doubt_of, faults as faults_of, file as file_of};
 ghost use Rattle.file_keeper.specs.Reading.{AreRead};
 
-use crate::file::{MOST, cut, length_of, write_behind};
+use crate::cause::{Cause, keep_fault};
+use crate::damage::say_unloaded;
+use crate::file::{MOST, length_of, write_behind};
+use crate::lines::say_fault;
 use crate::reading::load_file;
 use journal_bytes::entry_bytes;
 use mos_fields::{NoMemory, let_go, pair_ok};
 use rundown_log::{Entries, Entry, KeepFault, Keeper};
-use std::alloc::Global;
 use std::fs::{OpenFile, OpenOptions};
+use std::io;
 use std::io::Write;
 use std::mem::replace;
 use std::rt::Files;
@@ -33,7 +36,6 @@ pub struct FileKeeper<R: Files + AllocGlobal + Eprint + Copy + Drop> {
     rt: R,
     path: String,
     file: R::File,
-    alloc: Global,
     // the length to which the file is still to be cut before more is written
     torn: Option<u64>,
     // the entry of the last append, where that failed
@@ -41,44 +43,62 @@ pub struct FileKeeper<R: Files + AllocGlobal + Eprint + Copy + Drop> {
     faults: u64,
 }
 
-// Cuts the file where that is still to be done; whether nothing is left to be cut.
-fn cut_back<F: OpenFile>(file: &F, torn: &mut Option<u64>) -> bool
-    ensures { result ≡ true → torn.new ≡ None }
+// Cuts the file where that is still to be done.
+fn cut_back<F: OpenFile>(file: &F, torn: &mut Option<u64>) -> io::Result<()>
+    ensures { OnOk result (torn.new ≡ None) }
 {
     if let Some(length) = *torn {
-        if !cut(file, length) {
-            return false;
-        }
+        file.set_len(length)?;
         *torn = None;
     }
-    true
+    Ok(())
 }
 
-// How many bytes the file has, where so many more may be written.
-fn end_of<F: OpenFile>(file: &F, more: usize) -> Option<u64> {
+// How many bytes the file has. `TooLong` where so many more are too many.
+fn end_of<F: OpenFile>(file: &F, more: usize) -> Result<u64, Cause> {
     let length = length_of(file)?;
     if more as u64 > MOST - length {
-        return None;
+        return Err(Cause::TooLong);
     }
-    Some(length)
+    Ok(length)
 }
 
-// Writes the bytes of an entry at the end; whether they are on the disk.
-fn put<F: Write + OpenFile>(file: &mut F, torn: &mut Option<u64>, bytes: &[u8]) -> bool
-    ensures { result ≡ true → AppendsBytes (F.contents file.old) (F.contents file.new) bytes.now }
+// Writes the bytes of an entry at the end, and brings them to the disk.
+fn put<F: Write + OpenFile>(file: &mut F, torn: &mut Option<u64>, bytes: &[u8]) -> Result<(), Cause>
+    ensures { OnOk result (AppendsBytes (F.contents file.old) (F.contents file.new) bytes.now) }
 {
-    if !cut_back(file, torn) {
-        return false;
+    cut_back(file, torn)?;
+    let length = end_of(file, bytes.len())?;
+    match write_behind(file, bytes) {
+        Ok(()) => Ok(()),
+        Err(fault) => {
+            *torn = Some(length);
+            let _ = cut_back(file, torn);
+            Err(Cause::System(fault))
+        }
     }
-    let Some(length) = end_of(file, bytes.len()) else {
-        return false;
-    };
-    if write_behind(file, bytes) {
-        return true;
+}
+
+// The same, and whether they are on the disk. Why not is said where that is asked for.
+fn put_said<R: Files + AllocGlobal + Eprint>(
+    rt: &R,
+    path: &str,
+    file: &mut R::File,
+    torn: &mut Option<u64>,
+    bytes: &[u8],
+    say: bool,
+) -> bool
+    ensures { result ≡ true → AppendsBytes (R.File.contents file.old) (R.File.contents file.new) bytes.now }
+{
+    match put(file, torn, bytes) {
+        Ok(()) => true,
+        Err(cause) => {
+            if say {
+                say_fault(rt, path, cause);
+            }
+            false
+        }
     }
-    *torn = Some(length);
-    cut_back(file, torn);
-    false
 }
 
 // Puts an entry in doubt, or none.
@@ -88,19 +108,22 @@ fn set_doubt(doubt: &mut Option<Entry>, now: Option<Entry>)
     let_go(replace(doubt, now));
 }
 
-// Writes an entry at the end. None inside where it is on the disk, and else the entry.
-fn put_entry<F: Write + OpenFile>(
-    alloc: Global,
-    file: &mut F,
+// Writes an entry at the end. None inside where it is on the disk, and else the entry; the first time since an append
+// succeeded or a load came, it is said why.
+fn put_entry<R: Files + AllocGlobal + Eprint>(
+    rt: &R,
+    path: &str,
+    file: &mut R::File,
     torn: &mut Option<u64>,
+    before: &Option<Entry>,
     e: &Entry,
 ) -> Result<Option<Entry>, NoMemory>
-    ensures written { IfOk result (λ doubt. IfNone doubt (AppendsBytes (F.contents file.old) (F.contents file.new) (bytes_of_entry e.now))) }
+    ensures written { IfOk result (λ doubt. IfNone doubt (AppendsBytes (R.File.contents file.old) (R.File.contents file.new) (bytes_of_entry e.now))) }
     ensures doubt { IfOk result (λ doubt. IfSome doubt (λ d. d ≡ e.now)) }
     ensures kept { OnErr result (file.new ≡ file.old) }
 {
-    let (bytes, copy) = pair_ok(entry_bytes(alloc, e), e.try_clone())?;
-    if put(file, torn, &bytes) {
+    let (bytes, copy) = pair_ok(entry_bytes(rt.alloc(), e), e.try_clone())?;
+    if put_said(rt, path, file, torn, &bytes, before.is_none()) {
         let_go(copy);
         return Ok(None);
     }
@@ -154,7 +177,6 @@ impl<R: Files + AllocGlobal + Eprint + Copy + Drop> FileKeeper<R> {
                 rt: *rt,
                 path: own,
                 file,
-                alloc: rt.alloc(),
                 torn: None,
                 doubt: None,
                 faults: 0,
@@ -174,18 +196,15 @@ impl<R: Files + AllocGlobal + Eprint + Copy + Drop> FileKeeper<R> {
         ensures rises { self.old.faults ≤ self.new.faults }
     {
         set_doubt(&mut self.doubt, None);
-        match load_file(
-            &self.rt,
-            self.path.as_str(),
-            self.alloc,
-            &mut self.file,
-            known,
-        ) {
+        match load_file(&self.rt, self.path.as_str(), &mut self.file, known) {
             Ok(entries) => {
                 self.torn = None;
                 Ok(entries)
             }
-            Err(fault) => Err(count(&mut self.faults, fault)),
+            Err(cause) => {
+                say_unloaded(&self.rt, self.path.as_str(), &mut self.file, cause);
+                Err(count(&mut self.faults, keep_fault(&cause)))
+            }
         }
     }
 }
@@ -213,7 +232,15 @@ impl<R: Files + AllocGlobal + Eprint + Copy + Drop> Keeper for FileKeeper<R> {
         // What is answered Ok was written.
         ensures written { OnOk result (AppendsBytes (R.File.contents (file_of self.old)) (R.File.contents (file_of self.new)) (bytes_of_entry e.now)) }
     {
-        match put_entry(self.alloc, &mut self.file, &mut self.torn, e)? {
+        let path = self.path.as_str();
+        match put_entry(
+            &self.rt,
+            path,
+            &mut self.file,
+            &mut self.torn,
+            &self.doubt,
+            e,
+        )? {
             None => {
                 set_doubt(&mut self.doubt, None);
                 Ok(())

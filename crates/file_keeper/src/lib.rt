@@ -8,9 +8,13 @@
 //! of which none was rejected, and that each call that fails is counted once.
 #![tactic(auto)]
 
+mod cause;
+mod damage;
 mod file;
 mod keeper;
+mod lines;
 mod reading;
 mod tail;
+mod zeros;
 
 pub use keeper::FileKeeper;

@@ -1,35 +1,28 @@
 //! Reading a file's journal.
 ghost use Rattle.std.specs.Prelude.{◌≡◌, ◌≤◌, ◌++◌, ℕ, [], None, IfOk, IfSome, List, OnOk, Option, drop, length, vec_len};
 ghost use Rattle.journal_bytes.specs.Journals.{HasRead};
-ghost use Rattle.file_keeper.specs.Reading.{AreRead, HasCome, IsWhole, Steps, count_of, keep_fault as fault_of};
+ghost use Rattle.file_keeper.specs.Reading.{AreRead, HasCome, IsWhole, Steps, count_of};
 
-use crate::file::{MOST, cut, length_of, sync};
-use crate::tail::save_rest;
-use journal_bytes::{JournalFault, JournalReader};
+use crate::cause::{Cause, journal_cause};
+use crate::file::{MOST, length_of};
+use crate::tail::cut_off;
+use crate::zeros::content_of;
+use journal_bytes::JournalReader;
 use mos_fields::{NoMemory, let_go};
-use rundown_log::{Entries, KeepFault};
+use rundown_log::Entries;
 use std::alloc::Global;
+use std::fs::OpenFile;
 use std::io::{ErrorKind, Read, Seek, SeekFrom};
 use std::rt::Files;
 
 /// So many bytes are read at once.
-const PIECE: usize = 65_536;
+pub(crate) const PIECE: usize = 65_536;
 
 /// Room for a piece of the file.
-fn room(alloc: Global) -> Result<Vec<u8>, NoMemory>
+pub(crate) fn room(alloc: Global) -> Result<Vec<u8>, NoMemory>
     ensures { IfOk result (λ piece. vec_len piece ≡ 65536) }
 {
     Ok(vec![in alloc; 0u8; PIECE]?)
-}
-
-/// What a fault of the journal's bytes is to a keeper.
-fn keep_fault(fault: JournalFault) -> KeepFault
-    ensures { result ≡ fault_of fault }
-{
-    match fault {
-        JournalFault::Damaged => KeepFault::Failed,
-        JournalFault::NoMemory => KeepFault::NoMemory,
-    }
 }
 
 /// What one more read came to.
@@ -42,7 +35,7 @@ pub(crate) enum Step {
 }
 
 /// Feeds one more piece behind so many bytes.
-fn feed_piece(reader: &mut JournalReader, piece: &[u8], total: u64) -> Result<(), KeepFault>
+fn feed_piece(reader: &mut JournalReader, piece: &[u8], total: u64) -> Result<(), Cause>
     requires few { length piece.now ≤ 65536 }
     requires most { total ≤ 1099511627776 }
     requires come { HasCome None None total reader.old }
@@ -50,7 +43,7 @@ fn feed_piece(reader: &mut JournalReader, piece: &[u8], total: u64) -> Result<()
 {
     match reader.feed(piece) {
         Ok(()) => Ok(()),
-        Err(fault) => Err(keep_fault(fault)),
+        Err(fault) => Err(journal_cause(fault)),
     }
 }
 
@@ -60,7 +53,7 @@ fn read_piece<F: Read>(
     piece: &mut [u8],
     total: u64,
     reader: &mut JournalReader,
-) -> Result<Step, KeepFault>
+) -> Result<Step, Cause>
     requires room { length piece.old ≡ 65536 }
     requires most { total ≤ 1099511627776 }
     requires come { HasCome None None total reader.old }
@@ -74,7 +67,7 @@ fn read_piece<F: Read>(
             Err(fault) => Err(fault),
         },
         Err(error) if error.kind() == ErrorKind::Interrupted => Ok(Step::More(0)),
-        Err(_) => Err(KeepFault::Failed),
+        Err(error) => Err(Cause::System(error)),
     }
 }
 
@@ -83,7 +76,7 @@ fn read_all<F: Read>(
     file: &mut F,
     piece: &mut [u8],
     reader: &mut JournalReader,
-) -> Result<u64, KeepFault>
+) -> Result<u64, Cause>
     requires room { length piece.old ≡ 65536 }
     requires nothing { HasRead reader.old [] }
     ensures { IfOk result (λ total. IsWhole (F.remaining file.old) (F.remaining file.new) total reader.new) }
@@ -91,7 +84,7 @@ fn read_all<F: Read>(
     let mut total = 0;
     'piece: for _ in 0..u64::MAX {
         if total > MOST {
-            return Err(KeepFault::Failed);
+            return Err(Cause::TooLong);
         }
         match read_piece(file, piece, total, reader) {
             Ok(Step::More(count)) => total += count as u64,
@@ -99,47 +92,43 @@ fn read_all<F: Read>(
             Err(fault) => return Err(fault),
         }
     }
-    Err(KeepFault::Failed)
+    Err(Cause::TooLong)
 }
 
-/// Brings the file to the disk without the rest behind so many bytes, which is saved beside it first; whether that succeeded.
+/// Cuts off what stands behind the last whole message of a file of this size, of which so many bytes were read, and brings
+/// the file to the disk.
 fn settle<R: Files + AllocGlobal + Eprint>(
     rt: &R,
     path: &str,
     file: &mut R::File,
-    total: u64,
-    rest: usize,
-    piece: &mut [u8],
-) -> bool {
-    if rest > 0 {
-        let left = total.saturating_sub(rest as u64);
-        if !save_rest(rt, path, file, left, rest, piece) || !cut(file, left) {
-            return false;
-        }
+    whole: u64,
+    read: u64,
+    size: u64,
+) -> Result<(), Cause> {
+    if whole < size {
+        cut_off(rt, path, file, whole, read, size)?;
     }
-    sync(file)
+    Ok(file.sync_data()?)
 }
 
-/// Reads a file from its beginning, with a reader to which nothing was fed, and cuts off what ends inside a message.
+/// Reads a file up to the zeros at its end, with a reader to which nothing was fed, and cuts off what stands behind the last
+/// whole message.
 fn read_file<R: Files + AllocGlobal + Eprint>(
     rt: &R,
     path: &str,
-    alloc: Global,
     file: &mut R::File,
     reader: &mut JournalReader,
-) -> Result<(), KeepFault>
+) -> Result<(), Cause>
     requires nothing { HasRead reader.old [] }
     ensures { OnOk result ((bytes : List ℕ) × HasRead reader.new bytes) }
 {
-    if length_of(file).is_none() || file.seek(SeekFrom::Start(0)).is_err() {
-        return Err(KeepFault::Failed);
-    }
-    let mut piece = room(alloc)?;
-    let total = read_all(file, &mut piece, reader)?;
-    if settle(rt, path, file, total, reader.rest(), &mut piece) {
-        return Ok(());
-    }
-    Err(KeepFault::Failed)
+    let size = length_of(file)?;
+    let mut piece = room(rt.alloc())?;
+    let content = content_of(file, size, &mut piece)?;
+    file.seek(SeekFrom::Start(0))?;
+    let read = read_all(&mut file.by_ref().take(content), &mut piece, reader)?;
+    let whole = read.saturating_sub(reader.rest() as u64);
+    settle(rt, path, file, whole, read, size)
 }
 
 /// The entries behind the first so many. None where there are fewer.
@@ -157,28 +146,27 @@ fn behind(entries: Entries, known: usize) -> Option<Entries>
     Some(Entries::from_vec(items))
 }
 
-/// The entries of a file's whole messages, behind the first so many; there have to be these. What ends inside a message is
-/// cut off and saved beside it, and what is left is on the disk.
+/// The entries of a file's whole messages, behind the first so many; there have to be these. What stands behind the last
+/// whole message is saved beside the file and cut off, and what is left is on the disk.
 pub(crate) fn load_file<R: Files + AllocGlobal + Eprint>(
     rt: &R,
     path: &str,
-    alloc: Global,
     file: &mut R::File,
     known: usize,
-) -> Result<Entries, KeepFault>
+) -> Result<Entries, Cause>
     ensures { IfOk result (λ entries. AreRead known entries) }
 {
-    let mut reader = JournalReader::new(alloc);
-    let read = read_file(rt, path, alloc, file, &mut reader);
+    let mut reader = JournalReader::new(rt.alloc());
+    let read = read_file(rt, path, file, &mut reader);
     let entries = reader.into_entries();
     match read {
         Ok(()) => match behind(entries, known) {
             Some(rest) => Ok(rest),
-            None => Err(KeepFault::Failed),
+            None => Err(Cause::Fewer),
         },
-        Err(fault) => {
+        Err(cause) => {
             let_go(entries);
-            Err(fault)
+            Err(cause)
         }
     }
 }

@@ -1,124 +1,137 @@
 //! What a load cuts off is saved beside the journal.
-ghost use Rattle.std.specs.Prelude.{◌≤◌, IfOk, length};
+ghost use Rattle.std.specs.Prelude.{◌↔◌, IsTrue};
+ghost use Rattle.file_keeper.specs.Tails.{HoldsEnd};
 
+use crate::cause::Cause;
+use crate::lines::say_cut;
 use std::alloc::Global;
 use std::fs::{OpenFile, OpenOptions};
 use std::io;
 use std::io::{ErrorKind, Read, Seek, SeekFrom, Write};
 use std::rt::Files;
 
-// The end tag of a message, in UTF-16BE.
+/// `</mos>` in UTF-16BE.
 const END: [u8; 12] = [0, 60, 0, 47, 0, 109, 0, 111, 0, 115, 0, 62];
 
-// So many files of cut ends are made beside a journal at most.
+/// So many files of cut ends are made beside a journal at most.
 const MOST: u32 = 1_000_000;
 
-// How many bytes of an end tag the last bytes were, behind one more.
-fn matched(count: usize, last: u8, byte: u8) -> usize {
-    if END.get(count) == Some(&byte) {
-        return count + 1;
-    }
-    match (last, byte) {
-        (0, 60) => 2,
-        (_, 0) => 1,
-        _ => 0,
-    }
-}
-
-// Looks for the end tag of a message in pieces.
-#[derive(Drop)]
-struct Finder {
-    count: usize,
-    last: u8,
-    found: bool,
-}
-
-impl Finder {
-    fn look(&mut self, piece: &[u8]) {
-        for byte in piece {
-            self.count = matched(self.count, self.last, *byte);
-            self.last = *byte;
-            if self.count >= END.len() {
-                self.found = true;
-                self.count = 0;
-            }
+/// Whether the end tag of a message stands in these bytes.
+fn holds_end(bytes: &[u8]) -> bool
+    ensures { IsTrue result ↔ HoldsEnd bytes.now }
+{
+    let mut rest = bytes;
+    'byte: while let [_, more @ ..] = rest {
+        if rest.starts_with(&END) {
+            return true;
         }
+        rest = more;
+    }
+    false
+}
+
+/// The bytes of a file from one place to another.
+fn part_of<F: Read + Seek>(alloc: Global, file: &mut F, from: u64, to: u64) -> io::Result<Vec<u8>> {
+    let mut bytes = Vec::new(alloc);
+    file.seek(SeekFrom::Start(from))?;
+    file.by_ref()
+        .take(to.saturating_sub(from))
+        .read_to_end(&mut bytes)?;
+    Ok(bytes)
+}
+
+/// The folder of a file.
+fn folder_of(path: &str) -> &str {
+    match path.rsplit_once('/') {
+        Some(("", _)) => "/",
+        Some((folder, _)) => folder,
+        None => ".",
     }
 }
 
-// The next file of a cut end beside the journal, which isn't there yet, and its number.
-fn next_file<R: Files + AllocGlobal>(rt: &R, path: &str) -> io::Result<(R::File, u32)> {
+/// Brings the names in a folder to the disk. A file system that can't sync a folder is no fault.
+fn sync_folder<R: Files>(rt: &R, folder: &str) -> io::Result<()> {
+    let synced = match OpenOptions::new().read(true).open(rt, folder) {
+        Ok(opened) => opened.sync_all(),
+        Err(fault) => Err(fault),
+    };
+    match synced {
+        Err(fault) if fault.kind() == ErrorKind::InvalidInput => Ok(()),
+        other => other,
+    }
+}
+
+/// Writes bytes into a new file, zeros behind them up to this size, and brings them to the disk.
+fn fill<F: Write + OpenFile>(file: &mut F, bytes: &[u8], size: u64) -> io::Result<()> {
+    file.write_all(bytes)?;
+    file.set_len(size)?;
+    file.sync_all()
+}
+
+/// Fills the new file at this path, and brings it and its name to the disk. Where that fails, it is removed.
+fn keep<R: Files>(
+    rt: &R,
+    path: &str,
+    file: &mut R::File,
+    bytes: &[u8],
+    size: u64,
+) -> io::Result<()> {
+    let kept = match fill(file, bytes, size) {
+        Ok(()) => sync_folder(rt, folder_of(path)),
+        Err(fault) => Err(fault),
+    };
+    if kept.is_err() {
+        let _ = rt.remove_file(path);
+    }
+    kept
+}
+
+/// Saves bytes and zeros behind them up to this size in the first file `PATH.cut-1`, `PATH.cut-2` and so on that isn't there
+/// yet. Its number.
+fn save<R: Files + AllocGlobal>(rt: &R, path: &str, bytes: &[u8], size: u64) -> Result<u32, Cause> {
     for number in 1..MOST {
-        let name = format!(in rt.alloc(); "{path}.cut-{number}")?;
-        match OpenOptions::new()
+        let name = match format!(in rt.alloc(); "{path}.cut-{number}") {
+            Ok(name) => name,
+            Err(_) => return Err(Cause::NoMemory),
+        };
+        let opened = OpenOptions::new()
             .write(true)
             .create_new(true)
-            .open(rt, name.as_str())
-        {
-            Ok(file) => return Ok((file, number)),
-            Err(fault) if fault.kind() == ErrorKind::AlreadyExists => {}
-            Err(fault) => return Err(fault),
-        }
+            .open(rt, name.as_str());
+        let kept = match opened {
+            Ok(mut file) => keep(rt, name.as_str(), &mut file, bytes, size),
+            Err(fault) if fault.kind() == ErrorKind::AlreadyExists => continue,
+            Err(fault) => Err(fault),
+        };
+        return match kept {
+            Ok(()) => Ok(number),
+            Err(fault) => Err(Cause::Unsaved { number, fault }),
+        };
     }
-    Err(io::Error::from(ErrorKind::AlreadyExists))
+    Err(Cause::Unsaved {
+        number: MOST,
+        fault: io::Error::from(ErrorKind::AlreadyExists),
+    })
 }
 
-// Copies the bytes from here on to the end; whether the end tag of a message stands in them.
-fn copy_rest<F: Read, G: Write>(file: &mut F, copy: &mut G, piece: &mut [u8]) -> io::Result<bool> {
-    let mut finder = Finder {
-        count: 0,
-        last: 1,
-        found: false,
-    };
-    for _ in 0..u64::MAX {
-        match file.read(piece) {
-            Ok(0) => return Ok(finder.found),
-            Ok(count) => {
-                finder.look(&piece[..count]);
-                copy.write_all(&piece[..count])?;
-            }
-            Err(fault) if fault.kind() == ErrorKind::Interrupted => {}
-            Err(fault) => return Err(fault),
-        }
-    }
-    Ok(finder.found)
-}
-
-// Saves what stands behind so many bytes, and says so.
-fn try_save<R: Files + AllocGlobal + Eprint>(
+/// Cuts off what stands behind the last whole message of a file of this size, of which so many bytes were read and the others
+/// are zeros. It is saved first, and said. `Broken` where an end tag stands in it; then nothing is changed, and neither where
+/// it can't be saved.
+pub(crate) fn cut_off<R: Files + AllocGlobal + Eprint>(
     rt: &R,
     path: &str,
     file: &mut R::File,
-    from: u64,
-    rest: usize,
-    piece: &mut [u8],
-) -> io::Result<()> {
-    let (mut copy, number) = next_file(rt, path)?;
-    file.seek(SeekFrom::Start(from))?;
-    let whole = copy_rest(file, &mut copy, piece)?;
-    copy.sync_all()?;
-    let line = if whole {
-        format!(in rt.alloc();
-            "log {path}: LOOKS DAMAGED: whole messages stand behind a broken one; {rest} bytes were cut off at byte {from} and saved as {path}.cut-{number}\n"
-        )?
-    } else {
-        format!(in rt.alloc();
-            "log {path}: {rest} bytes of a message that isn't whole were cut off at byte {from} and saved as {path}.cut-{number}\n"
-        )?
-    };
-    let _ = rt.eprint(line.as_str());
+    whole: u64,
+    read: u64,
+    size: u64,
+) -> Result<(), Cause> {
+    let bytes = part_of(rt.alloc(), file, whole, read)?;
+    if holds_end(&bytes) {
+        return Err(Cause::Broken { at: whole });
+    }
+    let count = size.saturating_sub(whole);
+    let number = save(rt, path, &bytes, count)?;
+    file.set_len(whole)?;
+    say_cut(rt, path, whole, count, bytes.is_empty(), number);
     Ok(())
-}
-
-/// Saves the last so many bytes of the journal, which begin at `from`, in a new file beside it, brings that to the disk, and
-/// says so on standard error; whether all but the last succeeded.
-pub(crate) fn save_rest<R: Files + AllocGlobal + Eprint>(
-    rt: &R,
-    path: &str,
-    file: &mut R::File,
-    from: u64,
-    rest: usize,
-    piece: &mut [u8],
-) -> bool {
-    try_save(rt, path, file, from, rest, piece).is_ok()
 }
