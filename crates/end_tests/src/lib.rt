@@ -21,6 +21,8 @@ mod refused_entries;
 #[cfg(test)]
 mod server;
 #[cfg(test)]
+mod tails;
+#[cfg(test)]
 mod texts;
 #[cfg(test)]
 mod weak;

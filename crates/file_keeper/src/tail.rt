@@ -1,6 +1,6 @@
 //! What a load cuts off is saved beside the journal.
 ghost use Rattle.std.specs.Prelude.{◌↔◌, IsTrue};
-ghost use Rattle.file_keeper.specs.Tails.{HoldsEnd};
+ghost use Rattle.file_keeper.specs.Tails.{BeginsWithEnd, HoldsEnd};
 
 use crate::cause::Cause;
 use crate::lines::say_cut;
@@ -16,13 +16,20 @@ const END: [u8; 12] = [0, 60, 0, 47, 0, 109, 0, 111, 0, 115, 0, 62];
 /// So many files of cut ends are made beside a journal at most.
 const MOST: u32 = 1_000_000;
 
+/// Whether these bytes begin with the end tag of a message.
+fn begins_with_end(bytes: &[u8]) -> bool
+    ensures { IsTrue result ↔ BeginsWithEnd bytes.now }
+{
+    bytes.starts_with(&END)
+}
+
 /// Whether the end tag of a message stands in these bytes.
 fn holds_end(bytes: &[u8]) -> bool
     ensures { IsTrue result ↔ HoldsEnd bytes.now }
 {
     let mut rest = bytes;
     'byte: while let [_, more @ ..] = rest {
-        if rest.starts_with(&END) {
+        if begins_with_end(rest) {
             return true;
         }
         rest = more;
