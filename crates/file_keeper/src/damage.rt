@@ -36,7 +36,7 @@ fn feed_parts(
     step: usize,
 ) -> Result<(), JournalFault>
     requires ready { (reader.old).decoder.ready ≡ [] }
-    requires step { 0 < step }
+    requires some { 0 < step }
     ensures { OnOk result ((reader.new).decoder.ready ≡ []) }
 {
     'part: for part in piece.chunks(step) {

@@ -25,12 +25,21 @@ use std::rt::Files;
 ///
 /// An entry whose append is answered Ok is on the disk. Where an append fails, the file is cut back to what it was; where
 /// that fails too, the next append does it first, before it writes. An append fails also where the file would have more
-/// than 1,099,511,627,776 bytes.
+/// than 1,099,511,627,776 bytes. An append before the first load goes behind whatever stands in the file.
 ///
-/// A load gives the entries of the whole messages, saves what stands behind them inside a message in a new file beside the
-/// journal and cuts it off, says so on standard error, and brings the file to the disk. It fails where the file has more than 1,099,511,627,776 bytes, where its bytes are rejected, where a
-/// message is no entry, and where the file can't be read, cut or synced; but for the last two nothing is cut then. An
-/// append before the first load goes behind whatever stands in the file.
+/// A load gives the entries of the whole messages, and brings the file to the disk. What stands behind the last of them, but
+/// for white space, is the torn end of a last write. It is saved in a new file, the first of `PATH.cut-1`, `PATH.cut-2` and so
+/// on that isn't there yet; once that is on the disk, with its name in the folder where the file system can sync a folder, it
+/// is cut off. Zeros at the end of the file, which a crash may leave, are cut off and saved with it, and aren't decoded: all
+/// bytes behind the last one that isn't zero, but for one more where that one is the first of a code unit.
+///
+/// A load fails, and changes nothing, where the file has more than 1,099,511,627,776 bytes; where its bytes before those zeros
+/// are rejected, or a message is no entry; where the twelve bytes of `</mos>` stand behind the last whole message, since then
+/// more than one write does, and the file is damaged; and where what is to be cut off can't be saved. It fails also where the
+/// file can't be read, cut or synced.
+///
+/// Each cut, each load that fails, and the first of appends that fail in a row, with the system's words, is said in a line on
+/// standard error.
 #[derive(Drop)]
 pub struct FileKeeper<R: Files + AllocGlobal + Eprint + Copy + Drop> {
     rt: R,
