@@ -69,9 +69,11 @@ fn stays(rt: &HostRuntime, path: &str, place: usize, old: u8, new: u8) -> Result
     }
     let loaded = load_bytes(rt, path, &bytes)?;
     let left = fs::read(rt, path)?;
-    Ok(loaded.as_slice() == ['!'].as_slice()
-        && left.as_slice() == bytes.as_slice()
-        && !is_beside(rt, path, ".cut-1")?)
+    Ok(
+        loaded.as_slice() == ['!'].as_slice()
+            && left.as_slice() == bytes.as_slice()
+            && !is_beside(rt, path, ".cut-1")?,
+    )
 }
 
 // The second entry's `<roID>` becomes `<soID>`, which ends nowhere, and its `</roID>` becomes `</soID>`, which is rejected.

@@ -1,5 +1,5 @@
 -- The end tag of a message stands in bytes.
-use Rattle.std.proofs.Common.{◌≡◌, ◌∙◌, ap, sym, subst, ℕ, ◌-◌, List, [], ◌∷◌, ◌++◌, drop, length, take}
+use Rattle.std.proofs.Common.{◌≡◌, ap, sym, subst, ℕ, ◌-◌, List, [], ◌∷◌, ◌++◌, drop, length, take}
 use Rattle.std.proofs.lemmas.List.{take_rest}
 use Rattle.file_keeper.specs.Tails.{BeginsWithEnd, HoldsEnd, end_tag}
 

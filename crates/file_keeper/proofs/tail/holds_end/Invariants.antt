@@ -1,4 +1,4 @@
-use Rattle.std.proofs.Common.{◌↔◌, ℕ, length}
+use Rattle.std.proofs.Common.{◌↔◌, length}
 use Rattle.file_keeper.specs.Tails.{HoldsEnd}
 use Rattle.file_keeper.proofs.tail.holds_end.Given as goal
 
