@@ -73,3 +73,30 @@ works_line side = codes "port " ++ side_text side ++ codes " takes connections a
 -- a device was silent for so many seconds
 abbrev pub silent_line : Side → Text → ℕ → List ℕ
 silent_line side device seconds = side_text side ++ device_text device ++ codes " hasn't answered for " ++ decimal seconds ++ codes " s\n"
+
+-- a port has so many connections and takes no more
+abbrev pub full_line : Side → ℕ → List ℕ
+full_line side count = codes "port " ++ side_text side ++ codes " has " ++ decimal count ++ codes " connections and takes no more\n"
+
+-- a port ended, since a connection couldn't be served
+abbrev pub shut_line : Side → List ℕ
+shut_line side = codes "port " ++ side_text side ++ codes " ended, with no memory or thread for a connection; the program ends\n"
+
+-- no thread can be made, and some can again
+abbrev pub waits_line : List ℕ
+waits_line = codes "no thread can be made for a connection; it waits\n"
+
+abbrev pub threads_line : List ℕ
+threads_line = codes "threads can be made again\n"
+
+-- whose a connection is
+abbrev pub known_line : ℕ → Side → Text → List ℕ
+known_line number side device = connection_text number side [] ++ codes " is" ++ device_text device ++ codes "\n"
+
+-- whose it is said to be
+abbrev pub stranger_line : ℕ → Side → Text → List ℕ
+stranger_line number side device = connection_text number side [] ++ codes " is" ++ device_text device ++ codes ", which the settings don't have\n"
+
+-- nothing came on a connection for so many seconds
+abbrev pub quiet_line : ℕ → Side → ℕ → List ℕ
+quiet_line number side seconds = connection_text number side [] ++ codes " sent nothing for " ++ decimal seconds ++ codes " s\n"

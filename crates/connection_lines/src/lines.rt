@@ -1,6 +1,6 @@
 //! The lines.
 ghost use Rattle.std.specs.Prelude.{◌≡◌, IfOk, string_bytes};
-ghost use Rattle.connection_lines.specs.Lines.{accepted_line as accepted_line_of, dialed_line as dialed_line_of, ended_line as ended_line_of, failed_line as failed_line_of, silent_line as silent_line_of, stalled_line as stalled_line_of, works_line as works_line_of};
+ghost use Rattle.connection_lines.specs.Lines.{accepted_line as accepted_line_of, dialed_line as dialed_line_of, ended_line as ended_line_of, failed_line as failed_line_of, known_line as known_line_of, quiet_line as quiet_line_of, silent_line as silent_line_of, stranger_line as stranger_line_of};
 
 use crate::parts::{
     push_connection, push_device, push_end, push_number, push_place, push_side, push_word,
@@ -83,30 +83,6 @@ pub fn failed_line(
     Ok(line)
 }
 
-/// The line of a port at which connections can't be accepted, and the word of the cause.
-pub fn stalled_line(alloc: Global, side: Side, cause: &str) -> Result<String, NoMemory>
-    ensures { IfOk result (λ line. string_bytes line ≡ stalled_line_of side cause.now) }
-{
-    let mut line = String::new(alloc);
-    push_word(&mut line, "port ")?;
-    push_side(&mut line, side)?;
-    push_word(&mut line, " can't take connections: ")?;
-    push_word(&mut line, cause)?;
-    push_word(&mut line, "\n")?;
-    Ok(line)
-}
-
-/// The line of a port at which connections are accepted again.
-pub fn works_line(alloc: Global, side: Side) -> Result<String, NoMemory>
-    ensures { IfOk result (λ line. string_bytes line ≡ works_line_of side) }
-{
-    let mut line = String::new(alloc);
-    push_word(&mut line, "port ")?;
-    push_side(&mut line, side)?;
-    push_word(&mut line, " takes connections again\n")?;
-    Ok(line)
-}
-
 /// The line of a device that didn't answer for so many seconds.
 pub fn silent_line(
     alloc: Global,
@@ -120,6 +96,50 @@ pub fn silent_line(
     push_side(&mut line, side)?;
     push_device(alloc, &mut line, device)?;
     push_word(&mut line, " hasn't answered for ")?;
+    push_number(alloc, &mut line, seconds)?;
+    push_word(&mut line, " s\n")?;
+    Ok(line)
+}
+
+/// The line of a connection that a peer opened, once it is known that it belongs to this device.
+pub fn known_line(alloc: Global, number: u64, side: Side, device: &Text) -> Result<String, NoMemory>
+    ensures { IfOk result (λ line. string_bytes line ≡ known_line_of number side device.now) }
+{
+    let mut line = String::new(alloc);
+    let nobody = Text::new(alloc);
+    push_connection(alloc, &mut line, number, side, &nobody)?;
+    push_word(&mut line, " is")?;
+    push_device(alloc, &mut line, device)?;
+    push_word(&mut line, "\n")?;
+    Ok(line)
+}
+
+/// The line of a connection that a peer opened who says that it belongs to this device, which isn't one of the settings.
+pub fn stranger_line(
+    alloc: Global,
+    number: u64,
+    side: Side,
+    device: &Text,
+) -> Result<String, NoMemory>
+    ensures { IfOk result (λ line. string_bytes line ≡ stranger_line_of number side device.now) }
+{
+    let mut line = String::new(alloc);
+    let nobody = Text::new(alloc);
+    push_connection(alloc, &mut line, number, side, &nobody)?;
+    push_word(&mut line, " is")?;
+    push_device(alloc, &mut line, device)?;
+    push_word(&mut line, ", which the settings don't have\n")?;
+    Ok(line)
+}
+
+/// The line of a connection on which nothing came for so many seconds.
+pub fn quiet_line(alloc: Global, number: u64, side: Side, seconds: u64) -> Result<String, NoMemory>
+    ensures { IfOk result (λ line. string_bytes line ≡ quiet_line_of number side seconds) }
+{
+    let mut line = String::new(alloc);
+    let nobody = Text::new(alloc);
+    push_connection(alloc, &mut line, number, side, &nobody)?;
+    push_word(&mut line, " sent nothing for ")?;
     push_number(alloc, &mut line, seconds)?;
     push_word(&mut line, " s\n")?;
     Ok(line)

@@ -38,8 +38,8 @@ fn printed(c: char) -> char
     }
 }
 
-// Appends characters as they are printed.
-fn push_chars(out: &mut String, chars: &[char]) -> Result<(), NoMemory>
+/// Appends characters as they are printed.
+pub(crate) fn push_chars(out: &mut String, chars: &[char]) -> Result<(), NoMemory>
     ensures { OnOk result (string_bytes out.new ≡ string_bytes out.old ++ printed_text chars.now) }
 {
     for c in chars {

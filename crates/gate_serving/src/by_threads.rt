@@ -16,6 +16,7 @@ use serve_ends::ServeEnd;
 use std::alloc::Global;
 use std::sync::Wait;
 use std::thread::Threads;
+use std::time::Clock as SystemsClock;
 use thread_doors::{GateListeners, serve_gate_by_threads};
 
 // The rack of these decks, for the items of the gateway's own device.
@@ -48,7 +49,7 @@ pub fn gate_serve_by_threads<
     Di: Dialer + Send + 'static,
     P: Pacer + Drop + Send + 'static,
     C: Clock + Drop + Send + 'static,
-    R: Threads + Wait + Eprint + Copy + Drop + Send + Sync + 'static,
+    R: Threads + Wait + SystemsClock + Eprint + Copy + Drop + Send + Sync + 'static,
 >(
     rt: &R,
     alloc: Global,

@@ -1,4 +1,3 @@
-pub mod Moments
 pub mod Counted
 pub mod Pauses
 pub mod Sides

@@ -1,11 +1,11 @@
 //! The system's time.
 ghost use Rattle.std.specs.Prelude.{◌≡◌};
-ghost use Rattle.port_tcp.specs.Moments.{IsMoment};
+ghost use Rattle.moments.specs.Moments.{IsMoment};
 
-use crate::moment::{first_time, time_of};
+use moments::{first_time, moment_now};
 use mos_fields::{MosTime, NoMemory};
 use mos_io::Clock;
-use std::time::{Clock as SystemsClock, SystemTime, UNIX_EPOCH};
+use std::time::Clock as SystemsClock;
 
 /// Tells the system's time in UTC, in whole seconds. It isn't observable. Where the system's can't be read, or is past
 /// the year 9999, it tells the last one again, at first the begin of 1970.
@@ -25,17 +25,6 @@ impl<R: SystemsClock + Copy + Drop> SystemClock<R> {
             last: first_time(),
         }
     }
-
-    // The system's time now.
-    fn read(&self) -> Option<MosTime> {
-        let Ok(now) = SystemTime::now(&self.rt) else {
-            return None;
-        };
-        match now.duration_since(UNIX_EPOCH) {
-            Ok(passed) => time_of(passed.as_secs()),
-            Err(_) => None,
-        }
-    }
 }
 
 impl<R: SystemsClock + Copy + Drop> Clock for SystemClock<R> {
@@ -44,7 +33,7 @@ impl<R: SystemsClock + Copy + Drop> Clock for SystemClock<R> {
     ghost time = { λ _. None };
 
     fn now(&mut self) -> MosTime {
-        if let Some(now) = self.read() {
+        if let Some(now) = moment_now(&self.rt) {
             self.last = now;
         }
         self.last

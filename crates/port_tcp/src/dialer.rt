@@ -8,7 +8,7 @@ use crate::cause::Cause;
 use crate::common::Common;
 use crate::counting::count_one;
 use crate::stream::{TcpSink, TcpSource, opened_link};
-use connection_lines::{dialed_line, ended_line, failed_line, say, silent_line};
+use connection_lines::{dialed_line, ended_line, failed_line, say, silent_line, warns_of};
 use mos_fields::{NoMemory, Text};
 use mos_io::Failed;
 use port_events::Side;
@@ -144,7 +144,7 @@ impl<R: Net<Stream = TcpStream> + Clock + Wait + Eprint + Copy + Drop> TcpDialer
         }
         if let Some(patience) = self.patience {
             let line = silent_line(self.alloc, port.side, port.mos.text(), patience.as_secs());
-            say(&self.rt, line);
+            say(&self.rt, self.alloc, true, line);
         }
     }
 
@@ -193,7 +193,7 @@ impl<R: Net<Stream = TcpStream> + Clock + Wait + Eprint + Copy + Drop> TcpDialer
                 place.port,
                 word.as_str(),
             );
-            say(&self.rt, line);
+            say(&self.rt, self.alloc, true, line);
         }
     }
 
@@ -208,7 +208,7 @@ impl<R: Net<Stream = TcpStream> + Clock + Wait + Eprint + Copy + Drop> TcpDialer
             &place.host,
             place.port,
         );
-        say(&self.rt, line);
+        say(&self.rt, self.alloc, false, line);
     }
 }
 
@@ -272,7 +272,7 @@ impl<R: Net<Stream = TcpStream> + Clock + Wait + Eprint + Copy + Drop> Dialer fo
             News::Ended { number, end } => {
                 self.say_late(port);
                 let line = ended_line(self.alloc, number, port.side, port.mos.text(), end);
-                say(&self.rt, line);
+                say(&self.rt, self.alloc, warns_of(end), line);
             }
         }
     }

@@ -2,13 +2,14 @@
 //! contracts can't see, and are trusted to do what their texts say.
 #![tactic(auto)]
 
+mod at_port;
 mod cause;
 mod clock;
 mod common;
 mod counting;
 mod dialer;
+mod ending;
 mod few;
-mod moment;
 mod pacer;
 mod port;
 mod stream;
@@ -17,7 +18,6 @@ pub use clock::SystemClock;
 pub use common::Common;
 pub use dialer::TcpDialer;
 pub use few::Few;
-pub use moment::time_of;
 pub use pacer::SleepPacer;
 pub use port::TcpPort;
 pub use stream::{TcpHalf, TcpSink, TcpSource};

@@ -7,8 +7,10 @@ ghost use Rattle.mos_io.specs.declared.pacer.Pace.TheVariants.{Stop};
 ghost use Rattle.port_tcp.specs.Pauses.{pace_of as pace_as, unseen};
 
 use crate::common::Common;
+use crate::ending::wake_ports;
 use mos_fields::NoMemory;
 use mos_io::{Pace, Pacer};
+use std::net::{Net, TcpStream};
 use std::sync::atomic::{AtomicBool, Ordering};
 use std::sync::{Arc, Wait};
 use std::thread::sleep;
@@ -26,9 +28,10 @@ const BEAT_GAP: u64 = 100;
 /// Sleeps at each pause, asks for a heartbeat now and then, and stops when it is told to. The paces aren't observable.
 ///
 /// A pause ends early where something may be due, also where that was told before it began. A heartbeat is asked for where a
-/// connection came or ended, and where none was for as long as `every`.
+/// connection came or ended, and where none was for as long as `every`. Behind a pause the ports of the program are told where
+/// one of them ended.
 #[derive(Drop)]
-pub struct SleepPacer<R: Clock + Wait + Copy + Drop> {
+pub struct SleepPacer<R: Net<Stream = TcpStream> + Clock + Wait + Copy + Drop> {
     rt: R,
     common: Arc<Common>,
     length: Duration,
@@ -95,7 +98,7 @@ fn has_passed(since: Option<Instant>, now: Option<Instant>, time: Duration) -> b
     }
 }
 
-impl<R: Clock + Wait + Copy + Drop> SleepPacer<R> {
+impl<R: Net<Stream = TcpStream> + Clock + Wait + Copy + Drop> SleepPacer<R> {
     /// A pacer whose pauses have at most this length, and end early where `common` tells so. A heartbeat is asked for where
     /// none was for as long as `every`. It stops once `stop` is true; without one it never does.
     pub fn new(
@@ -155,6 +158,7 @@ impl<R: Clock + Wait + Copy + Drop> SleepPacer<R> {
     {
         let length = self.pause_length();
         self.common.await_move(&self.rt, self.moves, length);
+        wake_ports(&self.rt, &self.common);
         if let (Some(ended), Some(now)) = (self.ended, now_of(&self.rt)) {
             let gap = Duration::from_millis(GAP).min(length);
             let passed = now.duration_since(ended);
@@ -208,7 +212,7 @@ impl<R: Clock + Wait + Copy + Drop> SleepPacer<R> {
     }
 }
 
-impl<R: Clock + Wait + Copy + Drop> Pacer for SleepPacer<R> {
+impl<R: Net<Stream = TcpStream> + Clock + Wait + Copy + Drop> Pacer for SleepPacer<R> {
     ghost use Rattle.std.specs.Prelude.{None};
 
     ghost paces = { λ _. None };

@@ -5,18 +5,20 @@ ghost use Rattle.port_links.specs.Links.{Accepts};
 ghost use Rattle.port_tcp.specs.Counted.{coming as coming_of};
 ghost use Rattle.port_tcp.specs.Sides.{CameAt};
 
+use crate::at_port::MOST_CONNECTIONS;
+use crate::cause::Cause;
 use crate::common::Common;
 use crate::counting::count_one;
+use crate::ending::is_ending;
 use crate::stream::{TcpSink, TcpSource, accepted_link};
-use connection_lines::{accepted_line, say, stalled_line, works_line};
+use connection_lines::{accepted_line, full_line, say, stalled_line, works_line};
 use mos_io::Failed;
 use port_events::Side;
 use port_links::{Link, Listener};
-use std::io::ErrorKind;
 use std::net::{SocketAddr, TcpListener};
 use std::sync::Arc;
 use std::thread::sleep;
-use std::time::{Clock, Duration};
+use std::time::{Clock, Duration, Instant};
 
 // How long to wait before the next attempt, in milliseconds: at first, and at most. Each pause is twice as long as that before
 // it.
@@ -24,14 +26,29 @@ const FIRST: u64 = 50;
 
 const MOST: u64 = 1_000;
 
-/// A port of this machine, at which others connect. It never ends, and how many connections are to come isn't
-/// observable.
+// Of connections that are closed at once is said at most once in so long, in milliseconds.
+const SAID: u64 = 1_000;
+
+// Why no connection was taken.
+#[derive(Clone, Copy)]
+enum Refusal {
+    // The program is to end.
+    Ending,
+    // It was closed at once, since the port has as many as it takes.
+    Full,
+    // None could be accepted, or there was no memory for it.
+    Fault(Cause),
+}
+
+/// A port of this machine, at which others connect. How many connections are to come isn't observable.
 ///
 /// A connection that is gone before it is accepted, or for which the system has no descriptor or no memory, is no fault of the
-/// port: it tries again after 50 milliseconds, and then after pauses that grow to a second, for as long as it takes.
+/// port: it tries again after 50 milliseconds, and then after pauses that grow to a second, for as long as it takes. While it
+/// has 4,000 connections, a further one is closed at once. It fails only where another port of the program ended since a
+/// connection couldn't be served: then all of them end, and the program with them.
 ///
 /// Of each connection it says on standard error that it came, and from where; of attempts that fail in a row the second one,
-/// with its cause, and that the port works again.
+/// with its cause, and that the port works again; and, at most once a second, that it takes no more.
 #[derive(Drop)]
 pub struct TcpPort<R: Clock + AllocGlobal + Eprint + Drop> {
     rt: R,
@@ -39,6 +56,8 @@ pub struct TcpPort<R: Clock + AllocGlobal + Eprint + Drop> {
     side: Side,
     common: Arc<Common>,
     faults: u64,
+    // when it was said last that it takes no more
+    full: Option<Instant>,
 }
 
 impl<R: Clock + AllocGlobal + Eprint + Drop> TcpPort<R> {
@@ -48,46 +67,58 @@ impl<R: Clock + AllocGlobal + Eprint + Drop> TcpPort<R> {
         ensures side { result.side ≡ side }
         ensures faults { result.faults ≡ 0 }
     {
+        if let Ok(address) = listener.local_addr() {
+            common.at(side).listen(address.port());
+        }
         TcpPort {
             rt,
             listener,
             side,
             common,
             faults: 0,
+            full: None,
         }
     }
 
     // Says that the connection of this number came.
     fn say_accepted(&self, number: u64, from: SocketAddr) {
-        if let Ok(from) = from.to_string(self.rt.alloc()) {
-            let line = accepted_line(self.rt.alloc(), number, self.side, from.as_str());
-            say(&self.rt, line);
+        let alloc = self.rt.alloc();
+        if let Ok(from) = from.to_string(alloc) {
+            let line = accepted_line(alloc, number, self.side, from.as_str());
+            say(&self.rt, alloc, false, line);
         }
     }
 
     // One attempt.
-    fn try_accept(&self) -> Result<Link<TcpSource, TcpSink>, ErrorKind>
+    fn try_accept(&self) -> Result<Link<TcpSource, TcpSink>, Refusal>
         ensures { IfOk result (λ link. link.side ≡ self.now.side) }
     {
         let (stream, from) = match self.listener.accept() {
             Ok(came) => came,
-            Err(fault) => return Err(fault.kind()),
+            Err(fault) => return Err(Refusal::Fault(Cause::of_system(&fault))),
         };
+        if is_ending(&self.rt, self.rt.alloc(), &self.common) {
+            return Err(Refusal::Ending);
+        }
+        if !self.common.at(self.side).has_room() {
+            return Err(Refusal::Full);
+        }
         match accepted_link(self.rt.alloc(), &self.common, self.side, stream) {
             Ok(link) => {
                 self.say_accepted(link.number, from);
                 Ok(link)
             }
-            Err(_) => Err(ErrorKind::OutOfMemory),
+            Err(_) => Err(Refusal::Fault(Cause::NO_MEMORY)),
         }
     }
 
     // Says that the port fails, at the second of the attempts in a row.
-    fn say_stalled(&self, attempt: u64, cause: ErrorKind) {
+    fn say_stalled(&self, attempt: u64, cause: Cause) {
         if attempt == 1 {
             let alloc = self.rt.alloc();
-            if let Ok(word) = format!(in alloc; "{cause:?}") {
-                say(&self.rt, stalled_line(alloc, self.side, word.as_str()));
+            if let Ok(word) = cause.word(alloc) {
+                let line = stalled_line(alloc, self.side, word.as_str());
+                say(&self.rt, alloc, true, line);
             }
         }
     }
@@ -95,25 +126,66 @@ impl<R: Clock + AllocGlobal + Eprint + Drop> TcpPort<R> {
     // Says that it works again, where it was said that it fails.
     fn say_works(&self, attempt: u64) {
         if attempt > 1 {
-            say(&self.rt, works_line(self.rt.alloc(), self.side));
+            let alloc = self.rt.alloc();
+            say(&self.rt, alloc, false, works_line(alloc, self.side));
         }
     }
 
-    // Attempts, until one succeeds.
-    fn accept_soon(&self) -> Option<Link<TcpSource, TcpSink>>
-        ensures { IfSome result (λ link. link.side ≡ self.now.side) }
+    // Whether it wasn't said for so long that the port takes no more. It is noted as said.
+    fn takes_full_news(&mut self) -> bool
+        ensures side { self.new.side ≡ self.old.side }
+        ensures faults { self.new.faults ≡ self.old.faults }
+    {
+        let Ok(now) = Instant::now(&self.rt) else {
+            return false;
+        };
+        if let Some(said) = self.full {
+            if now.duration_since(said) < Duration::from_millis(SAID) {
+                return false;
+            }
+        }
+        self.full = Some(now);
+        true
+    }
+
+    // Says that it takes no more, where that wasn't said just before.
+    fn say_full(&mut self)
+        ensures side { self.new.side ≡ self.old.side }
+        ensures faults { self.new.faults ≡ self.old.faults }
+    {
+        if self.takes_full_news() {
+            let alloc = self.rt.alloc();
+            let line = full_line(alloc, self.side, MOST_CONNECTIONS);
+            say(&self.rt, alloc, true, line);
+        }
+    }
+
+    // Attempts, until one succeeds, or the program is to end.
+    fn accept_soon(&mut self) -> Option<Link<TcpSource, TcpSink>>
+        ensures came { IfSome result (λ link. link.side ≡ self.old.side) }
+        ensures side { self.new.side ≡ self.old.side }
+        ensures faults { self.new.faults ≡ self.old.faults }
     {
         let mut pause = FIRST;
-        for attempt in 0..u64::MAX {
+        let mut attempt = 0u64;
+        'next: for _ in 0..u64::MAX {
+            if is_ending(&self.rt, self.rt.alloc(), &self.common) {
+                return None;
+            }
             match self.try_accept() {
                 Ok(link) => {
                     self.say_works(attempt);
                     return Some(link);
                 }
-                Err(cause) => self.say_stalled(attempt, cause),
+                Err(Refusal::Ending) => return None,
+                Err(Refusal::Full) => self.say_full(),
+                Err(Refusal::Fault(cause)) => {
+                    self.say_stalled(attempt, cause);
+                    attempt = attempt.saturating_add(1);
+                    sleep(&self.rt, Duration::from_millis(pause));
+                    pause = pause.saturating_mul(2).min(MOST);
+                }
             }
-            sleep(&self.rt, Duration::from_millis(pause));
-            pause = pause.saturating_mul(2).min(MOST);
         }
         None
     }
@@ -144,6 +216,7 @@ impl<R: Clock + AllocGlobal + Eprint + Drop> Listener for TcpPort<R> {
         match self.accept_soon() {
             Some(link) => Ok(Some(link)),
             None => {
+                self.common.at(self.side).listen(0);
                 count_one(&mut self.faults);
                 Err(Failed)
             }

@@ -1,5 +1,8 @@
 //! Connections over TCP.
 ghost use Rattle.std.specs.Prelude.{◌≡◌, IfOk};
+ghost use Rattle.std.specs.Duration.{as_nanos};
+ghost use Rattle.std.specs.Option.{option_map};
+ghost use Rattle.port_tcp.specs.Sides.{quiet_nanos};
 
 use crate::common::{Common, Leaves};
 use mos_fields::NoMemory;
@@ -14,6 +17,9 @@ use std::sync::Arc;
 use std::sync::atomic::{AtomicBool, Ordering};
 use std::time::Duration;
 
+// On a connection that others opened, and no editor did, something is to come within so long, in seconds.
+const QUIET: u64 = 600;
+
 /// What comes on a connection over TCP. The bytes aren't observable.
 pub type TcpSource = StdSource<TcpHalf>;
 
@@ -24,16 +30,40 @@ pub type TcpSink = StdSink<TcpHalf>;
 #[derive(Drop)]
 struct Whole {
     stream: TcpStream,
-    // tells the end of the connection, where it is one that others opened, and no editor's
+    // tells the end of the connection, where it is one that others opened
     leaves: Option<Leaves>,
 }
 
+impl Whole {
+    // A worker is to serve the connection from now on.
+    fn awaits_worker(&self) {
+        if let Some(leaves) = &self.leaves {
+            leaves.awaits_worker();
+        }
+    }
+
+    // A worker serves it.
+    fn serve(&self) {
+        if let Some(leaves) = &self.leaves {
+            leaves.serve();
+        }
+    }
+
+    // A piece was written.
+    fn moved(&self) {
+        if let Some(leaves) = &self.leaves {
+            leaves.moved();
+        }
+    }
+}
+
 /// The source's half of a stream, or the sink's: both share one descriptor.
+///
+/// A connection that others opened, and that is let go before anything was read or written on it, not even an empty piece,
+/// had no worker. Its port has ended then, and all ports of the program with it.
 #[derive(Drop)]
 pub struct TcpHalf {
     whole: Arc<Whole>,
-    // is told of each piece that was written, where the connection is one that others opened
-    told: Option<Arc<Common>>,
     // whether the peer was silent for too long, where it is one that this machine opened
     late: Option<Arc<AtomicBool>>,
 }
@@ -49,6 +79,7 @@ impl TcpHalf {
 
 impl Read for TcpHalf {
     fn read(&mut self, buf: &mut [u8]) -> io::Result<usize> {
+        self.whole.serve();
         let mut stream = &self.whole.stream;
         let outcome = stream.read(buf);
         if let Err(fault) = &outcome {
@@ -67,9 +98,8 @@ impl Write for TcpHalf {
     }
 
     fn flush(&mut self) -> io::Result<()> {
-        if let Some(common) = &self.told {
-            common.moved();
-        }
+        self.whole.serve();
+        self.whole.moved();
         Ok(())
     }
 }
@@ -80,26 +110,18 @@ fn link_over(
     number: u64,
     side: Side,
     whole: Whole,
-    told: Option<Arc<Common>>,
     late: Option<Arc<AtomicBool>>,
 ) -> Result<Link<TcpSource, TcpSink>, NoMemory>
     ensures { IfOk result (λ link. link.side ≡ side) }
 {
     let whole = Arc::new(alloc, whole)?;
     let other = Arc::try_clone(&whole)?;
+    whole.awaits_worker();
     Ok(Link {
         number,
         side,
-        source: StdSource::new(TcpHalf {
-            whole: other,
-            told: None,
-            late,
-        }),
-        sink: StdSink::new(TcpHalf {
-            whole,
-            told,
-            late: None,
-        }),
+        source: StdSource::new(TcpHalf { whole: other, late }),
+        sink: StdSink::new(TcpHalf { whole, late: None }),
     })
 }
 
@@ -124,19 +146,21 @@ pub(crate) fn opened_link(
         stream,
         leaves: None,
     };
-    link_over(alloc, common.next_number(), side, whole, None, Some(late))
+    link_over(alloc, common.next_number(), side, whole, Some(late))
 }
 
-// What tells of a connection at this side that others opened: an editor's coming and going makes nothing due.
-fn leaves_of(common: &Arc<Common>, side: Side) -> Result<Option<Leaves>, NoMemory> {
+// For how long nothing may come on a connection at this side that others opened; an editor's may be silent for ever.
+fn quiet_time(side: Side) -> Option<Duration>
+    ensures { option_map as_nanos result ≡ quiet_nanos side }
+{
     match side {
-        Side::Editor => Ok(None),
-        Side::Upper | Side::Lower => Ok(Some(Leaves::new(Arc::try_clone(common)?))),
+        Side::Upper | Side::Lower => Some(Duration::from_secs(QUIET)),
+        Side::Editor => None,
     }
 }
 
-/// The same for a connection that others opened. Pauses end early where it comes and where it ends, unless it is an editor's,
-/// and where a piece was written on it.
+/// The same for a connection that others opened. A read fails on which nothing comes for ten minutes, unless it is an editor's.
+/// Pauses end early where it comes and where it ends, unless it is an editor's, and where a piece was written on it.
 pub(crate) fn accepted_link(
     alloc: Global,
     common: &Arc<Common>,
@@ -146,10 +170,11 @@ pub(crate) fn accepted_link(
     ensures { IfOk result (λ link. link.side ≡ side) }
 {
     let _ = stream.set_nodelay(true);
-    let told = Arc::try_clone(common)?;
+    let _ = stream.set_read_timeout(quiet_time(side));
+    let leaves = Leaves::new(Arc::try_clone(common)?, side);
     let whole = Whole {
         stream,
-        leaves: leaves_of(common, side)?,
+        leaves: Some(leaves),
     };
-    link_over(alloc, common.next_number(), side, whole, Some(told), None)
+    link_over(alloc, common.next_number(), side, whole, None)
 }

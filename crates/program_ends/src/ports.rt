@@ -38,7 +38,10 @@ pub fn port_at<
 
 /// The pauses of a program's workers: of a second at most, and less where something may be due; with a heartbeat where none was
 /// for five seconds, and where a connection came or ended. They never stop.
-pub fn pacer<R: Clock + Wait + Copy + Drop>(rt: R, common: Arc<Common>) -> SleepPacer<R>
+pub fn pacer<R: Net<Stream = TcpStream> + Clock + Wait + Copy + Drop>(
+    rt: R,
+    common: Arc<Common>,
+) -> SleepPacer<R>
     ensures length { length_of result ≡ 1000000000 }
     ensures every { every_of result ≡ 5000000000 }
     ensures stop { NeverStops result }

@@ -14,6 +14,7 @@ use serve_ends::ServeEnd;
 use std::alloc::Global;
 use std::sync::Wait;
 use std::thread::Threads;
+use std::time::Clock as SystemsClock;
 use thread_doors::{ServerListeners, serve_server_by_threads};
 
 // What comes back where the server isn't started: nothing happened at the listeners.
@@ -46,7 +47,7 @@ pub fn ncs_serve_by_threads<
     Di: Dialer + Send + 'static,
     P: Pacer + Drop + Send + 'static,
     C: Clock + Drop + Send + 'static,
-    R: Threads + Wait + Eprint + Copy + Drop + Send + Sync + 'static,
+    R: Threads + Wait + SystemsClock + Eprint + Copy + Drop + Send + Sync + 'static,
 >(
     rt: &R,
     alloc: Global,

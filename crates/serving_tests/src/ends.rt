@@ -66,7 +66,7 @@ impl Source for Patient {
     }
 }
 
-/// Takes what is written, and gives its sign, if it has one.
+/// Takes what is written, and gives its sign, if it has one, at the first piece that isn't empty.
 #[derive(Drop)]
 pub struct Telling {
     sign: Option<Sign>,
@@ -86,9 +86,11 @@ impl Sink for Telling {
 
     ghost faults = { λ _. 0 };
 
-    fn write_piece(&mut self, _piece: &[u8]) -> Result<(), SinkFault> {
+    fn write_piece(&mut self, piece: &[u8]) -> Result<(), SinkFault> {
         if let Some(sign) = &self.sign {
-            give(sign);
+            if !piece.is_empty() {
+                give(sign);
+            }
         }
         Ok(())
     }

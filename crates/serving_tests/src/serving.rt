@@ -19,6 +19,7 @@ use std::collections::VecDeque;
 use std::sync::Wait;
 use std::test::Fail;
 use std::thread::Threads;
+use std::time::Clock;
 use thread_doors::ServerListeners;
 
 type Listening = MemListener<Patient, Telling>;
@@ -86,7 +87,7 @@ fn listener(links: VecDeque<Link<Patient, Telling>>, alloc: Global) -> Listening
 }
 
 // Serves these editors. Each worker that dials makes one pause. Whether each listener said that no connection comes any more.
-fn is_closed<R: Threads + Wait + Eprint + Copy + Drop + Send + Sync + 'static>(
+fn is_closed<R: Threads + Wait + Clock + Eprint + Copy + Drop + Send + Sync + 'static>(
     rt: &R,
     alloc: Global,
     editors: VecDeque<Link<Patient, Telling>>,
@@ -119,7 +120,7 @@ fn is_closed<R: Threads + Wait + Eprint + Copy + Drop + Send + Sync + 'static>(
 
 // Two editors: the first speaks only once the second was answered and a heartbeat was written to the device. Whether both
 // were answered.
-fn are_answered<R: Threads + Wait + Eprint + Copy + Drop + Send + Sync + 'static>(
+fn are_answered<R: Threads + Wait + Clock + Eprint + Copy + Drop + Send + Sync + 'static>(
     rt: &R,
     alloc: Global,
     first: &Sign,

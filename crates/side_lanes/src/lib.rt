@@ -1,13 +1,10 @@
-//! Loops side by side: two or three, moved into threads and back, of a value that is lent; and jobs, each on a thread of its
-//! own.
+//! Loops side by side: two or three, moved into threads and back, of a value that is lent.
 #![tactic(auto)]
 
 mod lanes;
 mod side_by_side;
 mod taken_out;
-mod threads;
 
 pub use lanes::run_lanes;
 pub use side_by_side::{Lane, run_three, run_two};
 pub use taken_out::{Parts, run_in_place, run_parts};
-pub use threads::{StartSpawner, start_thread};

@@ -13,10 +13,12 @@ use port_events::{PortAnswer, PortEvent};
 use port_jobs::{Names, PortJob};
 use port_links::{Dialer, Listener};
 use shared_machine::{Machine, StepRelation};
-use side_lanes::{StartSpawner, start_thread};
 use std::alloc::Global;
+use std::sync::atomic::AtomicBool;
 use std::sync::{Arc, Wait};
 use std::thread::Threads;
+use std::time::Clock as SystemsClock;
+use thread_starts::{StartSpawner, start_thread};
 
 // The count after the faults of one spawner more.
 fn count_refused<F: Drop>(refused: u64, spawner: &StartSpawner<F>) -> u64
@@ -93,7 +95,7 @@ fn gate_listeners<L: Drop, F: Drop>(
 }
 
 /// Serves as `serve_server` does, with a thread for each worker. The listeners come back as the call leaves them. On standard
-/// error it says why each connection ended that was accepted.
+/// error it says whose each connection is that was accepted, why it ended, and that no thread can be made.
 ///
 /// # Ends
 /// Closed where each listener said that none comes; ListenFault only where a listener's count of faults rose; NoWorker only
@@ -106,7 +108,7 @@ pub fn serve_server_by_threads<
     Di: Dialer + Send + 'static,
     P: Pacer + Drop + Send + 'static,
     C: Clock + Drop + Send + 'static,
-    R: Threads + Wait + Eprint + Copy + Drop + Send + Sync + 'static,
+    R: Threads + Wait + SystemsClock + Eprint + Copy + Drop + Send + Sync + 'static,
 >(
     rt: &R,
     alloc: Global,
@@ -129,8 +131,9 @@ where
     ensures caused { CausedByThreads (server_listening L.coming L.faults listeners) (server_listening L.coming L.faults result.1) result.0 }
     ensures rises { CountsRise (server_listening L.coming L.faults listeners) (server_listening L.coming L.faults result.1) }
 {
+    let short = AtomicBool::new(false);
     let start_job = |job: PortJob<M, D, L::S, L::K, Di, P, C, R>| -> Result<(), Failed> {
-        start_thread(rt, ToldJob { job })
+        start_thread(rt, alloc, &short, ToldJob { job })
     };
     let mut ports = ServerPorts {
         upper: Door {
@@ -154,7 +157,7 @@ where
 }
 
 /// Serves as `serve_gate` does, with a thread for each worker. The listeners come back as the call leaves them, and the ends
-/// are those of `serve_server_by_threads`. On standard error it says why each connection ended that was accepted.
+/// are those of `serve_server_by_threads`. On standard error it says whose each connection is that was accepted, why it ended, and that no thread can be made.
 pub fn serve_gate_by_threads<
     M: StepRelation<Event = PortEvent, Answer = PortAnswer> + Machine<D> + Send + 'static,
     D: Drop + Send + 'static,
@@ -162,7 +165,7 @@ pub fn serve_gate_by_threads<
     Di: Dialer + Send + 'static,
     P: Pacer + Drop + Send + 'static,
     C: Clock + Drop + Send + 'static,
-    R: Threads + Wait + Eprint + Copy + Drop + Send + Sync + 'static,
+    R: Threads + Wait + SystemsClock + Eprint + Copy + Drop + Send + Sync + 'static,
 >(
     rt: &R,
     alloc: Global,
@@ -184,8 +187,9 @@ where
     ensures caused { CausedByThreads (gate_listening L.coming L.faults listeners) (gate_listening L.coming L.faults result.1) result.0 }
     ensures rises { CountsRise (gate_listening L.coming L.faults listeners) (gate_listening L.coming L.faults result.1) }
 {
+    let short = AtomicBool::new(false);
     let start_job = |job: PortJob<M, D, L::S, L::K, Di, P, C, R>| -> Result<(), Failed> {
-        start_thread(rt, ToldJob { job })
+        start_thread(rt, alloc, &short, ToldJob { job })
     };
     let mut ports = GatePorts {
         upper: Door {

@@ -1,17 +1,19 @@
 //! Workers of whose connections something is said.
-use connection_lines::{ended_line, say};
-use mos_fields::{Id, Text, let_go};
+use connection_lines::{ended_line, say, warns_of};
+use mos_fields::{Text, let_go};
 use mos_io::{Clock, Pacer, Sink, Source};
+use named_sources::{NamedSource, Naming};
 use port_events::{PortAnswer, PortEvent, Side};
 use port_jobs::{Names, PortJob, Task, Work};
-use port_links::{Dialer, Job};
+use port_links::{Dialer, Job, Link};
 use port_session::{End, Port};
 use shared_machine::{Machine, StepRelation};
 use std::alloc::Global;
 use std::sync::{Arc, Wait};
+use std::time::Clock as SystemsClock;
 
-/// A worker's job, which says on standard error why the connection ended that was accepted. What became of dials the dialer
-/// hears.
+/// A worker's job, which says on standard error whose the connection is that was accepted, once that is known, and why it
+/// ended. What became of dials the dialer hears.
 #[derive(Drop)]
 pub struct ToldJob<
     M: StepRelation<Event = PortEvent, Answer = PortAnswer> + Machine<D>,
@@ -26,14 +28,12 @@ pub struct ToldJob<
     pub job: PortJob<M, D, S, K, Di, P, C, R>,
 }
 
-// What is known of a connection before it is served.
+// What is said of a connection that was accepted.
 #[derive(Drop)]
 struct Accepted {
     number: u64,
     side: Side,
-    // the names of the devices, where the connection's own messages say which it is
-    names: Option<Arc<Names>>,
-    // the name of the device where they don't; else empty
+    // the name of the device where the connection's own messages don't say it; else empty
     own: Text,
 }
 
@@ -59,47 +59,90 @@ fn names_of(names: &Option<Arc<Names>>) -> Option<Arc<Names>> {
     }
 }
 
-// What is known of the connection that the job serves, if it serves one.
-fn connection_of<
-    M: StepRelation<Event = PortEvent, Answer = PortAnswer> + Machine<D>,
-    D: Drop,
-    S: Source + Drop,
-    K: Sink + Drop,
-    Di: Dialer,
-    P: Pacer + Drop,
-    C: Clock + Drop,
-    R: Wait + Drop,
->(job: &PortJob<M, D, S, K, Di, P, C, R>) -> Option<Accepted> {
-    match &job.task {
+// What is said of the connection that the task serves, if it serves one.
+fn accepted_of<S: Source + Drop, K: Sink + Drop, Di: Dialer, P: Pacer + Drop, C: Clock + Drop>(
+    alloc: Global,
+    port: &Port,
+    names: &Option<Arc<Names>>,
+    task: &Task<S, K, Di, P, C>,
+) -> Option<Accepted> {
+    match task {
         Task::Serve(link) => Some(Accepted {
             number: link.number,
-            side: job.port.side,
-            names: names_of(&job.names),
-            own: own_name(job.alloc, &job.port, &job.names),
+            side: port.side,
+            own: own_name(alloc, port, names),
         }),
         Task::Dial { .. } => None,
     }
 }
 
-// The name of this device.
-fn named(names: &Option<Arc<Names>>, device: Option<u32>) -> Option<&Id> {
-    let names = names.as_ref()?;
-    names.ids().get(device? as usize)
-}
-
-// Says why the connection ended, which belonged to this device.
-fn say_ended<R: Eprint>(rt: &R, alloc: Global, accepted: &Accepted, device: Option<u32>, end: End) {
-    let Accepted {
+// A connection whose source is listened to. The empty piece tells its sink that a worker serves it.
+fn named_link<S: Source + Drop, K: Sink + Drop, R: Eprint + SystemsClock + Copy + Drop>(
+    rt: R,
+    alloc: Global,
+    names: &Option<Arc<Names>>,
+    link: Link<S, K>,
+) -> Link<NamedSource<S, R>, K> {
+    let Link {
         number,
         side,
-        names,
-        own,
-    } = accepted;
-    let line = match named(names, device) {
+        source,
+        mut sink,
+    } = link;
+    let _ = sink.write_piece(&[]);
+    let naming = Naming::new(rt, alloc, number, side, names_of(names));
+    Link {
+        number,
+        side,
+        source: NamedSource::new(source, naming),
+        sink,
+    }
+}
+
+// The task, with the source of a connection that was accepted listened to.
+fn named_task<
+    S: Source + Drop,
+    K: Sink + Drop,
+    Di: Dialer,
+    P: Pacer + Drop,
+    C: Clock + Drop,
+    R: Eprint + SystemsClock + Copy + Drop,
+>(
+    rt: R,
+    alloc: Global,
+    names: &Option<Arc<Names>>,
+    task: Task<S, K, Di, P, C>,
+) -> Task<NamedSource<S, R>, K, Di, P, C> {
+    match task {
+        Task::Serve(link) => Task::Serve(named_link(rt, alloc, names, link)),
+        Task::Dial {
+            place,
+            dialer,
+            pacer,
+            clock,
+        } => Task::Dial {
+            place,
+            dialer,
+            pacer,
+            clock,
+        },
+    }
+}
+
+// Says why the connection ended.
+fn say_ended<R: Eprint + SystemsClock + Copy + Drop>(
+    rt: &R,
+    alloc: Global,
+    accepted: &Accepted,
+    naming: &Naming<R>,
+    end: End,
+) {
+    let Accepted { number, side, own } = accepted;
+    let line = match naming.name() {
         Some(id) => ended_line(alloc, *number, *side, id.text(), end),
         None => ended_line(alloc, *number, *side, own, end),
     };
-    say(rt, line);
+    say(rt, alloc, warns_of(end), line);
 }
 
 impl<
@@ -110,7 +153,7 @@ impl<
     Di: Dialer,
     P: Pacer + Drop,
     C: Clock + Drop,
-    R: Wait + Eprint + Copy + Drop,
+    R: Wait + Eprint + SystemsClock + Copy + Drop,
 > Job for ToldJob<M, D, S, K, Di, P, C, R> {
     type Report = ();
 
@@ -118,14 +161,31 @@ impl<
 
     fn run(self) {
         let ToldJob { job } = self;
-        let rt = job.rt;
-        let alloc = job.alloc;
-        let accepted = connection_of(&job);
+        let PortJob {
+            rt,
+            alloc,
+            hub,
+            pass,
+            port,
+            names,
+            budget,
+            task,
+        } = job;
+        let accepted = accepted_of(alloc, &port, &names, &task);
+        let task = named_task(rt, alloc, &names, task);
+        let job = PortJob {
+            rt,
+            alloc,
+            hub,
+            pass,
+            port,
+            names,
+            budget,
+            task,
+        };
         let work = job.run();
-        if let Some(accepted) = &accepted {
-            if let Work::Served { device, end, .. } = &work {
-                say_ended(&rt, alloc, accepted, *device, *end);
-            }
+        if let (Some(accepted), Work::Served { source, end, .. }) = (&accepted, &work) {
+            say_ended(&rt, alloc, accepted, source.naming(), *end);
         }
         let_go(work);
     }

@@ -2,8 +2,8 @@ use Rattle.std.proofs.Common.{◌∙◌, arith, sym, subst, IsOk}
 use Rattle.std.proofs.lemmas.Bool.{false≢true}
 use Rattle.jiff.proofs.SpanFacts.{can_add-days, date_add-days}
 use Rattle.jiff_core.specs.Calendar.{IsEpochDay}
-use Rattle.port_tcp.proofs.Days.{first_day, from_first, in_reach}
-use Rattle.port_tcp.proofs.moment.day_of.Goals as goal
+use Rattle.moments.proofs.Days.{first_day, from_first, in_reach}
+use Rattle.moments.proofs.moment.day_of.Goals as goal
 
 pub returns-in-Ok-clause-some : goal.returns-in-Ok-clause-some
 returns-in-Ok-clause-some c =

@@ -2,7 +2,7 @@
 ghost use Rattle.std.specs.Prelude.{◌≡◌, ◌/◌, ◌<◌, ◌≤◌, IfNone, IfSome, pos};
 ghost use Rattle.std.specs.Int.Signed.{◌≤ℤ◌};
 ghost use Rattle.jiff.specs.Words.{epoch_day, IsYmd};
-ghost use Rattle.port_tcp.specs.Moments.{IsMoment};
+ghost use Rattle.moments.specs.Moments.{IsMoment};
 
 use jiff::ToSpan;
 use jiff::civil::{Date, date};
@@ -15,7 +15,7 @@ const DAY: u64 = 86_400;
 const DAYS: u64 = 2_932_897;
 
 /// The begin of 1970.
-pub(crate) fn first_time() -> MosTime
+pub fn first_time() -> MosTime
     ensures { IsMoment 0 result }
 {
     MosTime {

@@ -2,80 +2,11 @@
 ghost use Rattle.std.specs.Prelude.{◌≡◌, ◌≤◌, OnErr, OnOk};
 ghost use Rattle.mos_io.specs.Counts.{Rose};
 ghost use Rattle.port_links.specs.Links.{More};
-ghost use Rattle.side_lanes.specs.Uncounted.{uncounted};
+ghost use Rattle.thread_starts.specs.Uncounted.{uncounted};
 
+use crate::counting::count_one;
 use mos_io::Failed;
 use port_links::{Job, Spawner};
-use std::sync::Wait;
-use std::sync::atomic::AtomicU64;
-use std::thread::{Builder, Promise, Threads};
-use std::time::Duration;
-
-// The stack of a worker, in bytes. A session needs half of it; the system's look-up of a machine's name, which a worker
-// that dials calls, may need more than that.
-const STACK: usize = 524_288;
-
-// How long to wait before a thread is asked for again, in milliseconds: at first, and at most. Each pause is twice as long as
-// that before it.
-const FIRST: u64 = 50;
-
-const MOST: u64 = 1_000;
-
-/// Nothing is said of what the thread returns.
-#[derive(Clone, Copy)]
-struct Unsaid;
-
-impl Promise<()> for Unsaid {
-    ghost kept_by = { λ _ _. Unit {0} };
-}
-
-// Sleeps so long; it may end early.
-fn sleep_once<R: Wait>(rt: &R, length: Duration) {
-    let never = AtomicU64::new(0);
-    never.park_timeout(rt, 0, length);
-}
-
-/// Starts a thread that does the job and drops its report. Where no thread can be made, it waits until one can, and says so on
-/// standard error, and that one could. It gives up after 2^64 - 1 attempts; the job is dropped then.
-pub fn start_thread<J: Job + Send + 'static, R: Threads + Wait + Eprint>(
-    rt: &R,
-    job: J,
-) -> Result<(), Failed>
-where
-    J::Report: Send + 'static,
-{
-    let mut work = move || {
-        let _report = job.run();
-    };
-    let mut pause = FIRST;
-    for attempt in 0..u64::MAX {
-        match Builder::new()
-            .stack_size(STACK)
-            .spawn_with(rt, Unsaid, work)
-        {
-            Ok(_handle) => {
-                if attempt > 0 {
-                    let _ = rt.eprint("a thread could be made again\n");
-                }
-                return Ok(());
-            }
-            Err(refused) => work = refused.value,
-        }
-        if attempt == 0 {
-            let _ = rt.eprint("no thread can be made for a connection; it waits\n");
-        }
-        sleep_once(rt, Duration::from_millis(pause));
-        pause = pause.saturating_mul(2).min(MOST);
-    }
-    Err(Failed)
-}
-
-fn count_one(count: &mut u64)
-    ensures rose { Rose count.old count.new }
-    ensures rises { count.old ≤ count.new }
-{
-    *count = count.saturating_add(1);
-}
 
 /// Starts each job by a function that the caller hands in, as one that calls `start_thread`. How many it started isn't
 /// observable.

@@ -1,6 +1,6 @@
 use Rattle.std.proofs.Common.{refl, arith, ◌∙◌}
-use Rattle.port_tcp.proofs.Days.{same_day, year_from}
-use Rattle.port_tcp.proofs.moment.time_on.Goals as goal
+use Rattle.moments.proofs.Days.{same_day, year_from}
+use Rattle.moments.proofs.moment.time_on.Goals as goal
 
 pub numbers_of-year-requires : goal.numbers_of-year-requires
 numbers_of-year-requires c = year_from c.args.day _ c.requires
