@@ -14,6 +14,8 @@ pub(crate) struct AtPort {
     // the TCP port at which a connection is awaited; 0 for none
     listens: AtomicU64,
     is_ended: AtomicBool,
+    // in which second it was said last that it takes no more
+    said: AtomicU64,
 }
 
 // Whether a port with so many connections takes one more.
@@ -31,6 +33,7 @@ impl AtPort {
             count: AtomicU64::new(0),
             listens: AtomicU64::new(0),
             is_ended: AtomicBool::new(false),
+            said: AtomicU64::new(0),
         }
     }
 
@@ -47,6 +50,11 @@ impl AtPort {
     /// Whether it takes one more.
     pub(crate) fn has_room(&self) -> bool {
         takes_more(self.count.load(Ordering::SeqCst))
+    }
+
+    /// Whether it wasn't said in this second that it takes no more. It is noted as said.
+    pub(crate) fn is_news(&self, second: u64) -> bool {
+        self.said.swap(second, Ordering::SeqCst) != second
     }
 
     /// Connections are awaited at this TCP port; at 0 no more.

@@ -31,7 +31,7 @@ const BEAT_GAP: u64 = 100;
 /// connection came or ended, and where none was for as long as `every`. Behind a pause the ports of the program are told where
 /// one of them ended.
 #[derive(Drop)]
-pub struct SleepPacer<R: Net<Stream = TcpStream> + Clock + Wait + Copy + Drop> {
+pub struct SleepPacer<R: Clock + Wait + Copy + Drop> {
     rt: R,
     common: Arc<Common>,
     length: Duration,

@@ -18,16 +18,13 @@ use port_links::{Link, Listener};
 use std::net::{SocketAddr, TcpListener};
 use std::sync::Arc;
 use std::thread::sleep;
-use std::time::{Clock, Duration, Instant};
+use std::time::{Clock, Duration, SystemTime, UNIX_EPOCH};
 
 // How long to wait before the next attempt, in milliseconds: at first, and at most. Each pause is twice as long as that before
 // it.
 const FIRST: u64 = 50;
 
 const MOST: u64 = 1_000;
-
-// Of connections that are closed at once is said at most once in so long, in milliseconds.
-const SAID: u64 = 1_000;
 
 // Why no connection was taken.
 #[derive(Clone, Copy)]
@@ -38,6 +35,17 @@ enum Refusal {
     Full,
     // None could be accepted, or there was no memory for it.
     Fault(Cause),
+}
+
+// The second in which it is now; 0 where the clock can't be read.
+fn second_now<R: Clock>(rt: &R) -> u64 {
+    match SystemTime::now(rt) {
+        Ok(now) => match now.duration_since(UNIX_EPOCH) {
+            Ok(passed) => passed.as_secs(),
+            Err(_) => 0,
+        },
+        Err(_) => 0,
+    }
 }
 
 /// A port of this machine, at which others connect. How many connections are to come isn't observable.
@@ -56,8 +64,6 @@ pub struct TcpPort<R: Clock + AllocGlobal + Eprint + Drop> {
     side: Side,
     common: Arc<Common>,
     faults: u64,
-    // when it was said last that it takes no more
-    full: Option<Instant>,
 }
 
 impl<R: Clock + AllocGlobal + Eprint + Drop> TcpPort<R> {
@@ -76,7 +82,6 @@ impl<R: Clock + AllocGlobal + Eprint + Drop> TcpPort<R> {
             side,
             common,
             faults: 0,
-            full: None,
         }
     }
 
@@ -131,40 +136,18 @@ impl<R: Clock + AllocGlobal + Eprint + Drop> TcpPort<R> {
         }
     }
 
-    // Whether it wasn't said for so long that the port takes no more. It is noted as said.
-    fn takes_full_news(&mut self) -> bool
-        ensures side { self.new.side ≡ self.old.side }
-        ensures faults { self.new.faults ≡ self.old.faults }
-    {
-        let Ok(now) = Instant::now(&self.rt) else {
-            return false;
-        };
-        if let Some(said) = self.full {
-            if now.duration_since(said) < Duration::from_millis(SAID) {
-                return false;
-            }
-        }
-        self.full = Some(now);
-        true
-    }
-
-    // Says that it takes no more, where that wasn't said just before.
-    fn say_full(&mut self)
-        ensures side { self.new.side ≡ self.old.side }
-        ensures faults { self.new.faults ≡ self.old.faults }
-    {
-        if self.takes_full_news() {
-            let alloc = self.rt.alloc();
+    // Says that it takes no more, where that wasn't said in the same second.
+    fn say_full(&self) {
+        let alloc = self.rt.alloc();
+        if self.common.at(self.side).is_news(second_now(&self.rt)) {
             let line = full_line(alloc, self.side, MOST_CONNECTIONS);
             say(&self.rt, alloc, true, line);
         }
     }
 
     // Attempts, until one succeeds, or the program is to end.
-    fn accept_soon(&mut self) -> Option<Link<TcpSource, TcpSink>>
-        ensures came { IfSome result (λ link. link.side ≡ self.old.side) }
-        ensures side { self.new.side ≡ self.old.side }
-        ensures faults { self.new.faults ≡ self.old.faults }
+    fn accept_soon(&self) -> Option<Link<TcpSource, TcpSink>>
+        ensures { IfSome result (λ link. link.side ≡ self.now.side) }
     {
         let mut pause = FIRST;
         let mut attempt = 0u64;

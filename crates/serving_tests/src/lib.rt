@@ -15,6 +15,8 @@ mod lines;
 #[cfg(test)]
 mod pauses;
 #[cfg(test)]
+mod ports;
+#[cfg(test)]
 mod serving;
 #[cfg(test)]
 mod signs;

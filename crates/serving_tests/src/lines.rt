@@ -1,6 +1,10 @@
 //! Each form of a line.
 use crate::words::text;
-use connection_lines::{accepted_line, dialed_line, ended_line, failed_line};
+use connection_lines::{
+    accepted_line, dialed_line, ended_line, failed_line, full_line, known_line, quiet_line,
+    shut_line, silent_line, stalled_line, stamped, stranger_line, works_line,
+};
+use moments::time_of;
 use port_events::Side;
 use port_session::End;
 use std::alloc::Global;
@@ -53,5 +57,50 @@ connection 0 editor ended: Stale
 dial editor to gate 1.example:0 failed: TimedOut
 "
     );
+    Ok(())
+}
+
+// What is said of a port and of its connections beside what comes and ends.
+fn port_lines(alloc: Global) -> Result<String, Fail> {
+    let device = text(alloc, "dev1")?;
+    let mut all = String::new(alloc);
+    all.push_str(known_line(alloc, 6, Side::Upper, &device)?.as_str())?;
+    all.push_str(stranger_line(alloc, 7, Side::Lower, &device)?.as_str())?;
+    all.push_str(quiet_line(alloc, 7, Side::Lower, 600)?.as_str())?;
+    all.push_str(silent_line(alloc, Side::Upper, &device, 30)?.as_str())?;
+    all.push_str(stalled_line(alloc, Side::Upper, "Too many open files")?.as_str())?;
+    all.push_str(works_line(alloc, Side::Upper)?.as_str())?;
+    all.push_str(full_line(alloc, Side::Editor, 4000)?.as_str())?;
+    all.push_str(shut_line(alloc, Side::Lower)?.as_str())?;
+    Ok(all)
+}
+
+#[test]
+fn each_line_of_a_port_has_its_form(rt: HostRuntime) -> Result<(), Fail> {
+    let all = port_lines(rt.alloc())?;
+    assert_eq!(rt;
+        all.as_str(),
+        "connection 6 upper is dev1
+connection 7 lower is dev1, which the settings don't have
+connection 7 lower sent nothing for 600 s
+upper dev1 hasn't answered for 30 s
+port upper can't take connections: Too many open files
+port upper takes connections again
+port editor has 4000 connections and takes no more
+port lower ended, with no memory or thread for a connection; the program ends
+"
+    );
+    Ok(())
+}
+
+#[test]
+fn the_time_stands_in_front_of_a_line(rt: HostRuntime) -> Result<(), Fail> {
+    let alloc = rt.alloc();
+    let line = stamped(alloc, true, time_of(1_796_101_331), "a line\n")?;
+    assert_eq!(rt; line.as_str(), "<4>2026-12-01T05:02:11Z a line\n");
+    let line = stamped(alloc, false, time_of(951_782_399), "a line\n")?;
+    assert_eq!(rt; line.as_str(), "2000-02-28T23:59:59Z a line\n");
+    let line = stamped(alloc, false, time_of(u64::MAX), "a line\n")?;
+    assert_eq!(rt; line.as_str(), "a line\n");
     Ok(())
 }
