@@ -88,6 +88,13 @@ impl Devices {
         self.devices.get(i)
     }
 
+    /// All of them.
+    pub fn as_slice(&self) -> &[DeviceSettings]
+        ensures { result.now ≡ self.now }
+    {
+        &self.devices
+    }
+
     /// Adds one at the end. Without memory for it the list stays as it was, and what was to be added is dropped.
     pub fn push(&mut self, device: DeviceSettings) -> Result<(), NoMemory>
         ensures ok { OnOk result (self.new ≡ self.old ++ device ∷ []) }
@@ -206,7 +213,7 @@ fn is_device_list(values: &[Value]) -> bool
 }
 
 /// The device of a value, after the devices of the values before it. `BadValue` comes for one that is no table.
-fn device_in(
+pub(crate) fn device_in(
     alloc: Global,
     before: &Devices,
     value: &Value,

@@ -27,6 +27,8 @@ pub enum Key {
     Editor,
     /// `budget`, how many bytes of one connection are read.
     Budget,
+    /// `listen`, the address that this end listens at.
+    Listen,
     /// `mos_id`, the gateway's own ID.
     MosId,
     /// `host`, where the gateway finds its server.
@@ -60,6 +62,7 @@ impl Key {
             Key::Lower => "lower",
             Key::Editor => "editor",
             Key::Budget => "budget",
+            Key::Listen => "listen",
             Key::MosId => "mos_id",
             Key::Host => "host",
             Key::ServerUpper => "server_upper",
