@@ -9,7 +9,7 @@ use std::alloc::Global;
 use toml::Table;
 
 /// The table of a TOML text in UTF-8. `NotToml` comes exactly where the text is none.
-pub fn document(alloc: Global, text: &[u8]) -> Result<Table, SettingsFault>
+pub fn read_document(alloc: Global, text: &[u8]) -> Result<Table, SettingsFault>
     ensures table { IfOk result (λ t. table_in text.now ≡ Some (table_view t)) }
     ensures fault { IfErr result (λ f. ¬ (f ≡ out_of_memory) → (f ≡ not_toml) × (table_in text.now ≡ None)) }
 {

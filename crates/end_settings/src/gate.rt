@@ -4,7 +4,7 @@ ghost use Rattle.toml.specs.View.{table_view};
 ghost use Rattle.end_settings.specs.Ends.{gate_in, gate_of, gate_with};
 ghost use Rattle.end_settings.specs.Given.{Gives, made};
 
-use crate::document::document;
+use crate::document::read_document;
 use crate::fault::SettingsFault;
 use crate::given::{pair_given, triple_given};
 use crate::key::Key;
@@ -109,6 +109,6 @@ fn gate_settings_of(alloc: Global, table: &Table) -> Result<GateSettings, Settin
 pub fn read_gate_settings(alloc: Global, text: &[u8]) -> Result<GateSettings, SettingsFault>
     ensures { Gives (gate_in text.now) result }
 {
-    let table = document(alloc, text)?;
+    let table = read_document(alloc, text)?;
     gate_settings_of(alloc, &table)
 }

@@ -6,7 +6,7 @@
 #![tactic(auto)]
 
 pub mod devices;
-pub mod document;
+mod document;
 pub mod fault;
 pub mod gate;
 mod given;
@@ -14,10 +14,10 @@ pub mod key;
 pub mod listen;
 pub mod readable;
 pub mod server;
-pub mod values;
+mod values;
 
 pub use devices::{DeviceSettings, Devices};
-pub use document::document;
+pub use document::read_document;
 pub use fault::SettingsFault;
 pub use gate::{GateSettings, read_gate_settings};
 pub use key::Key;

@@ -7,7 +7,7 @@ ghost use Rattle.end_settings.specs.Values.{value_of};
 ghost use Rattle.end_settings.specs.declared.fault.SettingsFault.TheVariants.{BadValue, NoMemory as out_of_memory};
 ghost use Rattle.end_settings.specs.declared.key.Key.TheVariants.{Listen};
 
-use crate::document::document;
+use crate::document::read_document;
 use crate::fault::SettingsFault;
 use crate::key::Key;
 use crate::values::value_at;
@@ -41,6 +41,6 @@ pub fn read_listen(alloc: Global, text: &[u8]) -> Result<IpAddr, SettingsFault>
     ensures address { IfOk result (λ ip. HasListen (table_in text.now) ip) }
     ensures fault { IfErr result (λ f. ¬ (f ≡ out_of_memory) → LacksListen (table_in text.now) f) }
 {
-    let table = document(alloc, text)?;
+    let table = read_document(alloc, text)?;
     listen_of(&table)
 }

@@ -6,7 +6,7 @@ ghost use Rattle.end_settings.specs.Ends.{server_in, server_of, server_with};
 ghost use Rattle.end_settings.specs.Given.{Gives, made};
 
 use crate::devices::{Devices, device_list};
-use crate::document::document;
+use crate::document::read_document;
 use crate::fault::SettingsFault;
 use crate::given::triple_given;
 use crate::key::Key;
@@ -84,6 +84,6 @@ pub fn read_server_settings(alloc: Global, text: &[u8]) -> Result<ServerSettings
     ensures settings { Gives (server_in text.now) result }
     ensures devices { IfOk result (λ s. AreDevices s.devices) }
 {
-    let table = document(alloc, text)?;
+    let table = read_document(alloc, text)?;
     server_settings_of(alloc, &table)
 }

@@ -7,12 +7,20 @@ use end_settings::{Key, SettingsFault};
 use mos_fields::NoMemory;
 
 const ID: &str = "an ID is a text of 1 to 128 characters, all of them such as XML 1.0 allows";
+
 const PATH: &str = "a path is a text that isn't empty, of characters such as XML 1.0 allows";
-const HOST: &str = "a host is a name or an address: a text that isn't empty, of characters such as XML 1.0 allows";
+
+const HOST: &str =
+    "a host is a name or an address: a text that isn't empty, of characters such as XML 1.0 allows";
+
 const PORT: &str = "a port is a whole number from 1 to 65535";
+
 const TEXT: &str = "a text, which may be empty, of characters such as XML 1.0 allows";
+
 const DEVICES: &str = "an array of 1 to 64 tables, each begun by [[devices]]";
+
 const BUDGET: &str = "a budget is a whole number of bytes from 1 to 1099511627776";
+
 const LISTEN: &str = "an address in numbers, such as 127.0.0.1, 0.0.0.0 or ::";
 
 /// What a value at this key has to be, in words.

@@ -8,7 +8,7 @@ ghost use Rattle.settings_help.specs.Places.{IsLineOf, IsPlaceOf, is_of_device, 
 
 use crate::names::{first_named, name_at};
 use crate::place::Place;
-use end_settings::{Key, SettingsFault, count_readable, device_values, document};
+use end_settings::{Key, SettingsFault, count_readable, device_values, read_document};
 use mos_fields::{NoMemory, Text};
 use std::alloc::Global;
 use toml::de::Error;
@@ -51,12 +51,7 @@ fn broken_line(alloc: Global, text: &[u8]) -> Result<Place, NoMemory>
 }
 
 // The line of this byte, with what is wrong.
-fn line_place(
-    alloc: Global,
-    text: &[u8],
-    at: usize,
-    fault: &Error,
-) -> Result<Place, NoMemory>
+fn line_place(alloc: Global, text: &[u8], at: usize, fault: &Error) -> Result<Place, NoMemory>
     requires { at ≤ length text.now }
     ensures { IfOk result (λ p. IsLineOf text.now p) }
 {
@@ -77,12 +72,7 @@ fn of_device(key: Key) -> bool
 }
 
 // The place of a fault at this key of the table behind so many.
-fn table_place(
-    alloc: Global,
-    values: &[Value],
-    at: usize,
-    key: Key,
-) -> Result<Place, NoMemory>
+fn table_place(alloc: Global, values: &[Value], at: usize, key: Key) -> Result<Place, NoMemory>
     requires { at < length values.now }
     ensures { IfOk result (λ p. p ≡ place_in_table (items_view values.now) at key) }
 {
@@ -138,7 +128,7 @@ fn key_place(alloc: Global, text: &[u8], key: Key) -> Result<Place, NoMemory>
     if !of_device(key) {
         return Ok(Place::Top);
     }
-    match document(alloc, text) {
+    match read_document(alloc, text) {
         Ok(table) => device_place(alloc, &table, key),
         Err(SettingsFault::NoMemory) => Err(NoMemory),
         Err(_) => Ok(Place::Top),

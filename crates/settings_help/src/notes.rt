@@ -201,7 +201,13 @@ pub fn server_notes(
 {
     let mut lines = String::new(alloc);
     push_ports(alloc, &mut lines, file, settings)?;
-    push_devices(alloc, &mut lines, file, &settings.ncs_id, settings.devices.as_slice())?;
+    push_devices(
+        alloc,
+        &mut lines,
+        file,
+        &settings.ncs_id,
+        settings.devices.as_slice(),
+    )?;
     push_budget(alloc, &mut lines, file, settings.budget)?;
     Ok(lines)
 }
@@ -214,7 +220,14 @@ pub fn gate_notes(alloc: Global, file: &str, settings: &GateSettings) -> Result<
 {
     let mut lines = String::new(alloc);
     push_ids(&mut lines, file, &settings.mos_id, &settings.ncs_id)?;
-    push_pair(alloc, &mut lines, file, "upper and lower", settings.upper, settings.lower)?;
+    push_pair(
+        alloc,
+        &mut lines,
+        file,
+        "upper and lower",
+        settings.upper,
+        settings.lower,
+    )?;
     push_pair(
         alloc,
         &mut lines,

@@ -137,7 +137,14 @@ pub fn unknown_lines(
     ensures { IfOk result (λ lines. string_bytes lines ≡ unknown_of file.now program (table_view table.now)) }
 {
     let mut lines = String::new(alloc);
-    push_keys(alloc, &mut lines, file, &Place::Top, known_keys(program), table)?;
+    push_keys(
+        alloc,
+        &mut lines,
+        file,
+        &Place::Top,
+        known_keys(program),
+        table,
+    )?;
     push_devices(alloc, &mut lines, file, program, table)?;
     Ok(lines)
 }

@@ -1,6 +1,6 @@
 //! What is said of a text.
 use end_settings::{
-    SettingsFault, document, read_gate_settings, read_listen, read_server_settings,
+    SettingsFault, read_document, read_gate_settings, read_listen, read_server_settings,
 };
 use mos_fields::NoMemory;
 use settings_help::{Program, explain, gate_notes, server_notes, unknown_lines};
@@ -77,7 +77,7 @@ fn good_lines(
     text: &[u8],
     notes: &str,
 ) -> Result<String, NoMemory> {
-    match document(alloc, text) {
+    match read_document(alloc, text) {
         Ok(table) => {
             let mut lines = unknown_lines(alloc, "ncs.toml", program, &table)?;
             lines.push_str(notes)?;
