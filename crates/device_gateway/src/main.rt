@@ -1,11 +1,12 @@
 //! A device's gateway. `device_gateway FILE` reads its settings from the file, listens at its ports and dials its
-//! server. What its deck is to do it writes to standard output.
+//! server. What its deck is to do it writes to standard output. `device_gateway --check FILE` looks at the settings and the
+//! objects alone.
 #![tactic(auto)]
 
 use deck_rack::{Deck, LineDeck};
-use gate_program::{about, run_gateway};
+use gate_program::{Asked, USAGE, asked, check_gateway, run_gateway};
 use mos_io::StdSink;
-use program_ends::ProgramEnd;
+use program_ends::{ProgramEnd, Why};
 use std::env;
 use std::io::ErrorKind;
 use std::process::ExitCode;
@@ -23,28 +24,53 @@ fn arguments(rt: &HostRuntime) -> Result<Vec<String>, ProgramEnd> {
 }
 
 /// Says how the program ended.
-fn said(rt: &HostRuntime, end: ProgramEnd) -> ExitCode {
-    let _ = eprintln!(rt; "{end}");
+fn said(rt: &HostRuntime, end: ProgramEnd, why: &Why) -> ExitCode {
+    match (end, why.line()) {
+        (ProgramEnd::Usage, _) => {
+            let _ = eprintln!(rt; "{USAGE}");
+        }
+        (_, Some(line)) => {
+            let _ = eprintln!(rt; "{line}");
+        }
+        (_, None) => {
+            let _ = eprintln!(rt; "{end}");
+        }
+    }
     ExitCode::from(end.status())
+}
+
+/// Looks at the settings in a file, and says how that ended.
+fn checked(rt: &HostRuntime, path: &str) -> ExitCode {
+    let mut why = Why::new();
+    match check_gateway(rt, path, &mut why) {
+        Ok(()) => ExitCode::SUCCESS,
+        Err(end) => said(rt, end, &why),
+    }
 }
 
 fn main(rt: HostRuntime) -> ExitCode {
     let words = match arguments(&rt) {
         Ok(words) => words,
-        Err(end) => return said(&rt, end),
+        Err(end) => return said(&rt, end, &Why::new()),
     };
-    if let Some(text) = about(&words) {
-        let _ = print!(rt; "{text}");
-        return ExitCode::SUCCESS;
+    match asked(&words) {
+        Asked::About(text) => {
+            let _ = print!(rt; "{text}");
+            return ExitCode::SUCCESS;
+        }
+        Asked::Check(path) => return checked(&rt, path),
+        Asked::Usage => return said(&rt, ProgramEnd::Usage, &Why::new()),
+        Asked::Run => {}
     }
+    let mut why = Why::new();
     let alloc = rt.alloc();
     let Ok(deck) = Box::new(alloc, LineDeck::new(alloc, StdSink::new(rt.stdout()))) else {
-        return said(&rt, ProgramEnd::NoMemory);
+        return said(&rt, ProgramEnd::NoMemory, &why);
     };
     let mut decks: Vec<Box<dyn Deck + Send>> = Vec::new(alloc);
     if decks.push(deck).is_err() {
-        return said(&rt, ProgramEnd::NoMemory);
+        return said(&rt, ProgramEnd::NoMemory, &why);
     }
-    let end = run_gateway(rt, &words, decks);
-    said(&rt, end)
+    let end = run_gateway(rt, &words, decks, &mut why);
+    said(&rt, end, &why)
 }

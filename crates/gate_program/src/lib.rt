@@ -1,8 +1,13 @@
 //! The program of a device's gateway, but for its `main`.
 #![tactic(auto)]
 
+mod checking;
+mod objects;
+mod ports;
 mod running;
+mod settings;
 mod texts;
 
+pub use checking::check_gateway;
 pub use running::run_gateway;
-pub use texts::about;
+pub use texts::{Asked, USAGE, asked};

@@ -1,114 +1,27 @@
 //! A run of the gateway.
-ghost use Rattle.std.specs.Prelude.{◌≡◌, ◌≢◌, ◌⊎◌, ◌<◌, ◌^◌, IfErr, IfOk, length};
-ghost use Rattle.program_ends.specs.Ends.{IsGateRunEnd, IsNoObjects, IsNoSettings};
-ghost use Rattle.program_ends.specs.declared.program_end.ProgramEnd.TheVariants.{NoMemory, NoPort, Usage};
+ghost use Rattle.std.specs.Prelude.{◌≡◌, ◌≢◌, ◌<◌, ◌^◌, length};
+ghost use Rattle.program_ends.specs.Ends.{IsGateRunEnd};
+ghost use Rattle.program_ends.specs.declared.program_end.ProgramEnd.TheVariants.{Usage};
 
+use crate::objects::objects_of;
+use crate::ports::ports_of;
+use crate::settings::{Given, settings_in};
 use deck_rack::Deck;
-use end_settings::{GateSettings, read_gate_settings};
 use gate_serving::gate_serve_by_threads;
-use mos_io::{Capped, StdSource};
-use object_reading::read_objects;
-use object_table::ObjectTable;
-use port_events::Side;
-use port_tcp::{Common, SystemClock, TcpPort};
-use program_ends::{FileOf, ProgramEnd, dialer, pacer, path_of, port_at, read_file};
-use std::fs;
+use port_tcp::{Common, SystemClock};
+use program_ends::{ProgramEnd, Why, dialer, pacer};
+use settings_help::gate_start_line;
 use std::net::{Net, TcpListener, TcpStream};
 use std::rt::Files;
 use std::sync::{Arc, Wait};
 use std::thread::Threads;
 use std::time::Clock;
-use thread_doors::GateListeners;
 
-// The settings in a file.
-#[tactic(auto, using(program_ends::proofs::RunEnds::unread_settings, program_ends::proofs::RunEnds::refused_settings))]
-fn settings_in<R: Files + AllocGlobal>(rt: &R, path: &str) -> Result<GateSettings, ProgramEnd>
-    ensures { IfErr result (λ end. IsNoSettings end) }
-{
-    let text = match read_file(rt, path, FileOf::Settings) {
-        Ok(text) => text,
-        Err(end) => return Err(end),
-    };
-    match read_gate_settings(rt.alloc(), &text) {
-        Ok(settings) => Ok(settings),
-        Err(fault) => Err(ProgramEnd::of_settings(fault)),
+// Says that the gateway starts to serve, with so many objects.
+fn say_start<R: AllocGlobal + Eprint>(rt: &R, given: &Given, objects: usize) {
+    if let Ok(line) = gate_start_line(rt.alloc(), &given.settings, given.listen, objects) {
+        let _ = eprintln!(rt; "{line}");
     }
-}
-
-// The objects in a file of at most so many bytes.
-#[tactic(auto, using(program_ends::proofs::RunEnds::refused_objects))]
-fn objects_in<R: Files + AllocGlobal>(
-    rt: &R,
-    path: &str,
-    budget: u64,
-) -> Result<ObjectTable, ProgramEnd>
-where
-    R::File: Drop,
-    ensures { IfErr result (λ end. IsNoObjects end) }
-{
-    match fs::open(rt, path) {
-        Ok(file) => {
-            let mut source = Capped::new(StdSource::new(file), budget);
-            match read_objects(rt.alloc(), &mut source) {
-                Ok(objects) => Ok(objects),
-                Err(fault) => Err(ProgramEnd::of_objects(fault)),
-            }
-        }
-        Err(_) => Err(ProgramEnd::NoFile(FileOf::Objects)),
-    }
-}
-
-// The objects of the settings.
-fn objects_of<R: Files + AllocGlobal>(
-    rt: &R,
-    settings: &GateSettings,
-) -> Result<ObjectTable, ProgramEnd>
-where
-    R::File: Drop,
-    ensures { IfErr result (λ end. IsNoObjects end) }
-{
-    match &settings.objects {
-        None => Ok(ObjectTable::new(rt.alloc())),
-        Some(path) => match path_of(rt.alloc(), path) {
-            Ok(path) => objects_in(rt, path.as_str(), settings.budget),
-            Err(_) => Err(ProgramEnd::NoMemory),
-        },
-    }
-}
-
-// One port more, for connections at this side.
-fn next_port<
-    R: Net<Listener = TcpListener, Stream = TcpStream> + Clock + AllocGlobal + Eprint + Copy + Drop,
->(rt: R, port: u16, side: Side, common: &Arc<Common>) -> Result<TcpPort<R>, ProgramEnd>
-    ensures fault { IfErr result (λ end. (end ≡ NoMemory) ⊎ (end ≡ NoPort port)) }
-    ensures run { IfErr result (λ end. IsGateRunEnd end) }
-{
-    let Ok(common) = Arc::try_clone(common) else {
-        return Err(ProgramEnd::NoMemory);
-    };
-    match port_at(rt, port, side, common) {
-        Ok(port) => Ok(port),
-        Err(_) => Err(ProgramEnd::NoPort(port)),
-    }
-}
-
-// The two ports: for running orders, and for objects. No worker is refused so far.
-fn ports_of<
-    R: Net<Listener = TcpListener, Stream = TcpStream> + Clock + AllocGlobal + Eprint + Copy + Drop,
->(
-    rt: R,
-    settings: &GateSettings,
-    common: &Arc<Common>,
-) -> Result<GateListeners<TcpPort<R>>, ProgramEnd>
-    ensures refused { IfOk result (λ l. l.refused ≡ 0) }
-    ensures fault { IfErr result (λ end. (end ≡ NoMemory) ⊎ ((end ≡ NoPort settings.now.upper) ⊎ (end ≡ NoPort settings.now.lower))) }
-    ensures run { IfErr result (λ end. IsGateRunEnd end) }
-{
-    Ok(GateListeners {
-        upper: next_port(rt, settings.upper, Side::Upper, common)?,
-        lower: next_port(rt, settings.lower, Side::Lower, common)?,
-        refused: 0,
-    })
 }
 
 // Serves by these settings.
@@ -127,21 +40,21 @@ fn serve<
         + Sync
         + 'static,
     De: Deck + Send + 'static,
->(rt: R, settings: &GateSettings, decks: Vec<De>) -> ProgramEnd
+>(rt: R, given: &Given, decks: Vec<De>, why: &mut Why) -> ProgramEnd
 where
     R::File: Drop,
     requires { length decks.items < 2 ^ 32 }
     ensures { IsGateRunEnd result }
 {
     let alloc = rt.alloc();
-    let objects = match objects_of(&rt, settings) {
+    let objects = match objects_of(&rt, &given.settings, why) {
         Ok(objects) => objects,
         Err(end) => return end,
     };
     let Ok(common) = Arc::new(alloc, Common::new(1)) else {
         return ProgramEnd::NoMemory;
     };
-    let listeners = match ports_of(rt, settings, &common) {
+    let listeners = match ports_of(rt, given, &common, why) {
         Ok(listeners) => listeners,
         Err(end) => return end,
     };
@@ -152,10 +65,11 @@ where
         return ProgramEnd::NoMemory;
     };
     let clock = SystemClock::new(rt);
+    say_start(&rt, given, objects.len());
     let (end, _listeners) = gate_serve_by_threads(
         &rt,
         alloc,
-        settings,
+        &given.settings,
         objects,
         decks,
         listeners,
@@ -182,14 +96,14 @@ fn run_with<
         + Sync
         + 'static,
     De: Deck + Send + 'static,
->(rt: R, path: &str, decks: Vec<De>) -> ProgramEnd
+>(rt: R, path: &str, decks: Vec<De>, why: &mut Why) -> ProgramEnd
 where
     R::File: Drop,
     requires { length decks.items < 2 ^ 32 }
     ensures { IsGateRunEnd result }
 {
-    match settings_in(&rt, path) {
-        Ok(settings) => serve(rt, &settings, decks),
+    match settings_in(&rt, path, why) {
+        Ok(given) => serve(rt, &given, decks, why),
         Err(end) => end,
     }
 }
@@ -197,7 +111,8 @@ where
 /// Runs the gateway with these decks, fewer than 2^32, and with the words behind the program's name: the path of its settings.
 ///
 /// `Usage` comes exactly where these words aren't one. What else isn't as it should be is looked for in this order: the
-/// settings' file, the settings, the objects, the ports. Memory may run out at each.
+/// settings' file, the settings, the objects, the ports. Memory may run out at each. Where there is more to say of why it ended,
+/// `why` has the line.
 pub fn run_gateway<
     R: Files
         + AllocGlobal
@@ -212,7 +127,7 @@ pub fn run_gateway<
         + Sync
         + 'static,
     De: Deck + Send + 'static,
->(rt: R, words: &[String], decks: Vec<De>) -> ProgramEnd
+>(rt: R, words: &[String], decks: Vec<De>, why: &mut Why) -> ProgramEnd
 where
     R::File: Drop,
     requires { length decks.items < 2 ^ 32 }
@@ -220,7 +135,7 @@ where
     ensures run { length words.now ≡ 1 → IsGateRunEnd result }
 {
     match words {
-        [path] => run_with(rt, path.as_str(), decks),
+        [path] => run_with(rt, path.as_str(), decks, why),
         _ => ProgramEnd::Usage,
     }
 }

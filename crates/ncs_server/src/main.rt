@@ -1,13 +1,18 @@
 //! A newsroom system's server. `ncs_server FILE` reads its settings from the file, loads its journal, listens at its ports and
-//! dials its devices.
+//! dials its devices; `ncs_server --check FILE` looks at the settings and the journal alone.
 #![tactic(auto)]
 
+mod checking;
+mod journal;
+mod ports;
 mod running;
+mod settings;
 mod texts;
 
+use crate::checking::check_server;
 use crate::running::run_server;
-use crate::texts::about;
-use program_ends::ProgramEnd;
+use crate::texts::{Asked, USAGE, asked};
+use program_ends::{ProgramEnd, Why};
 use std::env;
 use std::io::ErrorKind;
 use std::process::ExitCode;
@@ -25,20 +30,46 @@ fn arguments(rt: &HostRuntime) -> Result<Vec<String>, ProgramEnd> {
 }
 
 /// Says how the program ended.
-fn said(rt: &HostRuntime, end: ProgramEnd) -> ExitCode {
-    let _ = eprintln!(rt; "{end}");
+fn said(rt: &HostRuntime, end: ProgramEnd, why: &Why) -> ExitCode {
+    match (end, why.line()) {
+        (ProgramEnd::Usage, _) => {
+            let _ = eprintln!(rt; "{USAGE}");
+        }
+        (_, Some(line)) => {
+            let _ = eprintln!(rt; "{line}");
+        }
+        (_, None) => {
+            let _ = eprintln!(rt; "{end}");
+        }
+    }
     ExitCode::from(end.status())
+}
+
+/// Looks at the settings in a file, and says how that ended.
+fn checked(rt: &HostRuntime, path: &str) -> ExitCode {
+    let mut why = Why::new();
+    match check_server(rt, path, &mut why) {
+        Ok(()) => ExitCode::SUCCESS,
+        Err(end) => said(rt, end, &why),
+    }
 }
 
 fn main(rt: HostRuntime) -> ExitCode {
     let words = match arguments(&rt) {
         Ok(words) => words,
-        Err(end) => return said(&rt, end),
+        Err(end) => return said(&rt, end, &Why::new()),
     };
-    if let Some(text) = about(&words) {
-        let _ = print!(rt; "{text}");
-        return ExitCode::SUCCESS;
+    match asked(&words) {
+        Asked::About(text) => {
+            let _ = print!(rt; "{text}");
+            ExitCode::SUCCESS
+        }
+        Asked::Check(path) => checked(&rt, path),
+        Asked::Run => {
+            let mut why = Why::new();
+            let end = run_server(rt, rt, &words, &mut why);
+            said(&rt, end, &why)
+        }
+        Asked::Usage => said(&rt, ProgramEnd::Usage, &Why::new()),
     }
-    let end = run_server(rt, rt, &words);
-    said(&rt, end)
 }

@@ -1,121 +1,27 @@
 //! A run of the server.
-ghost use Rattle.std.specs.Prelude.{◌≡◌, ◌≢◌, ◌⊎◌, IfErr, IfOk, length};
+ghost use Rattle.std.specs.Prelude.{◌≡◌, ◌≢◌, length};
 ghost use Rattle.end_settings.specs.Devices.{AreDevices};
-ghost use Rattle.program_ends.specs.Ends.{IsNoFile, IsNoSettings, IsServerRunEnd};
-ghost use Rattle.program_ends.specs.declared.program_end.FileOf.TheVariants.{Log};
-ghost use Rattle.program_ends.specs.declared.program_end.ProgramEnd.TheVariants.{NoMemory, NoPort, Usage};
+ghost use Rattle.program_ends.specs.Ends.{IsServerRunEnd};
+ghost use Rattle.program_ends.specs.declared.program_end.ProgramEnd.TheVariants.{Usage};
 
-use end_settings::{ServerSettings, read_server_settings};
-use file_keeper::FileKeeper;
+use crate::journal::{keeper_of, lock_of};
+use crate::ports::ports_of;
+use crate::settings::{Given, settings_in};
 use mos_fields::let_go;
-use port_events::Side;
-use port_tcp::{Common, SystemClock, TcpPort};
-use program_ends::{FileOf, ProgramEnd, dialer, pacer, path_of, port_at, read_file};
-use rundown_log::KeepFault;
+use port_tcp::{Common, SystemClock};
+use program_ends::{ProgramEnd, Why, dialer, pacer};
 use server_serving::ncs_serve_by_threads;
-use std::fs::{File, OpenOptions, TryLockError};
+use settings_help::server_start_line;
 use std::net::{Net, TcpListener, TcpStream};
 use std::sync::{Arc, Wait};
 use std::thread::Threads;
 use std::time::Clock;
-use thread_doors::ServerListeners;
 
-// The settings in a file.
-#[tactic(auto, using(program_ends::proofs::RunEnds::unread_settings, program_ends::proofs::RunEnds::refused_settings))]
-fn settings_in(rt: &HostRuntime, path: &str) -> Result<ServerSettings, ProgramEnd>
-    ensures devices { IfOk result (λ s. AreDevices s.devices) }
-    ensures fault { IfErr result (λ end. IsNoSettings end) }
-{
-    let text = match read_file(rt, path, FileOf::Settings) {
-        Ok(text) => text,
-        Err(end) => return Err(end),
-    };
-    match read_server_settings(rt.alloc(), &text) {
-        Ok(settings) => Ok(settings),
-        Err(fault) => Err(ProgramEnd::of_settings(fault)),
+// Says that the server starts to serve.
+fn say_start(rt: &HostRuntime, given: &Given) {
+    if let Ok(line) = server_start_line(rt.alloc(), &given.settings, given.listen) {
+        let _ = eprintln!(rt; "{line}");
     }
-}
-
-// The keeper of the journal.
-fn keeper_of(
-    rt: &HostRuntime,
-    settings: &ServerSettings,
-) -> Result<FileKeeper<HostRuntime>, ProgramEnd>
-    ensures { IfErr result (λ end. IsNoFile Log end) }
-{
-    let Ok(path) = path_of(rt.alloc(), &settings.log) else {
-        return Err(ProgramEnd::NoMemory);
-    };
-    match FileKeeper::open(rt, path.as_str()) {
-        Ok(keeper) => Ok(keeper),
-        Err(KeepFault::NoMemory) => Err(ProgramEnd::NoMemory),
-        Err(KeepFault::Failed) => Err(ProgramEnd::NoFile(FileOf::Log)),
-    }
-}
-
-// Says on standard error that another server has the journal.
-fn say_taken(rt: &HostRuntime, path: &str) {
-    let _ = eprintln!(rt; "log {path}: another server has it");
-}
-
-// A lock on the journal, which lasts as long as the value. Where the journal's file system has no locks, there is none.
-fn lock_of(rt: &HostRuntime, settings: &ServerSettings) -> Result<File, ProgramEnd>
-    ensures { IfErr result (λ end. IsNoFile Log end) }
-{
-    let Ok(path) = path_of(rt.alloc(), &settings.log) else {
-        return Err(ProgramEnd::NoMemory);
-    };
-    let opened = OpenOptions::new()
-        .read(true)
-        .append(true)
-        .create(true)
-        .open(rt, path.as_str());
-    let Ok(file) = opened else {
-        return Err(ProgramEnd::NoFile(FileOf::Log));
-    };
-    match file.try_lock() {
-        Err(TryLockError::WouldBlock) => {
-            say_taken(rt, path.as_str());
-            Err(ProgramEnd::NoFile(FileOf::Log))
-        }
-        Ok(()) | Err(TryLockError::Error(_)) => Ok(file),
-    }
-}
-
-// One port more, for connections at this side.
-fn next_port<
-    R: Net<Listener = TcpListener, Stream = TcpStream> + Clock + AllocGlobal + Eprint + Copy + Drop,
->(rt: R, port: u16, side: Side, common: &Arc<Common>) -> Result<TcpPort<R>, ProgramEnd>
-    ensures fault { IfErr result (λ end. (end ≡ NoMemory) ⊎ (end ≡ NoPort port)) }
-    ensures run { IfErr result (λ end. IsServerRunEnd end) }
-{
-    let Ok(common) = Arc::try_clone(common) else {
-        return Err(ProgramEnd::NoMemory);
-    };
-    match port_at(rt, port, side, common) {
-        Ok(port) => Ok(port),
-        Err(_) => Err(ProgramEnd::NoPort(port)),
-    }
-}
-
-// The three ports: for running orders, for objects, and for editors. No worker is refused so far.
-fn ports_of<
-    R: Net<Listener = TcpListener, Stream = TcpStream> + Clock + AllocGlobal + Eprint + Copy + Drop,
->(
-    rt: R,
-    settings: &ServerSettings,
-    common: &Arc<Common>,
-) -> Result<ServerListeners<TcpPort<R>>, ProgramEnd>
-    ensures refused { IfOk result (λ l. l.refused ≡ 0) }
-    ensures fault { IfErr result (λ end. (end ≡ NoMemory) ⊎ ((end ≡ NoPort settings.now.upper) ⊎ ((end ≡ NoPort settings.now.lower) ⊎ (end ≡ NoPort settings.now.editor)))) }
-    ensures run { IfErr result (λ end. IsServerRunEnd end) }
-{
-    Ok(ServerListeners {
-        upper: next_port(rt, settings.upper, Side::Upper, common)?,
-        lower: next_port(rt, settings.lower, Side::Lower, common)?,
-        editor: next_port(rt, settings.editor, Side::Editor, common)?,
-        refused: 0,
-    })
 }
 
 // Serves by these settings.
@@ -132,23 +38,23 @@ fn serve<
         + Send
         + Sync
         + 'static,
->(rt: HostRuntime, threads: R, settings: &ServerSettings) -> ProgramEnd
-    requires { AreDevices settings.now.devices }
+>(rt: HostRuntime, threads: R, given: &Given, why: &mut Why) -> ProgramEnd
+    requires { AreDevices (given.now.settings).devices }
     ensures { IsServerRunEnd result }
 {
     let alloc = rt.alloc();
-    let lock = match lock_of(&rt, settings) {
+    let lock = match lock_of(&rt, &given.settings, why) {
         Ok(lock) => lock,
         Err(end) => return end,
     };
-    let keeper = match keeper_of(&rt, settings) {
+    let keeper = match keeper_of(&rt, &given.settings) {
         Ok(keeper) => keeper,
         Err(end) => return end,
     };
     let Ok(common) = Arc::new(alloc, Common::new(1)) else {
         return ProgramEnd::NoMemory;
     };
-    let listeners = match ports_of(threads, settings, &common) {
+    let listeners = match ports_of(threads, given, &common, why) {
         Ok(listeners) => listeners,
         Err(end) => return end,
     };
@@ -159,10 +65,11 @@ fn serve<
         return ProgramEnd::NoMemory;
     };
     let clock = SystemClock::new(rt);
+    say_start(&rt, given);
     let (end, _listeners) = ncs_serve_by_threads(
         &threads,
         alloc,
-        settings,
+        &given.settings,
         keeper,
         listeners,
         dialer,
@@ -187,11 +94,11 @@ fn run_with<
         + Send
         + Sync
         + 'static,
->(rt: HostRuntime, threads: R, path: &str) -> ProgramEnd
+>(rt: HostRuntime, threads: R, path: &str, why: &mut Why) -> ProgramEnd
     ensures { IsServerRunEnd result }
 {
-    match settings_in(&rt, path) {
-        Ok(settings) => serve(rt, threads, &settings),
+    match settings_in(&rt, path, why) {
+        Ok(given) => serve(rt, threads, &given, why),
         Err(end) => end,
     }
 }
@@ -200,7 +107,8 @@ fn run_with<
 /// settings.
 ///
 /// `Usage` comes exactly where these words aren't one. What else isn't as it should be is looked for in this order: the
-/// settings' file, the settings, the journal's file, the ports, the journal. Memory may run out at each.
+/// settings' file, the settings, the journal's file, the ports, the journal. Memory may run out at each. Where there is more to
+/// say of why it ended, `why` has the line.
 pub fn run_server<
     R: Net<Listener = TcpListener, Stream = TcpStream>
         + Clock
@@ -213,12 +121,12 @@ pub fn run_server<
         + Send
         + Sync
         + 'static,
->(rt: HostRuntime, threads: R, words: &[String]) -> ProgramEnd
+>(rt: HostRuntime, threads: R, words: &[String], why: &mut Why) -> ProgramEnd
     ensures usage { length words.now ≢ 1 → result ≡ Usage }
     ensures run { length words.now ≡ 1 → IsServerRunEnd result }
 {
     match words {
-        [path] => run_with(rt, threads, path.as_str()),
+        [path] => run_with(rt, threads, path.as_str(), why),
         _ => ProgramEnd::Usage,
     }
 }

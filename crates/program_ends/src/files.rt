@@ -4,24 +4,30 @@ ghost use Rattle.program_ends.specs.Ends.{IsNoFile};
 ghost use Rattle.program_ends.specs.Paths.{utf8};
 
 use crate::program_end::{FileOf, ProgramEnd};
+use crate::why::Why;
 use mos_fields::{NoMemory, Text};
 use std::alloc::Global;
 use std::fs;
 use std::io::ErrorKind;
 use std::rt::Files;
 
-/// The bytes of a file. `NoFile` where it can't be opened or read, `NoMemory` where memory runs out.
+/// The bytes of a file. `NoFile` where it can't be opened or read, and `why` then has the line that says why; `NoMemory` where
+/// memory runs out.
 pub fn read_file<R: Files + AllocGlobal>(
     rt: &R,
     path: &str,
     file: FileOf,
+    why: &mut Why,
 ) -> Result<Vec<u8>, ProgramEnd>
     ensures { IfErr result (λ end. IsNoFile file end) }
 {
     match fs::read(rt, path) {
         Ok(bytes) => Ok(bytes),
         Err(fault) if fault.kind() == ErrorKind::OutOfMemory => Err(ProgramEnd::NoMemory),
-        Err(_) => Err(ProgramEnd::NoFile(file)),
+        Err(fault) => {
+            why.tell_file(rt.alloc(), file, path, fault.kind());
+            Err(ProgramEnd::NoFile(file))
+        }
     }
 }
 

@@ -5,11 +5,12 @@ ghost use Rattle.port_tcp.specs.Sides.{side_of};
 ghost use Rattle.program_ends.specs.declared.program_end.ProgramEnd.TheVariants.{NoPort};
 
 use crate::program_end::ProgramEnd;
+use crate::why::Why;
 use mos_fields::NoMemory;
 use port_events::Side;
 use port_tcp::{Common, SleepPacer, TcpDialer, TcpPort};
 use std::alloc::Global;
-use std::net::{Ipv4Addr, Net, TcpListener, TcpStream};
+use std::net::{IpAddr, Net, TcpListener, TcpStream};
 use std::sync::{Arc, Wait};
 use std::time::{Clock, Duration};
 
@@ -22,17 +23,27 @@ const BEAT: u64 = 5;
 // So long it awaits an answer, in seconds.
 const PATIENCE: u64 = 30;
 
-/// The port of this number, on every address of this machine, for connections at this side. The only error is `NoPort`,
-/// where it can't be opened.
+/// The port of this number, at this address of this machine, for connections at this side. The only error is `NoPort`, where it
+/// can't be opened; `why` then has the line that says why.
 pub fn port_at<
     R: Net<Listener = TcpListener, Stream = TcpStream> + Clock + AllocGlobal + Eprint + Copy + Drop,
->(rt: R, port: u16, side: Side, common: Arc<Common>) -> Result<TcpPort<R>, ProgramEnd>
+>(
+    rt: R,
+    address: IpAddr,
+    port: u16,
+    side: Side,
+    common: Arc<Common>,
+    why: &mut Why,
+) -> Result<TcpPort<R>, ProgramEnd>
     ensures fault { IfErr result (λ end. end ≡ NoPort port) }
     ensures side { IfOk result (λ opened. side_of opened ≡ side) }
 {
-    match TcpListener::bind(&rt, (Ipv4Addr::UNSPECIFIED, port)) {
+    match TcpListener::bind(&rt, (address, port)) {
         Ok(listener) => Ok(TcpPort::new(rt, listener, side, common)),
-        Err(_) => Err(ProgramEnd::NoPort(port)),
+        Err(fault) => {
+            why.tell_port(rt.alloc(), port, side, fault.kind());
+            Err(ProgramEnd::NoPort(port))
+        }
     }
 }
 

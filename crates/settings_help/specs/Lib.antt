@@ -2,3 +2,4 @@ pub mod Lines
 pub mod Places
 pub mod Known
 pub mod Notes
+pub mod Starts

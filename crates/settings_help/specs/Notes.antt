@@ -10,8 +10,11 @@ use Rattle.settings_help.specs.declared.place.Place.TheVariants.{Table}
 use Rattle.settings_help.specs.Lines.{place_words}
 
 -- a budget with which no connection goes on
+abbrev pub few_words : List ℕ → ℕ → List ℕ
+few_words file budget = file ++ codes ": with a budget of " ++ decimal budget ++ codes " bytes every connection will end with Budget\n"
+
 abbrev pub budget_notes : List ℕ → ℕ → List ℕ
-budget_notes file budget = cond (nat_lt budget 1000) (file ++ codes ": with a budget of " ++ decimal budget ++ codes " bytes every connection will end with Budget\n") []
+budget_notes file budget = cond (nat_lt budget 1000) (few_words file budget) []
 
 -- two ports of one machine that are the same
 abbrev pub pair_notes : List ℕ → List ℕ → ℕ → ℕ → List ℕ

@@ -1,5 +1,5 @@
 -- Where a fault is.
-use Rattle.std.specs.Prelude.{◌≡◌, ◌≢◌, ◌≤◌, ◌+◌, ◌==◌, ◌&&◌, nat_lt, ℕ, zero, suc, Bool, true, false, cond, List, [], ◌∷◌, length, take, Option, Some, None, Ok, Err}
+use Rattle.std.specs.Prelude.{◌≡◌, ◌≢◌, ◌≤◌, ◌+◌, ◌-◌, ◌==◌, ◌&&◌, nat_lt, ℕ, suc, Bool, true, false, cond, List, [], ◌∷◌, length, take, Option, Some, None, Ok, Err}
 use Rattle.toml.specs.Data.{Data, table, Members, Items, no_items, item}
 use Rattle.mos_fields.specs.Characters.{Text}
 use Rattle.mos_fields.specs.Fields.{same}
@@ -18,9 +18,12 @@ use Rattle.settings_help.specs.Lines.{explained}
 
 -- ---- lines
 
+abbrev pub feed_of : ℕ → ℕ
+feed_of b = cond (b == 10) 1 0
+
 abbrev pub line_feeds : List ℕ → ℕ
 line_feeds [] = 0
-line_feeds (b ∷ bs) = cond (b == 10) 1 0 + line_feeds bs
+line_feeds (b ∷ bs) = feed_of b + line_feeds bs
 
 -- the number of the line in which a byte of a text stands: the line feeds before it, and one
 abbrev pub line_at : List ℕ → ℕ → ℕ
@@ -51,8 +54,7 @@ name_in d = []
 -- that of the item behind so many
 abbrev pub name_at : ℕ → Items → Text
 name_at n no_items = []
-name_at zero (item d ds) = name_in d
-name_at (suc n) (item d ds) = name_at n ds
+name_at n (item d ds) = cond (n == 0) (name_in d) (name_at (n - 1) ds)
 
 -- how many items stand before the first with this mos_id
 abbrev pub first_named : Text → Items → ℕ

@@ -1,10 +1,10 @@
 //! Where a fault is found.
-ghost use Rattle.std.specs.Prelude.{◌≡◌, ◌≤◌, ◌<◌, ◌^◌, IfOk, length};
+ghost use Rattle.std.specs.Prelude.{◌≡◌, ◌≤◌, ◌<◌, ◌+◌, ◌^◌, IfOk, length};
 ghost use Rattle.toml.specs.View.{items_view, table_view};
 ghost use Rattle.end_settings.specs.Ends.{table_in};
 ghost use Rattle.end_settings.specs.Readable.{items_of};
 ghost use Rattle.end_settings.specs.Values.{value_of};
-ghost use Rattle.settings_help.specs.Places.{IsLineOf, IsPlaceOf, is_of_device, key_place_of, line_at, line_feeds, named_place_of, place_in, place_in_table, unread_place_of};
+ghost use Rattle.settings_help.specs.Places.{IsLineOf, IsPlaceOf, feed_of, is_of_device, key_place_of, line_at, line_feeds, named_place_of, place_in, place_in_table, unread_place_of};
 
 use crate::names::{first_named, name_at};
 use crate::place::Place;
@@ -14,16 +14,24 @@ use std::alloc::Global;
 use toml::de::Error;
 use toml::{Table, Value};
 
+// One for a line feed, else nothing.
+fn feed(byte: u8) -> usize
+    ensures feed { result ≡ feed_of byte }
+    ensures few { result ≤ 1 }
+{
+    if byte == b'\n' { 1 } else { 0 }
+}
+
 // How many line feeds these bytes have.
 fn count_feeds(bytes: &[u8]) -> usize
     ensures feeds { result ≡ line_feeds bytes.now }
     ensures few { result ≤ length bytes.now }
 {
     let mut count = 0;
-    for byte in bytes {
-        if *byte == b'\n' {
-            count += 1;
-        }
+    let mut rest = bytes;
+    while let [byte, more @ ..] = rest {
+        count += feed(*byte);
+        rest = more;
     }
     count
 }
@@ -84,7 +92,7 @@ fn table_place(alloc: Global, values: &[Value], at: usize, key: Key) -> Result<P
 // The place of a fault at this key of the table behind so many, with this mos_id, which the table behind so many others has as
 // the first.
 fn named_place(at: usize, name: Text, first: usize, key: Key) -> Place
-    requires { at < 2 ^ 63 }
+    requires { at + 1 < 2 ^ 64 }
     ensures { result ≡ named_place_of at name first key }
 {
     let number = at as u64 + 1;
@@ -100,6 +108,7 @@ fn named_place(at: usize, name: Text, first: usize, key: Key) -> Place
 }
 
 // The place of a fault at a key of the first of these values that can't be read.
+#[tactic(auto, using(end_settings::proofs::DeviceLemmas::count_items))]
 fn unread_place(alloc: Global, values: &[Value], key: Key) -> Result<Place, NoMemory>
     ensures { IfOk result (λ p. p ≡ unread_place_of (items_view values.now) key) }
 {

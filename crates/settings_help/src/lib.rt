@@ -18,6 +18,7 @@ mod names;
 mod notes;
 mod parts;
 mod place;
+mod starts;
 mod unknown;
 
 pub use explaining::{explain, explained_line};
@@ -26,4 +27,5 @@ pub use finding::place_of;
 pub use known::{Program, known_keys, table_keys};
 pub use notes::{gate_notes, server_notes};
 pub use place::Place;
+pub use starts::{gate_start_line, server_start_line};
 pub use unknown::unknown_lines;

@@ -1,5 +1,5 @@
 //! The mos_ids of tables of devices.
-ghost use Rattle.std.specs.Prelude.{◌≡◌, ◌<◌, IfOk, length};
+ghost use Rattle.std.specs.Prelude.{◌≡◌, IfOk};
 ghost use Rattle.toml.specs.View.{items_view, table_view, view};
 ghost use Rattle.mos_fields.specs.Fields.{same};
 ghost use Rattle.settings_help.specs.Places.{first_named as first_named_of, name_at as name_at_of, name_in, name_of};
@@ -30,12 +30,20 @@ pub(crate) fn name_in_value(alloc: Global, value: &Value) -> Result<Text, NoMemo
     }
 }
 
-/// The mos_id of the value behind so many.
+/// The mos_id of the value behind so many; nothing where there are no more.
 pub(crate) fn name_at(alloc: Global, values: &[Value], at: usize) -> Result<Text, NoMemory>
-    requires { at < length values.now }
     ensures { IfOk result (λ t. t ≡ name_at_of at (items_view values.now)) }
 {
-    name_in_value(alloc, &values[at])
+    let mut left = at;
+    let mut rest = values;
+    while let [value, more @ ..] = rest {
+        if left == 0 {
+            return name_in_value(alloc, value);
+        }
+        left -= 1;
+        rest = more;
+    }
+    Ok(Text::new(alloc))
 }
 
 // Whether both texts are the same.

@@ -1,7 +1,7 @@
 //! What may be a mistake in settings that are allowed.
-ghost use Rattle.std.specs.Prelude.{◌≡◌, ◌++◌, ◌<◌, ◌^◌, IfOk, OnOk, string_bytes};
+ghost use Rattle.std.specs.Prelude.{◌≡◌, ◌++◌, ◌+◌, ◌<◌, ◌^◌, IfOk, OnOk, string_bytes};
 ghost use Rattle.mos_fields.specs.Fields.{same};
-ghost use Rattle.settings_help.specs.Notes.{budget_notes, device_notes, device_words, first_sharing as first_sharing_of, gate_notes_of, id_notes, names_server, pair_notes, port_notes, server_notes_of, share_ports as share_ports_of, shared_notes};
+ghost use Rattle.settings_help.specs.Notes.{budget_notes, device_notes, device_words, few_words, first_sharing as first_sharing_of, gate_notes_of, id_notes, names_server, pair_notes, port_notes, server_notes_of, share_ports as share_ports_of, shared_notes};
 
 use crate::parts::{push_number, push_word};
 use crate::place::{Place, push_place};
@@ -9,20 +9,25 @@ use end_settings::{DeviceSettings, GateSettings, ServerSettings};
 use mos_fields::{Id, NoMemory, Text};
 use std::alloc::Global;
 
-// Fewer bytes than this hold no exchange of heartbeats.
-const FEW: u64 = 1_000;
-
-// Appends the line on a budget with which no connection goes on.
-fn push_budget(alloc: Global, out: &mut String, file: &str, budget: u64) -> Result<(), NoMemory>
-    ensures { OnOk result (string_bytes out.new ≡ string_bytes out.old ++ budget_notes file.now budget) }
+// Appends the line on a budget of so few bytes.
+fn push_few(alloc: Global, out: &mut String, file: &str, budget: u64) -> Result<(), NoMemory>
+    ensures { OnOk result (string_bytes out.new ≡ string_bytes out.old ++ few_words file.now budget) }
 {
-    if budget >= FEW {
-        return Ok(());
-    }
     push_word(out, file)?;
     push_word(out, ": with a budget of ")?;
     push_number(alloc, out, budget)?;
     push_word(out, " bytes every connection will end with Budget\n")
+}
+
+// Appends the line on a budget with which no connection goes on: fewer bytes than 1000 hold no exchange of heartbeats.
+fn push_budget(alloc: Global, out: &mut String, file: &str, budget: u64) -> Result<(), NoMemory>
+    ensures { OnOk result (string_bytes out.new ≡ string_bytes out.old ++ budget_notes file.now budget) }
+{
+    if budget < 1_000 {
+        push_few(alloc, out, file, budget)
+    } else {
+        Ok(())
+    }
 }
 
 // Appends the line on two ports of one machine that are the same.
@@ -100,7 +105,7 @@ fn push_device(
     before: u64,
     device: &DeviceSettings,
 ) -> Result<(), NoMemory>
-    requires { before < 2 ^ 63 }
+    requires { before + 1 < 2 ^ 64 }
     ensures { OnOk result (string_bytes out.new ≡ string_bytes out.old ++ device_words file.now before device.now) }
 {
     let name = device.mos_id.try_clone()?;
@@ -121,7 +126,7 @@ fn push_shared(
     before: usize,
     device: &DeviceSettings,
 ) -> Result<(), NoMemory>
-    requires { before < 2 ^ 63 }
+    requires { before + 1 < 2 ^ 64 }
     ensures { OnOk result (string_bytes out.new ≡ string_bytes out.old ++ shared_notes file.now devices.now before device.now) }
 {
     let first = first_sharing(devices, device);
@@ -143,7 +148,7 @@ fn push_named(
     before: usize,
     device: &DeviceSettings,
 ) -> Result<(), NoMemory>
-    requires { before < 2 ^ 63 }
+    requires { before + 1 < 2 ^ 64 }
     ensures { OnOk result (string_bytes out.new ≡ string_bytes out.old ++ names_server file.now ncs_id.now before device.now) }
 {
     if !are_same(ncs_id.text(), device.mos_id.text()) {

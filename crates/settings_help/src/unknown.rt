@@ -1,5 +1,5 @@
 //! Lines on keys that a program doesn't know.
-ghost use Rattle.std.specs.Prelude.{◌≡◌, ◌++◌, ◌<◌, ◌^◌, IfOk, OnOk, cond, [], string_bytes};
+ghost use Rattle.std.specs.Prelude.{◌≡◌, ◌++◌, ◌+◌, ◌<◌, ◌^◌, IfOk, OnOk, cond, [], string_bytes};
 ghost use Rattle.toml.specs.View.{items_view, table_view, view};
 ghost use Rattle.end_settings.specs.Readable.{items_of};
 ghost use Rattle.end_settings.specs.Values.{value_of};
@@ -74,7 +74,7 @@ fn push_table(
     before: u64,
     value: &Value,
 ) -> Result<(), NoMemory>
-    requires { before < 2 ^ 63 }
+    requires { before + 1 < 2 ^ 64 }
     ensures { OnOk result (string_bytes out.new ≡ string_bytes out.old ++ unknown_in_table file.now before (view value.now)) }
 {
     let Some(table) = value.as_table() else {
