@@ -1,13 +1,15 @@
 //! A journal's bytes, as a start reads them.
-ghost use Rattle.std.specs.Prelude.{◌≡◌, ◌≤◌, IfOk};
-ghost use Rattle.journal_check.specs.Checks.{IsContent, IsFound};
+ghost use Rattle.std.specs.Prelude.{◌≡◌, ◌≤◌, ◌-◌, [], IfOk, OnOk, drop, length};
+ghost use Rattle.std.specs.List.{AllByRecursion};
+ghost use Rattle.mos_edits.specs.Entries.{IsAccepted};
+ghost use Rattle.journal_check.specs.Checks.{HasEntries, IsFound, creations, deletions};
 
 use crate::counting::{count_creations, count_deletions};
 use crate::keeper::ReadKeeper;
 use journal_bytes::{JournalFault, JournalReader};
 use mos_fields::let_go;
 use ncs_core::{Ncs, StartCause};
-use rundown_log::Entries;
+use rundown_log::{Entries, Entry};
 use std::alloc::Global;
 
 /// What a start finds in a journal.
@@ -21,18 +23,16 @@ pub struct JournalFound {
     pub rest: u64,
 }
 
-// The bytes before the zeros at the end, with the other half of a code unit.
-fn content(bytes: &[u8]) -> &[u8]
-    ensures { IsContent bytes.now result.now }
+// How many bytes stand before the zeros at the end.
+fn before_zeros(bytes: &[u8]) -> usize
+    ensures within { result ≤ length bytes.now }
+    ensures zeros { AllByRecursion (λ b. b ≡ 0) (drop result bytes.now) }
 {
     let mut count = bytes.len();
     while count > 0 && bytes[count - 1] == 0 {
         count -= 1;
     }
-    if count % 2 == 1 && count < bytes.len() {
-        count += 1;
-    }
-    &bytes[..count]
+    count
 }
 
 // What a journal's fault is to a start.
@@ -44,7 +44,9 @@ fn read_cause(fault: JournalFault) -> StartCause {
 }
 
 // The entries of a journal, and how many bytes stand behind the last whole message.
-fn entries_in(alloc: Global, bytes: &[u8]) -> Result<(Entries, u64), StartCause> {
+fn entries_in(alloc: Global, bytes: &[u8]) -> Result<(Entries, u64), StartCause>
+    ensures { IfOk result (λ r. HasEntries bytes.now r.0) }
+{
     let mut reader = JournalReader::new(alloc);
     match reader.feed(bytes) {
         Ok(()) => {
@@ -59,7 +61,11 @@ fn entries_in(alloc: Global, bytes: &[u8]) -> Result<(Entries, u64), StartCause>
 }
 
 // Starts a server with these entries.
-fn start_with(alloc: Global, entries: Entries, devices: u32) -> Result<(), StartCause> {
+fn start_with(alloc: Global, entries: Entries, devices: u32) -> Result<(), StartCause>
+    requires least { 1 ≤ devices }
+    requires most { devices ≤ 64 }
+    ensures { OnOk result (IsAccepted [] entries) }
+{
     match Ncs::start(alloc, ReadKeeper::new(alloc, entries), devices) {
         Ok(ncs) => {
             let_go(ncs);
@@ -73,26 +79,29 @@ fn start_with(alloc: Global, entries: Entries, devices: u32) -> Result<(), Start
     }
 }
 
+// How many orders these entries leave.
+fn count_orders(entries: &[Entry]) -> u64
+    ensures { result ≡ creations entries.now - deletions entries.now }
+{
+    count_creations(entries).saturating_sub(count_deletions(entries))
+}
+
 /// What a start of a server of 1 to 64 devices finds in a journal of these bytes, or how it would fail: `StoreFault` where they
 /// are damaged, `BadEntry` at the first entry that isn't accepted after those before it, `NoMemory`.
-pub fn check_journal(
-    alloc: Global,
-    bytes: &[u8],
-    devices: u32,
-) -> Result<JournalFound, StartCause>
+pub fn check_journal(alloc: Global, bytes: &[u8], devices: u32) -> Result<JournalFound, StartCause>
     requires least { 1 ≤ devices }
     requires most { devices ≤ 64 }
+    ensures { IfOk result (λ f. IsFound bytes.now f) }
 {
-    let content = content(bytes);
-    let (entries, behind) = match entries_in(alloc, content) {
+    let count = before_zeros(bytes);
+    let (entries, behind) = match entries_in(alloc, &bytes[..count]) {
         Ok(read) => read,
         Err(cause) => return Err(cause),
     };
     let found = JournalFound {
         entries: entries.len() as u64,
-        orders: count_creations(entries.as_slice())
-            .saturating_sub(count_deletions(entries.as_slice())),
-        rest: (bytes.len() - content.len()) as u64 + behind,
+        orders: count_orders(entries.as_slice()),
+        rest: behind.saturating_add((bytes.len() - count) as u64),
     };
     match start_with(alloc, entries, devices) {
         Ok(()) => Ok(found),

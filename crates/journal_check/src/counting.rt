@@ -1,20 +1,20 @@
 //! How many orders entries leave.
-ghost use Rattle.std.specs.Prelude.{◌≡◌, ◌≤◌, length};
-ghost use Rattle.journal_check.specs.Checks.{creations, deletions, is_creation, is_deletion};
+ghost use Rattle.std.specs.Prelude.{◌≡◌};
+ghost use Rattle.journal_check.specs.Checks.{creations, deletions, is_create, is_delete};
 
 use mos_values::Edit;
 use rundown_log::Entry;
 
 // Whether an entry creates its order.
 fn creates(entry: &Entry) -> bool
-    ensures { result ≡ is_creation entry.now }
+    ensures { result ≡ is_create (entry.now).edit }
 {
     matches!(entry.edit(), Edit::Create(_))
 }
 
 // Whether it deletes its order.
 fn deletes(entry: &Entry) -> bool
-    ensures { result ≡ is_deletion entry.now }
+    ensures { result ≡ is_delete (entry.now).edit }
 {
     matches!(entry.edit(), Edit::Delete(_))
 }
