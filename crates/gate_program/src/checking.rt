@@ -46,7 +46,8 @@ where
 {
     match count_objects(rt, path, why) {
         Ok(count) => {
-            let _ = println!(rt; "{path}: {count} objects");
+            let of_objects = if count == 1 { "" } else { "s" };
+            let _ = println!(rt; "{path}: {count} object{of_objects}");
             Ok(())
         }
         Err(end) => Err(end),

@@ -41,18 +41,31 @@ fn bytes_of(
     }
 }
 
+// The ending of a word for so many.
+fn ending(count: u64) -> &'static str {
+    if count == 1 { "" } else { "s" }
+}
+
+// The word for so many entries.
+fn entry_word(count: u64) -> &'static str {
+    if count == 1 { "entry" } else { "entries" }
+}
+
 // Says what was found.
 fn say_found(rt: &HostRuntime, path: &str, log: &str, devices: usize, found: JournalFound) {
     let (orders, entries, rest) = (found.orders, found.entries, found.rest);
-    let _ = println!(rt; "{path}: {devices} devices, {orders} orders, {entries} entries in {log}");
+    let (of_devices, of_orders) = (ending(devices as u64), ending(orders));
+    let of_entries = entry_word(entries);
+    let _ = println!(rt; "{path}: {devices} device{of_devices}, {orders} order{of_orders}, {entries} {of_entries} in {log}");
     if rest > 0 {
-        let _ = println!(rt; "{log}: behind the last entry stand {rest} bytes of none; a start sets them aside");
+        let _ = println!(rt; "{log}: {rest} bytes behind the last entry are no whole entry; a start takes them off");
     }
 }
 
 // Says that there is no journal yet.
 fn say_none(rt: &HostRuntime, path: &str, log: &str, devices: usize) {
-    let _ = println!(rt; "{path}: {devices} devices; there is no journal {log} yet, a start makes it");
+    let of_devices = ending(devices as u64);
+    let _ = println!(rt; "{path}: {devices} device{of_devices}; there is no journal {log} yet, a start makes it");
 }
 
 // Looks at the journal at this path.

@@ -16,7 +16,8 @@ fn push_few(alloc: Global, out: &mut String, file: &str, budget: u64) -> Result<
     push_word(out, file)?;
     push_word(out, ": with a budget of ")?;
     push_number(alloc, out, budget)?;
-    push_word(out, " bytes every connection will end with Budget\n")
+    push_word(out, " bytes every connection will end with Budget\n")?;
+    Ok(())
 }
 
 // Appends the line on a budget with which no connection goes on: fewer bytes than 1000 hold no exchange of heartbeats.
