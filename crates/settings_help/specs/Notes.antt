@@ -47,10 +47,13 @@ shared_notes file devices before device =
 abbrev pub names_server : List ℕ → Text → ℕ → DeviceSettings → List ℕ
 names_server file ncs_id before device = cond (same ncs_id device.mos_id) (device_words file before device ++ codes ": its mos_id is the ncs_id\n") []
 
+abbrev pub both_notes : List ℕ → Text → List DeviceSettings → ℕ → DeviceSettings → List ℕ
+both_notes file ncs_id all before device = names_server file ncs_id before device ++ shared_notes file all before device
+
 -- of all devices, those behind so many
 abbrev pub device_notes : List ℕ → Text → List DeviceSettings → ℕ → List DeviceSettings → List ℕ
 device_notes file ncs_id all before [] = []
-device_notes file ncs_id all before (device ∷ devices) = names_server file ncs_id before device ++ shared_notes file all before device ++ device_notes file ncs_id all (suc before) devices
+device_notes file ncs_id all before (device ∷ devices) = both_notes file ncs_id all before device ++ device_notes file ncs_id all (suc before) devices
 
 -- ---- of whole settings
 

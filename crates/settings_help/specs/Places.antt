@@ -1,5 +1,5 @@
 -- Where a fault is.
-use Rattle.std.specs.Prelude.{◌≡◌, ◌≢◌, ◌≤◌, ◌+◌, ◌-◌, ◌==◌, ◌&&◌, nat_lt, ℕ, suc, Bool, true, false, cond, List, [], ◌∷◌, length, take, Option, Some, None, Ok, Err}
+use Rattle.std.specs.Prelude.{◌≡◌, ◌≤◌, ◌+◌, ◌-◌, ◌==◌, ◌&&◌, nat_lt, ℕ, suc, Bool, true, false, cond, List, [], ◌∷◌, length, take, Option, Some, None, Ok, Err}
 use Rattle.toml.specs.Data.{Data, table, Members, Items, no_items, item}
 use Rattle.mos_fields.specs.Characters.{Text}
 use Rattle.mos_fields.specs.Fields.{same}
@@ -32,7 +32,7 @@ line_at text at = line_feeds (take at text) + 1
 -- a line of the text; a text that is TOML has none
 abbrev pub IsLineOf : List ℕ → Place → Type 0
 IsLineOf text (Line number cause) = (at : ℕ) × (at ≤ length text) × (number ≡ line_at text at)
-IsLineOf text Top = table_in text ≢ None
+IsLineOf text Top = (ms : Members) × (table_in text ≡ Some ms)
 IsLineOf text (Table number name) = ⊥
 IsLineOf text (Twice number name first) = ⊥
 

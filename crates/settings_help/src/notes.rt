@@ -1,7 +1,7 @@
 //! What may be a mistake in settings that are allowed.
 ghost use Rattle.std.specs.Prelude.{◌≡◌, ◌++◌, ◌+◌, ◌<◌, ◌^◌, IfOk, OnOk, string_bytes};
 ghost use Rattle.mos_fields.specs.Fields.{same};
-ghost use Rattle.settings_help.specs.Notes.{budget_notes, device_notes, device_words, few_words, first_sharing as first_sharing_of, gate_notes_of, id_notes, names_server, pair_notes, port_notes, server_notes_of, share_ports as share_ports_of, shared_notes};
+ghost use Rattle.settings_help.specs.Notes.{both_notes, budget_notes, device_notes, device_words, few_words, first_sharing as first_sharing_of, gate_notes_of, id_notes, names_server, pair_notes, port_notes, server_notes_of, share_ports as share_ports_of, shared_notes};
 
 use crate::parts::{push_number, push_word};
 use crate::place::{Place, push_place};
@@ -159,6 +159,24 @@ fn push_named(
     push_word(out, ": its mos_id is the ncs_id\n")
 }
 
+// Appends the lines on a device behind so many.
+fn push_both(
+    alloc: Global,
+    out: &mut String,
+    file: &str,
+    ncs_id: &Id,
+    devices: &[DeviceSettings],
+    before: usize,
+    device: &DeviceSettings,
+) -> Result<(), NoMemory>
+    requires { before + 1 < 2 ^ 64 }
+    ensures { OnOk result (string_bytes out.new ≡ string_bytes out.old ++ both_notes file.now ncs_id.now devices.now before device.now) }
+{
+    push_named(alloc, out, file, ncs_id, before, device)?;
+    push_shared(alloc, out, file, devices, before, device)?;
+    Ok(())
+}
+
 // Appends the lines on devices.
 fn push_devices(
     alloc: Global,
@@ -172,8 +190,7 @@ fn push_devices(
     let mut before = 0;
     let mut rest = devices;
     while let [device, more @ ..] = rest {
-        push_named(alloc, out, file, ncs_id, before, device)?;
-        push_shared(alloc, out, file, devices, before, device)?;
+        push_both(alloc, out, file, ncs_id, devices, before, device)?;
         before += 1;
         rest = more;
     }
@@ -189,10 +206,31 @@ fn push_ports(
 ) -> Result<(), NoMemory>
     ensures { OnOk result (string_bytes out.new ≡ string_bytes out.old ++ port_notes file.now settings.now) }
 {
-    let (upper, lower, editor) = (settings.upper, settings.lower, settings.editor);
-    push_pair(alloc, out, file, "upper and lower", upper, lower)?;
-    push_pair(alloc, out, file, "upper and editor", upper, editor)?;
-    push_pair(alloc, out, file, "lower and editor", lower, editor)
+    push_pair(
+        alloc,
+        out,
+        file,
+        "upper and lower",
+        settings.upper,
+        settings.lower,
+    )?;
+    push_pair(
+        alloc,
+        out,
+        file,
+        "upper and editor",
+        settings.upper,
+        settings.editor,
+    )?;
+    push_pair(
+        alloc,
+        out,
+        file,
+        "lower and editor",
+        settings.lower,
+        settings.editor,
+    )?;
+    Ok(())
 }
 
 /// A line, with a line feed, for each of these in a server's settings, which are allowed and hardly meant: two of the ports at

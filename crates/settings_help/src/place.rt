@@ -1,6 +1,6 @@
 //! Where a fault is.
 ghost use Rattle.std.specs.Prelude.{◌≡◌, ◌++◌, OnOk, string_bytes};
-ghost use Rattle.settings_help.specs.Lines.{named, place_words};
+ghost use Rattle.settings_help.specs.Lines.{named, place_words, table_words};
 
 use crate::parts::{push_number, push_text, push_word};
 use mos_fields::{NoMemory, Text};
@@ -31,6 +31,24 @@ fn push_named(alloc: Global, out: &mut String, name: &Text) -> Result<(), NoMemo
     push_word(out, ")")
 }
 
+// Appends the number of a table of devices.
+fn push_count(alloc: Global, out: &mut String, number: u64) -> Result<(), NoMemory>
+    ensures { OnOk result (string_bytes out.new ≡ string_bytes out.old ++ table_words number) }
+{
+    push_word(out, ", devices table ")?;
+    push_number(alloc, out, number)?;
+    Ok(())
+}
+
+// Appends the number of a table of devices and its name.
+fn push_table(alloc: Global, out: &mut String, number: u64, name: &Text) -> Result<(), NoMemory>
+    ensures { OnOk result (string_bytes out.new ≡ string_bytes out.old ++ (table_words number ++ named name.now)) }
+{
+    push_count(alloc, out, number)?;
+    push_named(alloc, out, name)?;
+    Ok(())
+}
+
 /// Appends a place, with a comma before it, or nothing where it is a key of the file's own.
 pub(crate) fn push_place(alloc: Global, out: &mut String, place: &Place) -> Result<(), NoMemory>
     ensures { OnOk result (string_bytes out.new ≡ string_bytes out.old ++ place_words place.now) }
@@ -41,18 +59,11 @@ pub(crate) fn push_place(alloc: Global, out: &mut String, place: &Place) -> Resu
             push_word(out, ", line ")?;
             push_number(alloc, out, *number)
         }
-        Place::Table { number, name } => {
-            push_word(out, ", devices table ")?;
-            push_number(alloc, out, *number)?;
-            push_named(alloc, out, name)
-        }
+        Place::Table { number, name } => push_table(alloc, out, *number, name),
         Place::Twice {
             number,
             name: _,
             first: _,
-        } => {
-            push_word(out, ", devices table ")?;
-            push_number(alloc, out, *number)
-        }
+        } => push_count(alloc, out, *number),
     }
 }

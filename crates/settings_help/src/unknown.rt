@@ -28,7 +28,8 @@ fn push_line(
     push_place(alloc, out, place)?;
     push_word(out, ": key ")?;
     push_str(alloc, out, name)?;
-    push_word(out, " isn't known and isn't used\n")
+    push_word(out, " isn't known and isn't used\n")?;
+    Ok(())
 }
 
 // Appends the line on a key that isn't among these.

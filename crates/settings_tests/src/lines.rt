@@ -10,8 +10,8 @@ ncs_id = "ncs1 -> NotToml: ncs.toml, line 1: ?|
 $|upper = 1|upper = 2 -> NotToml: ncs.toml, line 7: ?|
 $|# more|lower = -> NotToml: ncs.toml, line 7: ?|
 ncs_id = "ncs1"|log = "log|upper = 1|lower = 2 -> NotToml: ncs.toml, line 2: ?|
-$|editr = 11560 -> ncs.toml: key editr isn't known and isn't used|
-$|uper = 1|lover = 2|zone = 3 -> ncs.toml: key lover isn't known and isn't used|ncs.toml: key uper isn't known and isn't used|ncs.toml: key zone isn't known and isn't used|
+editr = 11560|$ -> ncs.toml: key editr isn't known and isn't used|
+uper = 1|lover = 2|zone = 3|$ -> ncs.toml: key lover isn't known and isn't used|ncs.toml: key uper isn't known and isn't used|ncs.toml: key zone isn't known and isn't used|
 mos_id = "m"|$ -> ncs.toml: key mos_id isn't known and isn't used|
 "a\nb" = 1|$ -> ncs.toml: key a b isn't known and isn't used|
 $|[[devices]]|mos_id = "m2"|host = "h2"|uper = 3 -> ncs.toml, devices table 2 (m2): key uper isn't known and isn't used|
