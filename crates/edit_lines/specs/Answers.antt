@@ -1,11 +1,14 @@
 -- Which answer a message wants, and what is printed of the one that comes.
-use Rattle.std.specs.Prelude.{ℕ, Bool, true, false, List, [], ◌∷◌, ◌++◌, bytes_eq, codes}
+use Rattle.std.specs.Prelude.{ℕ, Bool, true, false, List, [], ◌∷◌, ◌++◌, length, Option, Some, None, if◌then◌else◌, ◌==◌, ◌&&◌, ◌||◌, bytes_eq, codes}
 use Rattle.std.specs.List.{flat_map}
 use Rattle.mos_fields.specs.Characters.{Text, units_of}
+use Rattle.mos_machines.specs.Messages.{message_ro}
+use Rattle.mos_machines.specs.Values.{seen}
 use Rattle.mos_values.specs.OrderValue.{OrderBody}
 use Rattle.mos_values.specs.StoryValue.{Story}
 use Rattle.mos_values.specs.declared.header.HeaderPatch.{HeaderPatch}
 use Rattle.mos_values.specs.declared.item.Item.{Item}
+use Rattle.mos_values.specs.declared.message.Envelope.{Envelope}
 use Rattle.mos_values.specs.declared.message.Message.{Message}
 use Rattle.mos_values.specs.declared.message.Message.TheVariants as carried
 use Rattle.stream_commands.specs.Lines.{printed_text}
@@ -33,11 +36,36 @@ abbrev pub is_all : Message → Bool
 is_all (carried.RoListAll headers) = true
 is_all m = false
 
--- the answer is the one that was wanted
-abbrev pub is_wanted : Wanted → Message → Bool
-is_wanted Okay m = is_okay m
-is_wanted Order m = is_order m
-is_wanted All m = is_all m
+-- the answer is of the kind that was wanted
+abbrev pub is_fitting : Wanted → Message → Bool
+is_fitting Okay m = is_okay m
+is_fitting Order m = is_order m
+is_fitting All m = is_all m
+
+-- ---- whether an answer is for a message
+
+-- one roID is the other, or one of them is empty
+abbrev pub is_same_order : Text → Text → Bool
+is_same_order asked ro = (length asked == 0) || (length ro == 0) || bytes_eq asked ro
+
+-- a roAck and a roList speak of the order of which the message speaks; where one of the two speaks of none, they may be for each other
+abbrev pub speaks_of : Message → Message → Bool
+speaks_of m (carried.RoAck ack) = is_same_order (message_ro (seen m)) ack.ro
+speaks_of m (carried.RoList body) = is_same_order (message_ro (seen m)) body.header.ro
+speaks_of m answer = true
+
+-- one messageID is the other, or one of them is lacking
+abbrev pub is_same_id : Option Text → Option Text → Bool
+is_same_id (Some a) (Some b) = bytes_eq a b
+is_same_id a b = true
+
+-- The answer is for the message that was sent: neither its messageID nor its roID is another one.
+unfoldable pub is_for : Envelope → Envelope → Bool
+is_for asked answer = is_same_id asked.message_id answer.message_id && speaks_of asked.message answer.message
+
+-- The answer is the one that the message wants.
+unfoldable pub is_wanted : Envelope → Envelope → Bool
+is_wanted asked answer = is_for asked answer && is_fitting (wanted_by asked.message) answer.message
 
 -- ---- what is printed
 
@@ -78,9 +106,13 @@ status_text line status = line ++ codes ": " ++ printed_text status ++ 10 ∷ []
 abbrev pub another_text : List ℕ → List ℕ
 another_text line = line ++ codes ": ANOTHER MESSAGE\n"
 
--- What is printed of the answer to a line.
-abbrev pub answer_text : Wanted → List ℕ → Message → List ℕ
-answer_text wanted line (carried.RoAck ack) = status_text line ack.status
-answer_text Order line (carried.RoList body) = order_text body
-answer_text All line (carried.RoListAll headers) = all_text headers
-answer_text wanted line m = another_text line
+-- what is printed of a message that is for the line whose answer it is
+abbrev pub heard_text : Wanted → List ℕ → Message → List ℕ
+heard_text wanted line (carried.RoAck ack) = status_text line ack.status
+heard_text Order line (carried.RoList body) = order_text body
+heard_text All line (carried.RoListAll headers) = all_text headers
+heard_text wanted line m = another_text line
+
+-- What is printed of the answer to a line for which this message was sent.
+unfoldable pub answer_text : Envelope → List ℕ → Envelope → List ℕ
+answer_text asked line answer = if is_for asked answer then heard_text (wanted_by asked.message) line answer.message else another_text line

@@ -1,12 +1,13 @@
 //! What is printed of an answer.
 ghost use Rattle.std.specs.Prelude.{◌≡◌, [], ◌∷◌, ◌++◌, OnOk, IfOk, codes};
 ghost use Rattle.std.specs.List.{flat_map};
-ghost use Rattle.edit_lines.specs.Answers.{all_text as all_text_of, answer_text as answer_text_of, another_text, item_behind, items_text, order_text as order_text_of, ro_line, status_text, stories_text, story_behind};
+ghost use Rattle.edit_lines.specs.Answers.{all_text as all_text_of, answer_text as answer_text_of, another_text, heard_text as heard_text_of, item_behind, items_text, order_text as order_text_of, ro_line, status_text, stories_text, story_behind};
 
+use crate::matching::is_for;
 use crate::texts::{push_bytes, push_text};
-use crate::wanted::Wanted;
+use crate::wanted::{Wanted, wanted_of};
 use mos_fields::{NoMemory, Text};
-use mos_values::{HeaderPatch, Item, Message, OrderBody, Story};
+use mos_values::{Envelope, HeaderPatch, Item, Message, OrderBody, Story};
 use std::alloc::Global;
 
 // Appends an itemID behind a comma.
@@ -141,19 +142,14 @@ fn another_line(alloc: Global, line: &[u8]) -> Result<Vec<u8>, NoMemory>
     Ok(out)
 }
 
-/// What is printed of the answer to a line, which stands here without its line feed.
-///
-/// Of a roAck it is the line, a colon, a space and the status: `swap R1 A C: OK`. Of a roList that was wanted it is the roID
-/// and the stories, each with its items behind a colon: `R1 C B:1,2 A`, or `R1 empty`. Of a roListAll that was wanted
-/// it is a line for each roID, or `no running orders`. Of any other message it is the line and `ANOTHER MESSAGE`. Tabs and
-/// ends of lines in the answer's texts are printed as spaces. The only error is that memory runs out.
-pub fn answer_text(
+// What is printed of a message that is for the line, or for the message, whose answer it is.
+fn heard_text(
     alloc: Global,
     line: &[u8],
     wanted: Wanted,
     answer: &Message,
 ) -> Result<Vec<u8>, NoMemory>
-    ensures { IfOk result (λ out. out.items ≡ answer_text_of wanted line.now answer.now) }
+    ensures { IfOk result (λ out. out.items ≡ heard_text_of wanted line.now answer.now) }
 {
     match answer {
         Message::RoAck(ack) => status_line(alloc, line, ack.status.text()),
@@ -166,5 +162,28 @@ pub fn answer_text(
             _ => another_line(alloc, line),
         },
         _ => another_line(alloc, line),
+    }
+}
+
+/// What is printed of the answer to a line, which stands here without its line feed; `asked` is the message that was sent for it.
+///
+/// Of a roAck it is the line, a colon, a space and the status: `swap R1 A C: OK`. Of a roList that was wanted it is the roID
+/// and the stories, each with its items behind a colon: `R1 C B:1,2 A`, or `R1 empty`. Of a roListAll that was wanted
+/// it is a line for each roID, or `no running orders`. Of any other message, and of one that isn't for the message that was sent, as
+/// `is_for` says, it is the line and `ANOTHER MESSAGE`. Tabs and ends of lines in the answer's texts are printed as spaces. The
+/// only error is that memory runs out.
+#[tactic(auto, unfolding(crate::specs::Answers::answer_text))]
+pub fn answer_text(
+    alloc: Global,
+    line: &[u8],
+    asked: &Envelope,
+    answer: &Envelope,
+) -> Result<Vec<u8>, NoMemory>
+    ensures { IfOk result (λ out. out.items ≡ answer_text_of asked.now line.now answer.now) }
+{
+    if is_for(asked, answer) {
+        heard_text(alloc, line, wanted_of(&asked.message), &answer.message)
+    } else {
+        another_line(alloc, line)
     }
 }

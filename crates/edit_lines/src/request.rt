@@ -1,13 +1,11 @@
 //! What is sent for a line.
 ghost use Rattle.std.specs.Prelude.{◌≡◌, IfOk};
 ghost use Rattle.std.specs.Fmt.{decimal};
-ghost use Rattle.mos_codec.specs.Codec.{encoding};
 ghost use Rattle.edit_lines.specs.declared.asked.Asked.TheVariants.{Asks};
 ghost use Rattle.edit_lines.specs.Asked.{asked_of};
 ghost use Rattle.edit_lines.specs.Requests.{IsRequest, numbered};
 
 use crate::asked::{Asked, line_asks};
-use crate::wanted::{Wanted, wanted_of};
 use mos_fields::{Id, NoMemory, OptId, let_go, triple_ok};
 use mos_messages::encode;
 use mos_values::{Envelope, Message};
@@ -30,8 +28,8 @@ pub enum Request {
     Nothing,
     /// It is no edit, and no list.
     NoEdit,
-    /// These bytes are sent, the canonical encoding of one message, and this answer is wanted.
-    Sends { bytes: Vec<u8>, wanted: Wanted },
+    /// These bytes are sent, the canonical encoding of this message.
+    Sends { bytes: Vec<u8>, asked: Envelope },
 }
 
 // The messageID of a number: its decimal digits.
@@ -69,24 +67,17 @@ fn enveloped(
     }
 }
 
-// The encoding of the message of this number.
-fn encoded(alloc: Global, names: &Names, number: u64, message: Message) -> Result<Vec<u8>, NoMemory>
-    ensures { IfOk result (λ bytes. bytes.items ≡ encoding (numbered names.now number message)) }
-{
-    let e = enveloped(alloc, names, number, message)?;
-    let bytes = encode(alloc, &e);
-    let_go(e);
-    bytes
-}
-
 // What is sent for a message.
 fn sends(alloc: Global, names: &Names, number: u64, message: Message) -> Result<Request, NoMemory>
     ensures { IfOk result (IsRequest names.now number (Asks message)) }
 {
-    let wanted = wanted_of(&message);
-    match encoded(alloc, names, number, message) {
-        Ok(bytes) => Ok(Request::Sends { bytes, wanted }),
-        Err(fault) => Err(fault),
+    let asked = enveloped(alloc, names, number, message)?;
+    match encode(alloc, &asked) {
+        Ok(bytes) => Ok(Request::Sends { bytes, asked }),
+        Err(fault) => {
+            let_go(asked);
+            Err(fault)
+        }
     }
 }
 

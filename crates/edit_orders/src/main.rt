@@ -2,21 +2,29 @@
 //! one, and prints each answer; `edit_orders HOST:PORT NCS_ID FILE` gives the messages in a file.
 #![tactic(auto)]
 
-use edit_program::{about, check_words, last_file_words, last_words, run_editor, run_file};
+use edit_console::{Hinted, Prompted};
+use edit_program::{
+    FORMS, about, check_words, last_file_words, last_words, message_words, option_in, run_editor,
+    run_file,
+};
 use edit_runs::EditStatus;
 use message_runs::MessageEnd;
-use mos_io::{Sink, StdSink, StdSource};
+use mos_fields::NoMemory;
+use mos_io::{Sink, Source, StdSink, StdSource};
 use port_events::Side;
 use port_links::Dialer;
 use port_tcp::{Common, TcpDialer};
-use std::io::{ErrorKind, Lock};
+use std::io::{ErrorKind, IsTerminal, Lock};
 use std::net::{Net, TcpStream};
 use std::process::ExitCode;
 use std::rt::Files;
 use std::sync::{Arc, Wait};
-use std::time::Clock;
+use std::time::{Clock, Duration};
 use std::{env, fs};
 use stream_commands::refused_line;
+
+/// So long an answer is awaited without a byte from the server, in seconds.
+const PATIENCE: u64 = 30;
 
 /// The words behind the program's name. One that isn't UTF-8 is no word here.
 fn arguments(rt: &HostRuntime) -> Result<Vec<String>, EditStatus> {
@@ -38,40 +46,74 @@ fn print_text(rt: &HostRuntime, text: &str) -> EditStatus {
     }
 }
 
-/// Says on standard error why a run ended, where there is something to say.
-fn say(rt: &HostRuntime, text: Option<&str>) {
-    if let Some(text) = text {
+/// Says on standard error why a run ended, where there is something to say, and there was memory for it.
+fn say(rt: &HostRuntime, text: Result<Option<String>, NoMemory>) {
+    if let Ok(Some(text)) = text {
         let _ = eprintln!(rt; "{text}");
     }
 }
 
-/// What opens the connection to the server.
+/// What opens the connection to the server. A server that is silent for longer is given up.
 fn dialer_of<R: Net<Stream = TcpStream> + Clock + Wait + Eprint + AllocGlobal + Copy + Drop>(
     rt: &R,
 ) -> Result<TcpDialer<R>, EditStatus> {
     let Ok(common) = Arc::new(rt.alloc(), Common::new(1)) else {
         return Err(EditStatus::NoMemory);
     };
-    match TcpDialer::new(*rt, rt.alloc(), Side::Editor, common, None) {
+    let patience = Duration::from_secs(PATIENCE);
+    match TcpDialer::new(*rt, rt.alloc(), Side::Editor, common, Some(patience)) {
         Ok(dialer) => Ok(dialer),
         Err(_) => Err(EditStatus::NoMemory),
     }
 }
 
-/// A run of the lines on standard input.
+/// What is said of an answer `NOT FOR ME`.
+fn hint_of(rt: &HostRuntime, words: &[String]) -> Result<String, NoMemory> {
+    match words {
+        [place, id] => Ok(
+            format!(in rt.alloc(); "the server at {place} isn't {id}: use the ncs_id of its settings\n")?,
+        ),
+        _ => Ok(String::new(rt.alloc())),
+    }
+}
+
+/// A run of the lines of a source.
+fn run_source<
+    R: Net<Stream = TcpStream> + Clock + Wait + Eprint + AllocGlobal + Copy + Drop,
+    S: Source,
+>(
+    rt: &R,
+    host: &HostRuntime,
+    words: &[String],
+    source: &mut S,
+) -> EditStatus {
+    let Ok(hint) = hint_of(host, words) else {
+        return EditStatus::NoMemory;
+    };
+    match dialer_of(rt) {
+        Ok(mut dialer) => {
+            let mut out = Hinted::new(StdSink::new(host.stdout().lock()), *rt, hint);
+            let mut notes = StdSink::new(host.stderr().lock());
+            run_editor(rt, words, &mut dialer, source, &mut out, &mut notes)
+        }
+        Err(status) => status,
+    }
+}
+
+/// A run of the lines on standard input. At a terminal each is prompted for.
 fn run_lines<R: Net<Stream = TcpStream> + Clock + Wait + Eprint + AllocGlobal + Copy + Drop>(
     rt: &R,
     host: &HostRuntime,
     words: &[String],
 ) -> EditStatus {
-    match dialer_of(rt) {
-        Ok(mut dialer) => {
-            let mut source = StdSource::new(host.stdin().lock());
-            let mut out = StdSink::new(host.stdout().lock());
-            let mut notes = StdSink::new(host.stderr().lock());
-            run_editor(rt, words, &mut dialer, &mut source, &mut out, &mut notes)
-        }
-        Err(status) => status,
+    let input = host.stdin().lock();
+    let is_terminal = input.is_terminal();
+    let mut source = StdSource::new(input);
+    if is_terminal {
+        let mut prompted = Prompted::new(source, *rt, FORMS);
+        run_source(rt, host, words, &mut prompted)
+    } else {
+        run_source(rt, host, words, &mut source)
     }
 }
 
@@ -115,38 +157,65 @@ where
     }
 }
 
-/// The status of a run with a file. Where the file isn't whole messages to its end, standard error says so.
-fn file_status(rt: &HostRuntime, ran: Result<MessageEnd, EditStatus>) -> EditStatus {
-    match ran {
-        Ok(MessageEnd::Rejected { place, kind }) => {
-            if let Ok(line) = refused_line(rt.alloc(), place as usize, kind) {
-                let _ = eprint!(rt; "{line}");
-            }
-            EditStatus::Refused
+/// Says why a run of a file over a connection ended. Where the file isn't whole messages to its end, the line says where.
+fn say_end(rt: &HostRuntime, end: MessageEnd) {
+    if let MessageEnd::Rejected { place, kind } = end {
+        if let Ok(line) = refused_line(rt.alloc(), place as usize, kind) {
+            let _ = eprint!(rt; "{line}");
         }
-        Ok(end) => end.status(),
-        Err(status) => status,
+    }
+    if let Some(text) = message_words(end) {
+        let _ = eprintln!(rt; "{text}");
     }
 }
 
+/// The status of a run with a file, of which standard error is told.
+fn file_status(
+    rt: &HostRuntime,
+    words: &[String],
+    ran: Result<MessageEnd, EditStatus>,
+) -> EditStatus {
+    match ran {
+        Ok(end) => {
+            say_end(rt, end);
+            end.status()
+        }
+        Err(status) => {
+            say(rt, last_file_words(rt.alloc(), words, status));
+            status
+        }
+    }
+}
+
+/// What the program comes to with these words.
+fn run_words(rt: &HostRuntime, words: &[String]) -> EditStatus {
+    if let Some(text) = about(words) {
+        return print_text(rt, text);
+    }
+    if option_in(words).is_some() {
+        return EditStatus::Usage;
+    }
+    run_lines(rt, rt, words)
+}
+
 fn main(rt: HostRuntime) -> ExitCode {
-    let (status, last) = match arguments(&rt) {
-        Err(status) => (status, last_words(status)),
-        Ok(words) => match (about(&words), words.as_slice()) {
-            (Some(text), _) => {
-                let status = print_text(&rt, text);
-                (status, last_words(status))
-            }
-            (None, [_, _, path]) => {
-                let status = file_status(&rt, give_path(&rt, &rt, &words, path.as_str()));
-                (status, last_file_words(status))
-            }
-            (None, _) => {
-                let status = run_lines(&rt, &rt, &words);
-                (status, last_words(status))
-            }
-        },
+    let words = match arguments(&rt) {
+        Ok(words) => words,
+        Err(status) => {
+            say(&rt, last_words(rt.alloc(), &[], status));
+            return ExitCode::from(status.number());
+        }
     };
-    say(&rt, last);
+    let status = match words.as_slice() {
+        [_, _, path] if option_in(&words).is_none() => {
+            let ran = give_path(&rt, &rt, &words, path.as_str());
+            file_status(&rt, &words, ran)
+        }
+        _ => {
+            let status = run_words(&rt, &words);
+            say(&rt, last_words(rt.alloc(), &words, status));
+            status
+        }
+    };
     ExitCode::from(status.number())
 }

@@ -31,6 +31,12 @@ module _ (first second path : List ℕ) where
   checks_none statuses.WriteFault (inr h) = let e = h.0 in absurd (cc)
   checks_none statuses.Lost (inl e) = absurd (cc)
   checks_none statuses.Lost (inr h) = let e = h.0 in absurd (cc)
+  checks_none (statuses.Unsent line) (inl e) = absurd (cc)
+  checks_none (statuses.Unsent line) (inr h) = let e = h.0 in absurd (cc)
+  checks_none (statuses.Unheard line) (inl e) = absurd (cc)
+  checks_none (statuses.Unheard line) (inr h) = let e = h.0 in absurd (cc)
+  checks_none (statuses.Unanswered line) (inl e) = absurd (cc)
+  checks_none (statuses.Unanswered line) (inr h) = let e = h.0 in absurd (cc)
 
 -- ---- ends
 
@@ -43,3 +49,6 @@ ends_unchecked words before was statuses.Refused h = h
 ends_unchecked words before was statuses.ReadFault h = h
 ends_unchecked words before was statuses.WriteFault h = h
 ends_unchecked words before was statuses.Lost h = absurd h
+ends_unchecked words before was (statuses.Unsent line) h = h
+ends_unchecked words before was (statuses.Unheard line) h = h
+ends_unchecked words before was (statuses.Unanswered line) h = h

@@ -53,6 +53,13 @@ Gave before after was now (Ok end) = HasOpened before after × HasGivenFile was 
 Gave before after was now (Err statuses.Lost) = HasFailed before after × (now ≡ was)
 Gave before after was now (Err status) = ⊥
 
+-- The same, or memory ran out before the dialer was called: nothing was read or written.
+abbrev pub GaveTo : Dials → Dials → FileStreams → FileStreams → Result MessageEnd EditStatus → Type 0
+GaveTo before after was now (Ok end) = HasOpened before after × HasGivenFile was now end
+GaveTo before after was now (Err statuses.Lost) = HasFailed before after × (now ≡ was)
+GaveTo before after was now (Err statuses.NoMemory) = (after ≡ before) × (now ≡ was)
+GaveTo before after was now (Err status) = ⊥
+
 -- How the program's run ends. The dialer is called, and a run is made, only with the words that it has to be given. Without a run
 -- nothing is read or written.
 abbrev pub FileEnds : List (List ℕ) → Dials → Dials → FileStreams → FileStreams → Result MessageEnd EditStatus → Type 0

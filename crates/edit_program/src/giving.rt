@@ -1,14 +1,15 @@
 //! A run of the messages of a file.
 ghost use Rattle.std.specs.Prelude.{◌∷◌, [], map, string_bytes};
 ghost use Rattle.edit_program.specs.Dials.{dials};
-ghost use Rattle.edit_program.specs.Files.{Checks, FileEnds, Gave, HasGivenFile, file_streams};
+ghost use Rattle.edit_program.specs.Files.{Checks, FileEnds, Gave, GaveTo, HasGivenFile, file_streams};
 
-use crate::server::server_in;
+use crate::server::{Server, port_to, server_in, tell_silence};
 use edit_runs::EditStatus;
 use message_runs::{MessageEnd, run_messages};
 use mos_fields::let_go;
 use mos_io::{Sink, Source};
-use port_links::{Dialer, Link, Place};
+use port_links::{Dialer, Link, News, Place};
+use port_session::Port;
 use std::alloc::Global;
 use std::sync::Wait;
 
@@ -57,6 +58,7 @@ fn give_over<R: AllocGlobal + Wait, C: Source + Drop, T: Sink + Drop, S: Source,
 fn give_at<R: AllocGlobal + Wait, D: Dialer, S: Source, K: Sink>(
     rt: &R,
     place: &Place,
+    port: &Port,
     dialer: &mut D,
     source: &mut S,
     out: &mut K,
@@ -64,8 +66,32 @@ fn give_at<R: AllocGlobal + Wait, D: Dialer, S: Source, K: Sink>(
     ensures { Gave (dials (D.links dialer.old) (D.calls dialer.old) (D.faults dialer.old)) (dials (D.links dialer.new) (D.calls dialer.new) (D.faults dialer.new)) (file_streams (S.left source.old) (S.faults source.old) (K.written out.old) (K.faults out.old)) (file_streams (S.left source.new) (S.faults source.new) (K.written out.new) (K.faults out.new)) result }
 {
     match dialer.dial(place) {
-        Ok(link) => Ok(give_over(rt, link, source, out)),
-        Err(_) => Err(EditStatus::Lost),
+        Ok(link) => {
+            let number = link.number;
+            let end = give_over(rt, link, source, out);
+            tell_silence(dialer, port, place, number, end == MessageEnd::Unheard);
+            Ok(end)
+        }
+        Err(_) => {
+            dialer.hear(port, place, News::Failed);
+            Err(EditStatus::Lost)
+        }
+    }
+}
+
+// A run to this server.
+fn give_to<R: AllocGlobal + Wait, D: Dialer, S: Source, K: Sink>(
+    rt: &R,
+    server: &Server,
+    dialer: &mut D,
+    source: &mut S,
+    out: &mut K,
+) -> Result<MessageEnd, EditStatus>
+    ensures { GaveTo (dials (D.links dialer.old) (D.calls dialer.old) (D.faults dialer.old)) (dials (D.links dialer.new) (D.calls dialer.new) (D.faults dialer.new)) (file_streams (S.left source.old) (S.faults source.old) (K.written out.old) (K.faults out.old)) (file_streams (S.left source.new) (S.faults source.new) (K.written out.new) (K.faults out.new)) result }
+{
+    match port_to(&server.id) {
+        Ok(port) => give_at(rt, &server.place, &port, dialer, source, out),
+        Err(_) => Err(EditStatus::NoMemory),
     }
 }
 
@@ -82,7 +108,7 @@ fn give_with<R: AllocGlobal + Wait, D: Dialer, S: Source, K: Sink>(
     ensures { FileEnds (first.now ∷ second.now ∷ _path.now ∷ []) (dials (D.links dialer.old) (D.calls dialer.old) (D.faults dialer.old)) (dials (D.links dialer.new) (D.calls dialer.new) (D.faults dialer.new)) (file_streams (S.left source.old) (S.faults source.old) (K.written out.old) (K.faults out.old)) (file_streams (S.left source.new) (S.faults source.new) (K.written out.new) (K.faults out.new)) result }
 {
     match server_in(rt.alloc(), first, second) {
-        Ok(server) => give_at(rt, &server.place, dialer, source, out),
+        Ok(server) => give_to(rt, &server, dialer, source, out),
         Err(status) => Err(status),
     }
 }
@@ -93,7 +119,8 @@ fn give_with<R: AllocGlobal + Wait, D: Dialer, S: Source, K: Sink>(
 ///
 /// `Ok` is how the run ended that was made over the connection that the dialer opened, as `run_messages` says. An error comes where no
 /// run was made: `Usage` as from `check_words`, where the dialer isn't called; `Lost` where it was called, once, and opened no connection,
-/// and its count of faults rose. Nothing was read or written then.
+/// and its count of faults rose. Nothing was read or written then. The dialer is told where its dial failed, and where a read of its
+/// connection did.
 pub fn run_file<R: AllocGlobal + Wait, D: Dialer, S: Source, K: Sink>(
     rt: &R,
     words: &[String],

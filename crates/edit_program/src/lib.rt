@@ -11,4 +11,4 @@ mod texts;
 pub use giving::{check_words, run_file};
 pub use place::place_in;
 pub use running::run_editor;
-pub use texts::{USAGE, about, last_file_words, last_words};
+pub use texts::{FORMS, USAGE, about, last_file_words, last_words, message_words, option_in};

@@ -4,12 +4,13 @@ ghost use Rattle.edit_program.specs.Dials.{dials};
 ghost use Rattle.edit_program.specs.Ends.{Connects, HasRun, IsStarved, ProgramEnds, streams};
 ghost use Rattle.edit_program.specs.Words.{editor_id as editor_id_of};
 
-use crate::server::{Server, server_in};
+use crate::server::{Server, port_to, server_in, tell_silence};
 use edit_lines::Names;
 use edit_runs::{EditStatus, run_edits};
-use mos_fields::{Id, NoMemory};
+use mos_fields::{Id, NoMemory, pair_ok};
 use mos_io::{Sink, Source};
-use port_links::{Dialer, Link, Place};
+use port_links::{Dialer, Link, News, Place};
+use port_session::Port;
 use std::alloc::Global;
 use std::sync::Wait;
 
@@ -58,10 +59,19 @@ fn run_over<R: AllocGlobal + Wait, C: Source + Drop, T: Sink + Drop, S: Source, 
     )
 }
 
+// Whether a read of the connection failed.
+fn is_unheard(status: EditStatus) -> bool {
+    match status {
+        EditStatus::Unheard { line: _ } => true,
+        _ => false,
+    }
+}
+
 // A run at this place.
 fn run_at<R: AllocGlobal + Wait, D: Dialer, S: Source, K: Sink, E: Sink>(
     rt: &R,
     place: &Place,
+    port: &Port,
     names: &Names,
     dialer: &mut D,
     source: &mut S,
@@ -72,8 +82,16 @@ fn run_at<R: AllocGlobal + Wait, D: Dialer, S: Source, K: Sink, E: Sink>(
     ensures { Connects names.now.ncs (dials (D.links dialer.old) (D.calls dialer.old) (D.faults dialer.old)) (dials (D.links dialer.new) (D.calls dialer.new) (D.faults dialer.new)) (streams (S.left source.old) (S.faults source.old) (K.written out.old) (K.faults out.old) (E.written notes.old) (E.faults notes.old)) (streams (S.left source.new) (S.faults source.new) (K.written out.new) (K.faults out.new) (E.written notes.new) (E.faults notes.new)) result }
 {
     match dialer.dial(place) {
-        Ok(link) => run_over(rt, names, link, source, out, notes),
-        Err(_) => EditStatus::Lost,
+        Ok(link) => {
+            let number = link.number;
+            let status = run_over(rt, names, link, source, out, notes);
+            tell_silence(dialer, port, place, number, is_unheard(status));
+            status
+        }
+        Err(_) => {
+            dialer.hear(port, place, News::Failed);
+            EditStatus::Lost
+        }
     }
 }
 
@@ -89,8 +107,9 @@ fn run_to<R: AllocGlobal + Wait, D: Dialer, S: Source, K: Sink, E: Sink>(
     ensures { Connects server.id (dials (D.links dialer.old) (D.calls dialer.old) (D.faults dialer.old)) (dials (D.links dialer.new) (D.calls dialer.new) (D.faults dialer.new)) (streams (S.left source.old) (S.faults source.old) (K.written out.old) (K.faults out.old) (E.written notes.old) (E.faults notes.old)) (streams (S.left source.new) (S.faults source.new) (K.written out.new) (K.faults out.new) (E.written notes.new) (E.faults notes.new)) result ⊎ IsStarved (dials (D.links dialer.old) (D.calls dialer.old) (D.faults dialer.old)) (dials (D.links dialer.new) (D.calls dialer.new) (D.faults dialer.new)) (streams (S.left source.old) (S.faults source.old) (K.written out.old) (K.faults out.old) (E.written notes.old) (E.faults notes.old)) (streams (S.left source.new) (S.faults source.new) (K.written out.new) (K.faults out.new) (E.written notes.new) (E.faults notes.new)) result }
 {
     let place = server.place;
-    match names_of(rt.alloc(), server.id) {
-        Ok(names) => run_at(rt, &place, &names, dialer, source, out, notes),
+    let port = port_to(&server.id);
+    match pair_ok(port, names_of(rt.alloc(), server.id)) {
+        Ok((port, names)) => run_at(rt, &place, &port, &names, dialer, source, out, notes),
         Err(_) => EditStatus::NoMemory,
     }
 }
@@ -114,12 +133,13 @@ fn run_with<R: AllocGlobal + Wait, D: Dialer, S: Source, K: Sink, E: Sink>(
 }
 
 /// Takes the lines of `source` with the words behind the program's name: the server's port for editors, and the server's ID.
-/// What is told of each answer goes to `out`, and what is noted of lines that are no edit to `notes`.
+/// What is told of each answer goes to `out`, and the mistakes of lines that are no edit to `notes`.
 ///
 /// `Usage` comes only where these words aren't two, of which the first is a place, as `place_in` says, and the second an ID: 1
 /// to 128 characters that XML 1.0 allows. The dialer isn't called then; else it is called once, unless memory runs out before. `Lost`
-/// comes where that call opened no connection, and its count of faults rose, and as from `run_edits`, whose other statuses come from
-/// here too: the run is made over the connection that the dialer opened. Without a run nothing is read or written.
+/// comes where that call opened no connection, and its count of faults rose. The statuses of `run_edits` come from here too: the run
+/// is made over the connection that the dialer opened. Without a run nothing is read or written. The dialer is told where its dial
+/// failed, and where a read of its connection did.
 pub fn run_editor<R: AllocGlobal + Wait, D: Dialer, S: Source, K: Sink, E: Sink>(
     rt: &R,
     words: &[String],

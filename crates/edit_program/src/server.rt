@@ -7,8 +7,10 @@ ghost use Rattle.edit_program.specs.Words.{IsServer};
 
 use crate::place::{letters_of, place_in, status_of};
 use edit_runs::EditStatus;
-use mos_fields::Id;
-use port_links::Place;
+use mos_fields::{Id, NoMemory, pair_ok};
+use port_events::Side;
+use port_links::{Dialer, News, Place};
+use port_session::{End, Port};
 use std::alloc::Global;
 
 /// A server.
@@ -31,6 +33,33 @@ fn id_in(alloc: Global, word: &str) -> Result<Id, EditStatus>
             Ok(id) => Ok(id),
             Err(fault) => Err(status_of(fault)),
         },
+    }
+}
+
+/// The port of a connection to the server of this ID, by which a dialer is told what came of it.
+pub(crate) fn port_to(id: &Id) -> Result<Port, NoMemory> {
+    let (mos, ncs) = pair_ok(id.try_clone(), id.try_clone())?;
+    Ok(Port {
+        side: Side::Editor,
+        device: None,
+        link: 0,
+        mos,
+        ncs,
+    })
+}
+
+/// Tells the dialer that a read of the connection of this number failed, where one did: the server may have been silent for too
+/// long.
+pub(crate) fn tell_silence<D: Dialer>(
+    dialer: &D,
+    port: &Port,
+    place: &Place,
+    number: u64,
+    is_unheard: bool,
+) {
+    if is_unheard {
+        let end = End::ReadFault;
+        dialer.hear(port, place, News::Ended { number, end });
     }
 }
 

@@ -10,17 +10,18 @@ use Rattle.port_session.specs.declared.end.End.TheVariants as ends
 use Rattle.port_session.specs.declared.inlet.Inlet.{Inlet}
 use Rattle.port_session.proofs.Readings.{begun, reads_none, rose_from}
 use Rattle.port_session.proofs.Servings.{appends_more, appends_none}
-use Rattle.edit_lines.specs.Answers.{answer_text, is_wanted, wanted_by}
+use Rattle.edit_lines.specs.Answers.{answer_text, is_wanted}
 use Rattle.edit_lines.specs.Asked.{asked_of}
 use Rattle.edit_lines.specs.Requests.{IsSent, numbered}
 use Rattle.edit_lines.specs.declared.asked.Asked.TheVariants as asks
 use Rattle.edit_lines.specs.declared.request.Names.{Names}
-use Rattle.edit_lines.specs.declared.wanted.Wanted.{Wanted}
-use Rattle.edit_runs.specs.Runs.{AppendsSome, Going, Handled, HasGiven, HearsTold, IsMessage, IsNewInlet, IsStopped, Refuses, Rises, Sent, Showed, Sides, Stops, sides}
+use Rattle.edit_runs.specs.Runs.{AppendsSome, Going, Handled, HasGiven, HearsTold, IsMessage, IsNewInlet, IsStopped, Refuses, Rises, Sent, Showed, Sides, Stops, Wrote, sides}
 use Rattle.edit_runs.specs.Said.{answered, answered_counts, note_text, nothing_said, passed, passed_counts, refused, refused_counts, start_counts}
 use Rattle.edit_runs.specs.Said.IsSaid.{begins, passes, refuses, answers}
-use Rattle.edit_runs.specs.Statuses.{lost_by}
+use Rattle.edit_runs.specs.Statuses.{lost_by, status_at}
 use Rattle.edit_runs.specs.declared.counts.Counts.{Counts}
+use Rattle.edit_runs.specs.declared.halt.Halt.{Halt}
+use Rattle.edit_runs.specs.declared.halt.Halt.TheVariants as whys
 use Rattle.edit_runs.specs.declared.status.EditStatus.{EditStatus}
 use Rattle.edit_runs.specs.declared.status.EditStatus.TheVariants as statuses
 
@@ -53,21 +54,18 @@ module _ (l : Option (List ℕ)) (f : ℕ) (l' : Option (List ℕ)) (f' : ℕ) w
   given_more : (inlet : Inlet) (given : List Envelope) (e : Envelope) → InletReads l f l' f' inlet (given ++ e ∷ []) → HasGiven l f l' f' given
   given_more inlet given e r = record { more = e ∷ []; budget = inlet.budget; halts = begun l f l' f' inlet.decoder inlet.rejection inlet.count inlet.budget (given ++ e ∷ []) r }
 
-  module _ (inlet : Inlet) (given : List Envelope) (line : List ℕ) (wanted : Wanted) (k k' : Option (List ℕ)) (n n' : ℕ) where
+  module _ (inlet : Inlet) (given : List Envelope) (line : List ℕ) (sent : Envelope) (k k' : Option (List ℕ)) (n n' : ℕ) where
     -- an answer came, and was told or not
-    pub told_by : (e : Envelope) (result : Result Bool EditStatus) → InletReads l f l' f' inlet (given ++ e ∷ []) → Showed (answer_text wanted line e.message) (is_wanted wanted e.message) k k' n n' result
-        → HearsTold l f l' f' inlet given line wanted k k' n n' result
+    pub told_by : (e : Envelope) (result : Result Bool Halt) → InletReads l f l' f' inlet (given ++ e ∷ []) → Showed (answer_text sent line e) (is_wanted sent e) k k' n n' result → HearsTold l f l' f' inlet given line sent k k' n n' result
     told_by e (Ok good) r s = record { answer = e; reads = r; good_is = s.0; shows = s.1 }
-    told_by e (Err statuses.WriteFault) r s = (given_more inlet given e r, ((answer_text wanted line e.message, s.0), s.1))
-    told_by e (Err statuses.NoMemory) r s = (given_more inlet given e r, s)
-    told_by e (Err statuses.Done) r s = absurd s
-    told_by e (Err statuses.Refused) r s = absurd s
-    told_by e (Err statuses.Usage) r s = absurd s
-    told_by e (Err statuses.ReadFault) r s = absurd s
-    told_by e (Err statuses.Lost) r s = absurd s
+    told_by e (Err whys.WriteFault) r s = (given_more inlet given e r, ((answer_text sent line e, s.0), s.1))
+    told_by e (Err whys.NoMemory) r s = (given_more inlet given e r, s)
+    told_by e (Err whys.Unsent) r s = absurd s
+    told_by e (Err whys.Unheard) r s = absurd s
+    told_by e (Err whys.Unanswered) r s = absurd s
 
     -- no answer came
-    pub untold_by : (budget : ℕ) (end : End) → Halts l f l' f' budget given end → k' ≡ k → HearsTold l f l' f' inlet given line wanted k k' n n' (Err (lost_by end))
+    pub untold_by : (budget : ℕ) (end : End) → Halts l f l' f' budget given end → k' ≡ k → HearsTold l f l' f' inlet given line sent k k' n n' (Err (lost_by end))
     untold_by budget ends.NoMemory h e = (first_given budget given h, e)
     untold_by budget ends.Closed h e = (record { budget = budget; end = ends.Closed; halts = h; lost = refl }, e)
     untold_by budget (ends.Truncated b) h e = (record { budget = budget; end = ends.Truncated b; halts = h; lost = refl }, e)
@@ -79,11 +77,19 @@ module _ (l : Option (List ℕ)) (f : ℕ) (l' : Option (List ℕ)) (f' : ℕ) w
     untold_by budget ends.Unasked h e = absurd h.ceased
     untold_by budget ends.Stopped h e = absurd h.ceased
 
+-- a note couldn't be written
+pub refuses_by : (line : List ℕ) (counts : Counts) (w w' : Option (List ℕ)) (f f' : ℕ) (why : Halt) → Wrote w w' f f' (note_text counts.place line) (Err why) → Refuses line counts counts w w' f f' (Err (status_at why counts.place))
+refuses_by line counts w w' f f' whys.WriteFault h = h
+refuses_by line counts w w' f f' whys.NoMemory h = h
+refuses_by line counts w w' f f' whys.Unsent h = absurd h
+refuses_by line counts w w' f f' whys.Unheard h = absurd h
+refuses_by line counts w w' f f' whys.Unanswered h = absurd h
+
 -- ---- one line
 
 -- the number of the next message, as the code counts it
-message_of : (names : Names) (n m : ℕ) (line bytes : List ℕ) (wanted : Wanted) → n ≡ m → IsSent names n (asked_of line) bytes wanted → IsMessage names m (asked_of line) bytes
-message_of names n m line bytes wanted e s = inr (wanted, subst (λ (k : ℕ). IsSent names k (asked_of line) bytes wanted) e s)
+message_of : (names : Names) (n m : ℕ) (line bytes : List ℕ) (sent : Envelope) → n ≡ m → IsSent names n (asked_of line) bytes sent → IsMessage names m (asked_of line) bytes
+message_of names n m line bytes sent e s = inr (sent, subst (λ (k : ℕ). IsSent names k (asked_of line) bytes sent) e s)
 
 module _ (names : Names) (lines : List (List ℕ)) (line : List ℕ) (was a : Sides) (counts : Counts) (inlet : Inlet) (g : Going names lines was a counts inlet) where
   rising : (b : Sides) → a.heard ≤ b.heard → a.sends ≤ b.sends → a.shows ≤ b.shows → a.notes ≤ b.notes → Rises was b
@@ -108,16 +114,16 @@ module _ (names : Names) (lines : List (List ℕ)) (line : List ℕ) (was a : Si
   }
 
   -- a line that is no edit
-  pub going_refused : (n : Option (List ℕ)) (h : ℕ) → asked_of line ≡ asks.NoEdit → Appends a.noted n (note_text counts.place) → a.notes ≤ h
+  pub going_refused : (n : Option (List ℕ)) (h : ℕ) → asked_of line ≡ asks.NoEdit → Appends a.noted n (note_text counts.place line) → a.notes ≤ h
       → Going names (lines ++ line ∷ []) was (sides a.left a.heard a.sent a.sends a.shown a.shows n h) (refused_counts counts) inlet
   going_refused n h e x le = record {
-    said = refused g.said;
+    said = refused line g.said;
     is_said = refuses lines line g.said g.is_said e;
     counts_are = ap refused_counts g.counts_are;
     reads = g.reads;
     sent = g.sent;
     shown = g.shown;
-    noted = appends_more was.noted a.noted n g.said.noted (note_text g.said.counts.place) g.noted (subst (λ (c : Counts). Appends a.noted n (note_text c.place)) g.counts_are x);
+    noted = appends_more was.noted a.noted n g.said.noted (note_text g.said.counts.place line) g.noted (subst (λ (c : Counts). Appends a.noted n (note_text c.place line)) g.counts_are x);
     rises = let r = g.rises in record { heard = r.heard; sends = r.sends; shows = r.shows; notes = let z = r.notes in omega arith };
   }
 
@@ -125,17 +131,21 @@ module _ (names : Names) (lines : List (List ℕ)) (line : List ℕ) (was a : Si
   sent_bytes : (m : Message) (bytes : List ℕ) → bytes ≡ encoding (numbered names counts.number m) → bytes ≡ encoding (numbered names g.said.counts.number m)
   sent_bytes m bytes e = subst (λ (c : Counts). bytes ≡ encoding (numbered names c.number m)) g.counts_are e
 
+  -- the line's message, its number as it was said
+  sent_now : (m : Message) (sent : Envelope) → sent ≡ numbered names counts.number m → sent ≡ numbered names g.said.counts.number m
+  sent_now m sent e = subst (λ (c : Counts). sent ≡ numbered names c.number m) g.counts_are e
+
   -- a line whose message was answered
-  pub going_answered : (b : Sides) (inlet' : Inlet) (bytes : List ℕ) (wanted : Wanted) (s : IsSent names counts.number (asked_of line) bytes wanted) (good : Bool) (e : Envelope)
-      → InletReads was.left was.heard b.left b.heard inlet' (g.said.answers ++ e ∷ []) → good ≡ is_wanted wanted e.message → Appends a.sent b.sent bytes → Appends a.shown b.shown (answer_text wanted line e.message) → b.noted ≡ a.noted
-      → Rises was b → Going names (lines ++ line ∷ []) was b (answered_counts good counts) inlet'
-  going_answered b inlet' bytes wanted s good e reads good_is sent shown noted rises = record {
+  pub going_answered : (b : Sides) (inlet' : Inlet) (bytes : List ℕ) (sent : Envelope) (s : IsSent names counts.number (asked_of line) bytes sent) (good : Bool) (e : Envelope)
+      → InletReads was.left was.heard b.left b.heard inlet' (g.said.answers ++ e ∷ []) → good ≡ is_wanted sent e → Appends a.sent b.sent bytes → Appends a.shown b.shown (answer_text sent line e) → b.noted ≡ a.noted → Rises was b
+      → Going names (lines ++ line ∷ []) was b (answered_counts good counts) inlet'
+  going_answered b inlet' bytes sent s good e reads good_is wrote shown noted rises = let now = sent_now s.message sent s.sent_is in record {
     said = answered names line s.message e g.said;
     is_said = answers lines line g.said s.message e g.is_said s.asks;
-    counts_are = let w : good ≡ is_wanted (wanted_by s.message) e.message = good_is ∙ ap (λ (w : Wanted). is_wanted w e.message) s.wants in ap (λ (x : Bool × Counts). answered_counts x.0 x.1) (λ i. (w i, g.counts_are i));
+    counts_are = let w : good ≡ is_wanted (numbered names g.said.counts.number s.message) e = good_is ∙ ap (λ (x : Envelope). is_wanted x e) now in ap (λ (x : Bool × Counts). answered_counts x.0 x.1) (λ i. (w i, g.counts_are i));
     reads = reads;
-    sent = appends_more was.sent a.sent b.sent g.said.sent (encoding (numbered names g.said.counts.number s.message)) g.sent (subst (λ (x : List ℕ). Appends a.sent b.sent x) (sent_bytes s.message bytes s.encodes) sent);
-    shown = appends_more was.shown a.shown b.shown g.said.shown (answer_text (wanted_by s.message) line e.message) g.shown (subst (λ (w : Wanted). Appends a.shown b.shown (answer_text w line e.message)) s.wants shown);
+    sent = appends_more was.sent a.sent b.sent g.said.sent (encoding (numbered names g.said.counts.number s.message)) g.sent (subst (λ (x : List ℕ). Appends a.sent b.sent x) (sent_bytes s.message bytes s.encodes) wrote);
+    shown = appends_more was.shown a.shown b.shown g.said.shown (answer_text (numbered names g.said.counts.number s.message) line e) g.shown (subst (λ (x : Envelope). Appends a.shown b.shown (answer_text x line e)) now shown);
     noted = subst (λ (o : Option (List ℕ)). Appends was.noted o g.said.noted) (sym noted) g.noted;
     rises = rises;
   }
@@ -143,7 +153,7 @@ module _ (names : Names) (lines : List (List ℕ)) (line : List ℕ) (was a : Si
   -- ---- where the run stops
 
   stopped : (b : Sides) (status : EditStatus) (message : List ℕ) → IsMessage names g.said.counts.number (asked_of line) message → AppendsFront a.sent b.sent message → AppendsSome a.shown b.shown → AppendsSome a.noted b.noted
-      → Stops was b g.said.answers status → IsStopped names lines line was b status
+      → Stops was b g.said.answers g.said.counts.place status → IsStopped names lines line was b status
   stopped b status message is_message sends shows notes why = record {
     said = g.said;
     is_said = g.is_said;
@@ -162,14 +172,18 @@ module _ (names : Names) (lines : List (List ℕ)) (line : List ℕ) (was a : Si
   given : HasGiven was.left was.heard a.left a.heard g.said.answers
   given = given_now was.left was.heard a.left a.heard inlet g.said.answers g.reads
 
+  -- the number of the line, as it was said
+  place : counts.place ≡ g.said.counts.place
+  place = ap (λ (c : Counts). c.place) g.counts_are
+
   -- there was no memory for the line's message
   pub stops_unasked : IsStopped names lines line was a statuses.NoMemory
   stops_unasked = stopped a statuses.NoMemory [] (inl refl) (front_none a.sent []) (some_none a.shown) (some_none a.noted) given
 
   -- the note couldn't be written
-  pub stops_unnoted : (counts' : Counts) (n : Option (List ℕ)) (h : ℕ) (status : EditStatus) → Refuses counts counts' a.noted n a.notes h (Err status)
+  pub stops_unnoted : (counts' : Counts) (n : Option (List ℕ)) (h : ℕ) (status : EditStatus) → Refuses line counts counts' a.noted n a.notes h (Err status)
       → IsStopped names lines line was (sides a.left a.heard a.sent a.sends a.shown a.shows n h) status
-  stops_unnoted counts' n h statuses.WriteFault x = stopped (sides a.left a.heard a.sent a.sends a.shown a.shows n h) statuses.WriteFault [] (inl refl) (front_none a.sent []) (some_none a.shown) (note_text counts.place, x.0)
+  stops_unnoted counts' n h statuses.WriteFault x = stopped (sides a.left a.heard a.sent a.sends a.shown a.shows n h) statuses.WriteFault [] (inl refl) (front_none a.sent []) (some_none a.shown) (note_text counts.place line, x.0)
       (inr (rose_from was.notes a.notes h g.rises.notes x.1), given)
   stops_unnoted counts' n h statuses.NoMemory x = stopped (sides a.left a.heard a.sent a.sends a.shown a.shows n h) statuses.NoMemory [] (inl refl) (front_none a.sent []) (some_none a.shown) (some_same a.noted n x) given
   stops_unnoted counts' n h statuses.Done x = absurd x
@@ -177,44 +191,43 @@ module _ (names : Names) (lines : List (List ℕ)) (line : List ℕ) (was a : Si
   stops_unnoted counts' n h statuses.Usage x = absurd x
   stops_unnoted counts' n h statuses.ReadFault x = absurd x
   stops_unnoted counts' n h statuses.Lost x = absurd x
+  stops_unnoted counts' n h (statuses.Unsent at) x = absurd x
+  stops_unnoted counts' n h (statuses.Unheard at) x = absurd x
+  stops_unnoted counts' n h (statuses.Unanswered at) x = absurd x
 
   -- a line that is no edit was noted or not
-  pub handled_refused : (n : Option (List ℕ)) (h : ℕ) (counts' : Counts) (result : Result (Unit {0}) EditStatus) → asked_of line ≡ asks.NoEdit → Refuses counts counts' a.noted n a.notes h result → a.notes ≤ h
+  pub handled_refused : (n : Option (List ℕ)) (h : ℕ) (counts' : Counts) (result : Result (Unit {0}) EditStatus) → asked_of line ≡ asks.NoEdit → Refuses line counts counts' a.noted n a.notes h result → a.notes ≤ h
       → Handled names lines line was (sides a.left a.heard a.sent a.sends a.shown a.shows n h) counts' inlet result
   handled_refused n h counts' (Ok done) e x le = subst (λ (c : Counts). Going names (lines ++ line ∷ []) was (sides a.left a.heard a.sent a.sends a.shown a.shows n h) c inlet) (sym x.0) (going_refused n h e x.1 le)
   handled_refused n h counts' (Err status) e x le = stops_unnoted counts' n h status x
 
-  module _ (bytes : List ℕ) (wanted : Wanted) (s : IsSent names counts.number (asked_of line) bytes wanted) where
+  module _ (bytes : List ℕ) (sent : Envelope) (s : IsSent names counts.number (asked_of line) bytes sent) where
     is_message : IsMessage names g.said.counts.number (asked_of line) bytes
-    is_message = message_of names counts.number g.said.counts.number line bytes wanted (ap (λ (c : Counts). c.number) g.counts_are) s
+    is_message = message_of names counts.number g.said.counts.number line bytes sent (ap (λ (c : Counts). c.number) g.counts_are) s
 
     -- the message couldn't be written
-    pub stops_unsent : (w : Option (List ℕ)) (m : ℕ) (status : EditStatus) → Sent a.sent w a.sends m bytes (Err status)
-        → IsStopped names lines line was (sides a.left a.heard w m a.shown a.shows a.noted a.notes) status
-    stops_unsent w m statuses.Lost x = stopped (sides a.left a.heard w m a.shown a.shows a.noted a.notes) statuses.Lost bytes is_message x.0 (some_none a.shown) (some_none a.noted)
-        (inl (rose_from was.sends a.sends m g.rises.sends x.1, given))
-    stops_unsent w m statuses.NoMemory x = stopped (sides a.left a.heard w m a.shown a.shows a.noted a.notes) statuses.NoMemory bytes is_message (front_same a.sent w bytes x) (some_none a.shown) (some_none a.noted) given
-    stops_unsent w m statuses.Done x = absurd x
-    stops_unsent w m statuses.Refused x = absurd x
-    stops_unsent w m statuses.Usage x = absurd x
-    stops_unsent w m statuses.ReadFault x = absurd x
-    stops_unsent w m statuses.WriteFault x = absurd x
+    pub stops_unsent : (w : Option (List ℕ)) (m : ℕ) (why : Halt) → Sent a.sent w a.sends m bytes (Err why)
+        → IsStopped names lines line was (sides a.left a.heard w m a.shown a.shows a.noted a.notes) (status_at why counts.place)
+    stops_unsent w m whys.Unsent x = stopped (sides a.left a.heard w m a.shown a.shows a.noted a.notes) (statuses.Unsent counts.place) bytes is_message x.0 (some_none a.shown) (some_none a.noted)
+        (place, (rose_from was.sends a.sends m g.rises.sends x.1, given))
+    stops_unsent w m whys.NoMemory x = stopped (sides a.left a.heard w m a.shown a.shows a.noted a.notes) statuses.NoMemory bytes is_message (front_same a.sent w bytes x) (some_none a.shown) (some_none a.noted) given
+    stops_unsent w m whys.Unheard x = absurd x
+    stops_unsent w m whys.Unanswered x = absurd x
+    stops_unsent w m whys.WriteFault x = absurd x
 
     -- it was written, and no answer was told
-    pub stops_untold : (b : Sides) (inlet' : Inlet) (status : EditStatus) → Appends a.sent b.sent bytes → b.noted ≡ a.noted
-        → HearsTold was.left was.heard b.left b.heard inlet' g.said.answers line wanted a.shown b.shown a.shows b.shows (Err status) → IsStopped names lines line was b status
-    stops_untold b inlet' statuses.Lost sent noted x = stopped b statuses.Lost bytes is_message (front_all a.sent b.sent bytes sent) (some_same a.shown b.shown x.1) (some_same a.noted b.noted noted) (inr x.0)
-    stops_untold b inlet' statuses.WriteFault sent noted x = stopped b statuses.WriteFault bytes is_message (front_all a.sent b.sent bytes sent) x.1.0 (some_same a.noted b.noted noted) (inl (rose_from was.shows a.shows b.shows g.rises.shows x.1.1), x.0)
-    stops_untold b inlet' statuses.NoMemory sent noted x = stopped b statuses.NoMemory bytes is_message (front_all a.sent b.sent bytes sent) (some_same a.shown b.shown x.1) (some_same a.noted b.noted noted) x.0
-    stops_untold b inlet' statuses.Done sent noted x = absurd x
-    stops_untold b inlet' statuses.Refused sent noted x = absurd x
-    stops_untold b inlet' statuses.Usage sent noted x = absurd x
-    stops_untold b inlet' statuses.ReadFault sent noted x = absurd x
+    pub stops_untold : (b : Sides) (inlet' : Inlet) (why : Halt) → Appends a.sent b.sent bytes → b.noted ≡ a.noted → HearsTold was.left was.heard b.left b.heard inlet' g.said.answers line sent a.shown b.shown a.shows b.shows (Err why)
+        → IsStopped names lines line was b (status_at why counts.place)
+    stops_untold b inlet' whys.Unheard wrote noted x = stopped b (statuses.Unheard counts.place) bytes is_message (front_all a.sent b.sent bytes wrote) (some_same a.shown b.shown x.1) (some_same a.noted b.noted noted) (place, x.0)
+    stops_untold b inlet' whys.Unanswered wrote noted x = stopped b (statuses.Unanswered counts.place) bytes is_message (front_all a.sent b.sent bytes wrote) (some_same a.shown b.shown x.1) (some_same a.noted b.noted noted) (place, x.0)
+    stops_untold b inlet' whys.WriteFault wrote noted x = stopped b statuses.WriteFault bytes is_message (front_all a.sent b.sent bytes wrote) x.1.0 (some_same a.noted b.noted noted) (inl (rose_from was.shows a.shows b.shows g.rises.shows x.1.1), x.0)
+    stops_untold b inlet' whys.NoMemory wrote noted x = stopped b statuses.NoMemory bytes is_message (front_all a.sent b.sent bytes wrote) (some_same a.shown b.shown x.1) (some_same a.noted b.noted noted) x.0
+    stops_untold b inlet' whys.Unsent wrote noted x = absurd x
 
     -- the message was written, and this came of the wait for its answer
-    pub going_heard : (b : Sides) (inlet' : Inlet) (good : Bool) → HearsTold was.left was.heard b.left b.heard inlet' g.said.answers line wanted a.shown b.shown a.shows b.shows (Ok good) → Appends a.sent b.sent bytes → b.noted ≡ a.noted
+    pub going_heard : (b : Sides) (inlet' : Inlet) (good : Bool) → HearsTold was.left was.heard b.left b.heard inlet' g.said.answers line sent a.shown b.shown a.shows b.shows (Ok good) → Appends a.sent b.sent bytes → b.noted ≡ a.noted
         → a.heard ≤ b.heard → a.sends ≤ b.sends → a.shows ≤ b.shows → a.notes ≤ b.notes → Going names (lines ++ line ∷ []) was b (answered_counts good counts) inlet'
-    going_heard b inlet' good x sent noted p q r t = going_answered b inlet' bytes wanted s good x.answer x.reads x.good_is sent x.shows noted (rising b p q r t)
+    going_heard b inlet' good x wrote noted p q r t = going_answered b inlet' bytes sent s good x.answer x.reads x.good_is wrote x.shows noted (rising b p q r t)
 
 -- ---- the start
 

@@ -62,6 +62,9 @@ module _ (names : Names) (l l' : Option (List ℕ)) (f f' : ℕ) (r : LineReader
   breaks_by most statuses.Usage h = h
   breaks_by most statuses.ReadFault h = h
   breaks_by most statuses.Lost h = h
+  breaks_by most (statuses.Unsent at) h = h
+  breaks_by most (statuses.Unheard at) h = h
+  breaks_by most (statuses.Unanswered at) h = h
   breaks_by most statuses.WriteFault h = h
 
   -- a line at which the run stopped
@@ -72,6 +75,9 @@ module _ (names : Names) (l l' : Option (List ℕ)) (f f' : ℕ) (r : LineReader
   turned_broken statuses.Refused h = h
   turned_broken statuses.Usage h = h
   turned_broken statuses.Lost h = h
+  turned_broken (statuses.Unsent at) h = h
+  turned_broken (statuses.Unheard at) h = h
+  turned_broken (statuses.Unanswered at) h = h
   turned_broken statuses.WriteFault h = h
 
   pub turned_taken : (result : Result Bool EditStatus) → Taken names l l' r was now counts inlet result → Turned names l l' f f' r was now counts inlet result
@@ -97,7 +103,10 @@ module _ (names : Names) (l l' : Option (List ℕ)) (f f' : ℕ) (r : LineReader
     ends_by statuses.Done h = absurd h.stopped.why
     ends_by statuses.Refused h = absurd h.stopped.why
     ends_by statuses.Usage h = absurd h.stopped.why
-    ends_by statuses.Lost h = broken_front statuses.Lost h
+    ends_by statuses.Lost h = absurd h.stopped.why
+    ends_by (statuses.Unsent at) h = broken_front (statuses.Unsent at) h
+    ends_by (statuses.Unheard at) h = broken_front (statuses.Unheard at) h
+    ends_by (statuses.Unanswered at) h = broken_front (statuses.Unanswered at) h
     ends_by statuses.WriteFault h = broken_front statuses.WriteFault h
 
     ends_good : (status : EditStatus) (good : Bool) → counts.good ≡ good → (counts.good ≡ true → status ≡ statuses.Done) → (counts.good ≡ false → status ≡ statuses.Refused) → IsOver names l l' r was now counts inlet → Ends names l l' f0 f' was now status

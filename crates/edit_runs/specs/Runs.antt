@@ -15,28 +15,29 @@ use Rattle.edit_lines.specs.Asked.{asked_of}
 use Rattle.edit_lines.specs.Requests.{IsSent}
 use Rattle.edit_lines.specs.declared.asked.Asked.{Asked}
 use Rattle.edit_lines.specs.declared.request.Names.{Names}
-use Rattle.edit_lines.specs.declared.wanted.Wanted.{Wanted}
 use Rattle.edit_runs.specs.Said.{IsSaid, Said, note_text, refused_counts}
 use Rattle.edit_runs.specs.Statuses.{lost_by}
 use Rattle.edit_runs.specs.declared.counts.Counts.{Counts}
+use Rattle.edit_runs.specs.declared.halt.Halt.{Halt}
+use Rattle.edit_runs.specs.declared.halt.Halt.TheVariants as whys
 use Rattle.edit_runs.specs.declared.status.EditStatus.{EditStatus}
 use Rattle.edit_runs.specs.declared.status.EditStatus.TheVariants as statuses
 
 -- ---- single calls
 
 -- what writing a text that is told comes to
-abbrev pub Wrote : Option (List ℕ) → Option (List ℕ) → ℕ → ℕ → List ℕ → Result (Unit {0}) EditStatus → Type 0
+abbrev pub Wrote : Option (List ℕ) → Option (List ℕ) → ℕ → ℕ → List ℕ → Result (Unit {0}) Halt → Type 0
 Wrote before after f f' text (Ok done) = Appends before after text
-Wrote before after f f' text (Err statuses.WriteFault) = AppendsFront before after text × Rose f f'
-Wrote before after f f' text (Err statuses.NoMemory) = after ≡ before
-Wrote before after f f' text (Err status) = ⊥
+Wrote before after f f' text (Err whys.WriteFault) = AppendsFront before after text × Rose f f'
+Wrote before after f f' text (Err whys.NoMemory) = after ≡ before
+Wrote before after f f' text (Err halt) = ⊥
 
 -- what writing a message to the connection comes to
-abbrev pub Sent : Option (List ℕ) → Option (List ℕ) → ℕ → ℕ → List ℕ → Result (Unit {0}) EditStatus → Type 0
+abbrev pub Sent : Option (List ℕ) → Option (List ℕ) → ℕ → ℕ → List ℕ → Result (Unit {0}) Halt → Type 0
 Sent before after f f' bytes (Ok done) = Appends before after bytes
-Sent before after f f' bytes (Err statuses.Lost) = AppendsFront before after bytes × Rose f f'
-Sent before after f f' bytes (Err statuses.NoMemory) = after ≡ before
-Sent before after f f' bytes (Err status) = ⊥
+Sent before after f f' bytes (Err whys.Unsent) = AppendsFront before after bytes × Rose f f'
+Sent before after f f' bytes (Err whys.NoMemory) = after ≡ before
+Sent before after f f' bytes (Err halt) = ⊥
 
 -- what waiting for the next message of a connection comes to, behind these messages
 abbrev pub Heard : Option (List ℕ) → ℕ → Option (List ℕ) → ℕ → Inlet → List Envelope → Result Envelope End → Type 0
@@ -54,18 +55,18 @@ pub record IsNewInlet (inlet : Inlet) : Type 0 where
   pub count : inlet.count ≡ 0
 
 -- what telling a text comes to, of an answer that is the one that was wanted or not
-abbrev pub Showed : List ℕ → Bool → Option (List ℕ) → Option (List ℕ) → ℕ → ℕ → Result Bool EditStatus → Type 0
+abbrev pub Showed : List ℕ → Bool → Option (List ℕ) → Option (List ℕ) → ℕ → ℕ → Result Bool Halt → Type 0
 Showed text good before after f f' (Ok b) = (b ≡ good) × Appends before after text
-Showed text good before after f f' (Err statuses.WriteFault) = AppendsFront before after text × Rose f f'
-Showed text good before after f f' (Err statuses.NoMemory) = after ≡ before
-Showed text good before after f f' (Err status) = ⊥
+Showed text good before after f f' (Err whys.WriteFault) = AppendsFront before after text × Rose f f'
+Showed text good before after f f' (Err whys.NoMemory) = after ≡ before
+Showed text good before after f f' (Err halt) = ⊥
 
 -- an answer came, and was told
-pub record IsTold (l : Option (List ℕ)) (f : ℕ) (l' : Option (List ℕ)) (f' : ℕ) (inlet : Inlet) (given : List Envelope) (line : List ℕ) (wanted : Wanted) (before after : Option (List ℕ)) (good : Bool) : Type 0 where
+pub record IsTold (l : Option (List ℕ)) (f : ℕ) (l' : Option (List ℕ)) (f' : ℕ) (inlet : Inlet) (given : List Envelope) (line : List ℕ) (sent : Envelope) (before after : Option (List ℕ)) (good : Bool) : Type 0 where
   pub answer : Envelope
   pub reads : InletReads l f l' f' inlet (given ++ answer ∷ [])
-  pub good_is : good ≡ is_wanted wanted answer.message
-  pub shows : Appends before after (answer_text wanted line answer.message)
+  pub good_is : good ≡ is_wanted sent answer
+  pub shows : Appends before after (answer_text sent line answer)
 
 -- a part of some text was written
 abbrev pub AppendsSome : Option (List ℕ) → Option (List ℕ) → Type 0
@@ -77,28 +78,29 @@ pub record HasGiven (l : Option (List ℕ)) (f : ℕ) (l' : Option (List ℕ)) (
   pub budget : ℕ
   pub halts : Halts l f l' f' budget (given ++ more) ends.NoMemory
 
--- No answer came: these messages are all that the connection gave. Behind them it ended, for another reason than that memory
--- ran out.
-pub record IsHungUp (l : Option (List ℕ)) (f : ℕ) (l' : Option (List ℕ)) (f' : ℕ) (given : List Envelope) : Type 0 where
+-- No answer came: these messages are all that the connection gave. Behind them it ended, for a reason that shows in this one; that
+-- memory ran out is another.
+pub record IsHungUp (l : Option (List ℕ)) (f : ℕ) (l' : Option (List ℕ)) (f' : ℕ) (given : List Envelope) (why : Halt) : Type 0 where
   pub budget : ℕ
   pub end : End
   pub halts : Halts l f l' f' budget given end
-  pub lost : lost_by end ≡ statuses.Lost
+  pub lost : lost_by end ≡ why
 
--- what waiting for an answer and telling it comes to, behind these messages
-abbrev pub HearsTold : Option (List ℕ) → ℕ → Option (List ℕ) → ℕ → Inlet → List Envelope → List ℕ → Wanted → Option (List ℕ) → Option (List ℕ) → ℕ → ℕ → Result Bool EditStatus → Type 0
-HearsTold l f l' f' inlet given line wanted before after n n' (Ok good) = IsTold l f l' f' inlet given line wanted before after good
-HearsTold l f l' f' inlet given line wanted before after n n' (Err statuses.Lost) = IsHungUp l f l' f' given × (after ≡ before)
-HearsTold l f l' f' inlet given line wanted before after n n' (Err statuses.WriteFault) = HasGiven l f l' f' given × (AppendsSome before after × Rose n n')
-HearsTold l f l' f' inlet given line wanted before after n n' (Err statuses.NoMemory) = HasGiven l f l' f' given × (after ≡ before)
-HearsTold l f l' f' inlet given line wanted before after n n' (Err status) = ⊥
+-- what waiting for the answer to a message and telling it comes to, behind these messages
+abbrev pub HearsTold : Option (List ℕ) → ℕ → Option (List ℕ) → ℕ → Inlet → List Envelope → List ℕ → Envelope → Option (List ℕ) → Option (List ℕ) → ℕ → ℕ → Result Bool Halt → Type 0
+HearsTold l f l' f' inlet given line sent before after n n' (Ok good) = IsTold l f l' f' inlet given line sent before after good
+HearsTold l f l' f' inlet given line sent before after n n' (Err whys.Unheard) = IsHungUp l f l' f' given whys.Unheard × (after ≡ before)
+HearsTold l f l' f' inlet given line sent before after n n' (Err whys.Unanswered) = IsHungUp l f l' f' given whys.Unanswered × (after ≡ before)
+HearsTold l f l' f' inlet given line sent before after n n' (Err whys.WriteFault) = HasGiven l f l' f' given × (AppendsSome before after × Rose n n')
+HearsTold l f l' f' inlet given line sent before after n n' (Err whys.NoMemory) = HasGiven l f l' f' given × (after ≡ before)
+HearsTold l f l' f' inlet given line sent before after n n' (Err halt) = ⊥
 
 -- what noting a line that is no edit comes to
-abbrev pub Refuses : Counts → Counts → Option (List ℕ) → Option (List ℕ) → ℕ → ℕ → Result (Unit {0}) EditStatus → Type 0
-Refuses was now before after f f' (Ok done) = (now ≡ refused_counts was) × Appends before after (note_text was.place)
-Refuses was now before after f f' (Err statuses.WriteFault) = AppendsFront before after (note_text was.place) × Rose f f'
-Refuses was now before after f f' (Err statuses.NoMemory) = after ≡ before
-Refuses was now before after f f' (Err status) = ⊥
+abbrev pub Refuses : List ℕ → Counts → Counts → Option (List ℕ) → Option (List ℕ) → ℕ → ℕ → Result (Unit {0}) EditStatus → Type 0
+Refuses line was now before after f f' (Ok done) = (now ≡ refused_counts was) × Appends before after (note_text was.place line)
+Refuses line was now before after f f' (Err statuses.WriteFault) = AppendsFront before after (note_text was.place line) × Rose f f'
+Refuses line was now before after f f' (Err statuses.NoMemory) = after ≡ before
+Refuses line was now before after f f' (Err status) = ⊥
 
 -- ---- the whole
 
@@ -135,17 +137,19 @@ pub record Going (names : Names) (lines : List (List ℕ)) (was now : Sides) (co
   pub noted : Appends was.noted now.noted said.noted
   pub rises : Rises was now
 
--- Why a run stops that had these answers: a write to the connection failed, or the connection ended; a text that is told
--- couldn't be written; or memory ran out.
-abbrev pub Stops : Sides → Sides → List Envelope → EditStatus → Type 0
-Stops was now answers statuses.Lost = (Rose was.sends now.sends × HasGiven was.left was.heard now.left now.heard answers) ⊎ IsHungUp was.left was.heard now.left now.heard answers
-Stops was now answers statuses.WriteFault = (Rose was.shows now.shows ⊎ Rose was.notes now.notes) × HasGiven was.left was.heard now.left now.heard answers
-Stops was now answers statuses.NoMemory = HasGiven was.left was.heard now.left now.heard answers
-Stops was now answers status = ⊥
+-- Why a run stops that had these answers, and at the line of which number: a write to the connection failed; a read of it failed, or
+-- it ended, before the answer to the line's message came; a text that is told couldn't be written; or memory ran out.
+abbrev pub Stops : Sides → Sides → List Envelope → ℕ → EditStatus → Type 0
+Stops was now answers place (statuses.Unsent line) = (line ≡ place) × (Rose was.sends now.sends × HasGiven was.left was.heard now.left now.heard answers)
+Stops was now answers place (statuses.Unheard line) = (line ≡ place) × IsHungUp was.left was.heard now.left now.heard answers whys.Unheard
+Stops was now answers place (statuses.Unanswered line) = (line ≡ place) × IsHungUp was.left was.heard now.left now.heard answers whys.Unanswered
+Stops was now answers place statuses.WriteFault = (Rose was.shows now.shows ⊎ Rose was.notes now.notes) × HasGiven was.left was.heard now.left now.heard answers
+Stops was now answers place statuses.NoMemory = HasGiven was.left was.heard now.left now.heard answers
+Stops was now answers place status = ⊥
 
 -- the message of a line that asks this, where the next message has this number; or nothing
 abbrev pub IsMessage : Names → ℕ → Asked → List ℕ → Type 0
-IsMessage names n asked bytes = (bytes ≡ []) ⊎ ((wanted : Wanted) × IsSent names n asked bytes wanted)
+IsMessage names n asked bytes = (bytes ≡ []) ⊎ ((sent : Envelope) × IsSent names n asked bytes sent)
 
 -- All was said of these lines. Behind that, at most a front of the message of the next line was sent, and a part of one more text was
 -- told, and one more noted; and the run stopped with this status.
@@ -161,7 +165,7 @@ pub record IsStopped (names : Names) (lines : List (List ℕ)) (line : List ℕ)
   pub sends : AppendsFront between.sent now.sent message
   pub shows : AppendsSome between.shown now.shown
   pub notes : AppendsSome between.noted now.noted
-  pub why : Stops was now said.answers status
+  pub why : Stops was now said.answers said.counts.place status
 
 -- what is done about a line comes to this, behind all that was said of the lines before it
 abbrev pub Handled : Names → List (List ℕ) → List ℕ → Sides → Sides → Counts → Inlet → Result (Unit {0}) EditStatus → Type 0

@@ -9,8 +9,10 @@ use crate::counts::Counts;
 use crate::hearing::hear;
 use crate::status::EditStatus;
 use crate::writing::{note, send};
-use edit_lines::{Names, Request, Wanted, request_for};
+use edit_lines::{Names, Request, request_for};
+use mos_fields::let_go;
 use mos_io::{Sink, Source};
+use mos_values::Envelope;
 use port_session::Inlet;
 use std::alloc::Global;
 use std::sync::Wait;
@@ -26,19 +28,19 @@ fn ask<R: Wait, C: Source, D: Sink, K: Sink>(
     out: &mut K,
     line: &[u8],
     bytes: &[u8],
-    wanted: Wanted,
+    asked: &Envelope,
 ) -> Result<(), EditStatus>
     requires { IsHearing (C.left from.old) (C.faults from.old) inlet.old }
-    ensures handled { (names : NamesOf) (lines : List (List ℕ)) (was : Sides) (n : Option (List ℕ)) (h : ℕ) → Going names lines was (sides (C.left from.old) (C.faults from.old) (D.written to.old) (D.faults to.old) (K.written out.old) (K.faults out.old) n h) counts.old inlet.old → IsSent names counts.old.number (asked_of line.now) bytes.now wanted
+    ensures handled { (names : NamesOf) (lines : List (List ℕ)) (was : Sides) (n : Option (List ℕ)) (h : ℕ) → Going names lines was (sides (C.left from.old) (C.faults from.old) (D.written to.old) (D.faults to.old) (K.written out.old) (K.faults out.old) n h) counts.old inlet.old → IsSent names counts.old.number (asked_of line.now) bytes.now asked.now
         → Handled names lines line.now was (sides (C.left from.new) (C.faults from.new) (D.written to.new) (D.faults to.new) (K.written out.new) (K.faults out.new) n h) counts.new inlet.new result }
     ensures hears { C.faults from.old ≤ C.faults from.new }
     ensures sends { D.faults to.old ≤ D.faults to.new }
     ensures shows { K.faults out.old ≤ K.faults out.new }
 {
     match send(to, bytes) {
-        Err(status) => Err(status),
-        Ok(()) => match hear(rt, alloc, inlet, from, out, line, wanted) {
-            Err(status) => Err(status),
+        Err(halt) => Err(halt.at_line(counts.place)),
+        Ok(()) => match hear(rt, alloc, inlet, from, out, line, asked) {
+            Err(halt) => Err(halt.at_line(counts.place)),
             Ok(good) => {
                 *counts = counts.answered(good);
                 Ok(())
@@ -47,17 +49,22 @@ fn ask<R: Wait, C: Source, D: Sink, K: Sink>(
     }
 }
 
-// Notes that a line is no edit.
-fn refuse<E: Sink>(alloc: Global, counts: &mut Counts, notes: &mut E) -> Result<(), EditStatus>
-    ensures refuses { Refuses counts.old counts.new (E.written notes.old) (E.written notes.new) (E.faults notes.old) (E.faults notes.new) result }
+// Notes what is wrong with a line that is no edit.
+fn refuse<E: Sink>(
+    alloc: Global,
+    counts: &mut Counts,
+    notes: &mut E,
+    line: &[u8],
+) -> Result<(), EditStatus>
+    ensures refuses { Refuses line.now counts.old counts.new (E.written notes.old) (E.written notes.new) (E.faults notes.old) (E.faults notes.new) result }
     ensures rises { E.faults notes.old ≤ E.faults notes.new }
 {
-    match note(alloc, notes, counts.place) {
+    match note(alloc, notes, counts.place, line) {
         Ok(()) => {
             *counts = counts.refused();
             Ok(())
         }
-        Err(status) => Err(status),
+        Err(halt) => Err(halt.at_line(counts.place)),
     }
 }
 
@@ -87,9 +94,13 @@ pub fn handle<R: Wait, C: Source, D: Sink, K: Sink, E: Sink>(
             *counts = counts.passed();
             Ok(())
         }
-        Ok(Request::NoEdit) => refuse(alloc, counts, notes),
-        Ok(Request::Sends { bytes, wanted }) => ask(
-            rt, alloc, counts, inlet, from, to, out, line, &bytes, wanted,
-        ),
+        Ok(Request::NoEdit) => refuse(alloc, counts, notes, line),
+        Ok(Request::Sends { bytes, asked }) => {
+            let answered = ask(
+                rt, alloc, counts, inlet, from, to, out, line, &bytes, &asked,
+            );
+            let_go(asked);
+            answered
+        }
     }
 }

@@ -5,9 +5,9 @@ ghost use Rattle.port_session.specs.Reading.{InletReads};
 ghost use Rattle.edit_lines.specs.Answers.{answer_text as answer_text_of, is_wanted as is_wanted_of};
 ghost use Rattle.edit_runs.specs.Runs.{Heard, HearsTold, IsHearing, Showed};
 
-use crate::status::{EditStatus, lost_by};
+use crate::halt::{Halt, lost_by};
 use crate::writing::write_text;
-use edit_lines::{Wanted, answer_text, is_wanted};
+use edit_lines::{answer_text, is_wanted};
 use mos_fields::let_go;
 use mos_io::{Sink, Source};
 use mos_values::Envelope;
@@ -36,18 +36,18 @@ fn show<K: Sink>(
     alloc: Global,
     out: &mut K,
     line: &[u8],
-    wanted: Wanted,
+    asked: &Envelope,
     answer: &Envelope,
-) -> Result<bool, EditStatus>
-    ensures showed { Showed (answer_text_of wanted line.now answer.now.message) (is_wanted_of wanted answer.now.message) (K.written out.old) (K.written out.new) (K.faults out.old) (K.faults out.new) result }
+) -> Result<bool, Halt>
+    ensures showed { Showed (answer_text_of asked.now line.now answer.now) (is_wanted_of asked.now answer.now) (K.written out.old) (K.written out.new) (K.faults out.old) (K.faults out.new) result }
     ensures rises { K.faults out.old ≤ K.faults out.new }
 {
-    match answer_text(alloc, line, wanted, &answer.message) {
+    match answer_text(alloc, line, asked, answer) {
         Ok(text) => match write_text(out, text.as_slice()) {
-            Ok(()) => Ok(is_wanted(wanted, &answer.message)),
+            Ok(()) => Ok(is_wanted(asked, answer)),
             Err(status) => Err(status),
         },
-        Err(_) => Err(EditStatus::NoMemory),
+        Err(_) => Err(Halt::NoMemory),
     }
 }
 
@@ -56,18 +56,18 @@ fn show_and_leave<K: Sink>(
     alloc: Global,
     out: &mut K,
     line: &[u8],
-    wanted: Wanted,
+    asked: &Envelope,
     answer: Envelope,
-) -> Result<bool, EditStatus>
-    ensures showed { Showed (answer_text_of wanted line.now answer.message) (is_wanted_of wanted answer.message) (K.written out.old) (K.written out.new) (K.faults out.old) (K.faults out.new) result }
+) -> Result<bool, Halt>
+    ensures showed { Showed (answer_text_of asked.now line.now answer) (is_wanted_of asked.now answer) (K.written out.old) (K.written out.new) (K.faults out.old) (K.faults out.new) result }
     ensures rises { K.faults out.old ≤ K.faults out.new }
 {
-    let showed = show(alloc, out, line, wanted, &answer);
+    let showed = show(alloc, out, line, asked, &answer);
     let_go(answer);
     showed
 }
 
-/// Waits for the answer to a message, and tells it; whether it was the one that was wanted.
+/// Waits for the answer to a message, `asked`, and tells it; whether it was the one that was wanted.
 pub fn hear<R: Wait, C: Source, K: Sink>(
     rt: &R,
     alloc: Global,
@@ -75,15 +75,15 @@ pub fn hear<R: Wait, C: Source, K: Sink>(
     from: &mut C,
     out: &mut K,
     line: &[u8],
-    wanted: Wanted,
-) -> Result<bool, EditStatus>
+    asked: &Envelope,
+) -> Result<bool, Halt>
     requires { IsHearing (C.left from.old) (C.faults from.old) inlet.old }
-    ensures told { (l : Option (List ℕ)) (f : ℕ) (given : List EnvelopeOf) → InletReads l f (C.left from.old) (C.faults from.old) inlet.old given → HearsTold l f (C.left from.new) (C.faults from.new) inlet.new given line.now wanted (K.written out.old) (K.written out.new) (K.faults out.old) (K.faults out.new) result }
+    ensures told { (l : Option (List ℕ)) (f : ℕ) (given : List EnvelopeOf) → InletReads l f (C.left from.old) (C.faults from.old) inlet.old given → HearsTold l f (C.left from.new) (C.faults from.new) inlet.new given line.now asked.now (K.written out.old) (K.written out.new) (K.faults out.old) (K.faults out.new) result }
     ensures hears { C.faults from.old ≤ C.faults from.new }
     ensures shows { K.faults out.old ≤ K.faults out.new }
 {
     match next_answer(rt, inlet, from) {
-        Ok(answer) => show_and_leave(alloc, out, line, wanted, answer),
+        Ok(answer) => show_and_leave(alloc, out, line, asked, answer),
         Err(end) => Err(lost_by(end)),
     }
 }

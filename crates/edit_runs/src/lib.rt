@@ -6,6 +6,7 @@
 
 mod asking;
 mod counts;
+mod halt;
 mod hearing;
 mod run;
 mod status;
@@ -13,6 +14,7 @@ mod turns;
 mod writing;
 
 pub use counts::Counts;
+pub use halt::Halt;
 pub use hearing::hear;
 pub use run::run_edits;
 pub use status::EditStatus;

@@ -110,14 +110,16 @@ fn run_with<R: Wait, S: Source, C: Source, D: Sink, K: Sink, E: Sink>(
 /// Takes the lines of `source`, one after another, to its end. What stands behind the last line feed is a line too.
 ///
 /// A line that is an edit or a list is sent to `to` as one message, in one write; the messages are numbered from 1, and their
-/// messageIDs are the numbers. Then the answer is read from `from`, and told to `out`, before the next line is taken. A line that
-/// is neither is noted in `notes`, by its number from 1, and one that is empty or begins with `#` is passed over. Of a line
-/// 1,001 bytes count; one of more than 1,000 is no edit.
+/// messageIDs are the numbers. Then the answer is read from `from`, and told to `out`, before the next line is taken; one that isn't
+/// for the message that was sent, by its messageID or its roID, is told as another message. Of a line that is neither its number,
+/// from 1, and its mistake are noted in `notes`, and one that is empty or begins with `#` is passed over. Of a line 1,001 bytes
+/// count; one of more than 1,000 is no edit.
 ///
 /// `Done` and `Refused` come where the input was read to its end, `Done` where each line was passed over or had the answer that
-/// it wanted. `ReadFault` comes only where the count of faults of `source` rose; `Lost` where that of `to` rose, or `from` failed,
-/// ended or gave what is no message; `WriteFault` where that of `out` or `notes` rose. `Usage` never comes. The call waits
-/// where the connection does.
+/// it wanted. `ReadFault` comes only where the count of faults of `source` rose; `WriteFault` where that of `out` or `notes` rose.
+/// `Unsent` comes where the count of faults of `to` rose, `Unheard` where a read of `from` failed before an answer came, and
+/// `Unanswered` where `from` ended before that, or gave what is no message; each with the number of the line at which the run
+/// stopped. `Usage` and `Lost` never come. The call waits where the connection does.
 pub fn run_edits<R: Wait, S: Source, C: Source, D: Sink, K: Sink, E: Sink>(
     rt: &R,
     alloc: Global,

@@ -1,8 +1,5 @@
 //! How a run ends.
 ghost use Rattle.std.specs.Prelude.{◌≡◌};
-ghost use Rattle.edit_runs.specs.Statuses.{lost_by as lost_by_of};
-
-use port_session::End;
 
 /// How a run ends. The number of each is the status that the program ends with.
 #[derive(Clone, Copy, Debug, Drop, PartialEq, Eq)]
@@ -19,8 +16,23 @@ pub enum EditStatus {
     WriteFault,
     /// Memory ran out: 5.
     NoMemory,
-    /// The connection couldn't be opened, broke, or gave no whole answer: 6.
+    /// The connection couldn't be opened: 6. Nothing was read or written.
     Lost,
+    /// A write to the connection failed: 6.
+    Unsent {
+        /// the number of the line whose message wasn't sent whole, from 1
+        line: u64,
+    },
+    /// A read of the connection failed before an answer came: 6.
+    Unheard {
+        /// the number of the line whose message was sent and had no answer, from 1
+        line: u64,
+    },
+    /// The connection ended before an answer came, or gave what is no message: 6.
+    Unanswered {
+        /// the number of the line whose message was sent and had no answer, from 1
+        line: u64,
+    },
 }
 
 impl EditStatus {
@@ -38,16 +50,9 @@ impl EditStatus {
             EditStatus::WriteFault => 4,
             EditStatus::NoMemory => 5,
             EditStatus::Lost => 6,
+            EditStatus::Unsent { line: _ } => 6,
+            EditStatus::Unheard { line: _ } => 6,
+            EditStatus::Unanswered { line: _ } => 6,
         }
-    }
-}
-
-/// The status of a run whose connection ended so.
-pub(crate) fn lost_by(end: End) -> EditStatus
-    ensures { result ≡ lost_by_of end }
-{
-    match end {
-        End::NoMemory => EditStatus::NoMemory,
-        _ => EditStatus::Lost,
     }
 }

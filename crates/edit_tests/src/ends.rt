@@ -1,5 +1,5 @@
 //! How runs end that don't come to the end of their lines.
-use crate::lines::{FIRST, OKAY, READY, SECOND, SWAP};
+use crate::lines::{FIRST, OKAY, OKAY_2, READY, SECOND, SWAP};
 use crate::play::{Play, Wanted, is, plain};
 use edit_runs::EditStatus;
 use std::test::Fail;
@@ -16,7 +16,7 @@ const NO_MESSAGE: &str = "x<";
 // The second edit was sent, and had no answer.
 fn lost<'a>() -> Wanted<'a> {
     Wanted {
-        status: EditStatus::Lost,
+        status: EditStatus::Unanswered { line: 2 },
         sent: &[FIRST, SWAP, SECOND, READY],
         shown: "swap R1 A B: OK\n",
         noted: "",
@@ -32,21 +32,26 @@ fn a_connection_that_ends_is_lost(rt: HostRuntime) -> Result<(), Fail> {
     Ok(())
 }
 
-// No line is sent behind one that had no answer.
+// No line is sent behind one that had no answer. Lines that are passed over count.
 #[test]
 fn nothing_is_sent_before_the_answer_came(rt: HostRuntime) -> Result<(), Fail> {
     let wanted = Wanted {
-        status: EditStatus::Lost,
+        status: EditStatus::Unanswered { line: 2 },
         sent: &[FIRST, SWAP],
         shown: "",
         noted: "",
     };
-    assert!(rt; is(&rt, rt.alloc(), &plain(LINES, &[]), &wanted)?);
+    let lines = "# evening\nswap R1 A B\nready R1\n";
+    assert!(rt; is(&rt, rt.alloc(), &plain(lines, &[]), &wanted)?);
+    let unheard = Wanted {
+        status: EditStatus::Unheard { line: 1 },
+        ..wanted
+    };
     let play = Play {
         hears: &[0],
-        ..plain(LINES, &[OKAY, OKAY])
+        ..plain(LINES, &[OKAY, OKAY_2])
     };
-    assert!(rt; is(&rt, rt.alloc(), &play, &wanted)?);
+    assert!(rt; is(&rt, rt.alloc(), &play, &unheard)?);
     Ok(())
 }
 
@@ -54,10 +59,10 @@ fn nothing_is_sent_before_the_answer_came(rt: HostRuntime) -> Result<(), Fail> {
 fn a_write_to_the_connection_that_fails_loses_it(rt: HostRuntime) -> Result<(), Fail> {
     let play = Play {
         sends: &[1],
-        ..plain(LINES, &[OKAY, OKAY])
+        ..plain(LINES, &[OKAY, OKAY_2])
     };
     let wanted = Wanted {
-        status: EditStatus::Lost,
+        status: EditStatus::Unsent { line: 2 },
         sent: &[FIRST, SWAP],
         shown: "swap R1 A B: OK\n",
         noted: "",
@@ -72,7 +77,7 @@ fn input_that_fails_ends_the_run_behind_its_last_line(rt: HostRuntime) -> Result
     let play = Play {
         pieces: &[15, 1000],
         reads: &[1],
-        ..plain(LINES, &[OKAY, OKAY])
+        ..plain(LINES, &[OKAY, OKAY_2])
     };
     let wanted = Wanted {
         status: EditStatus::ReadFault,
@@ -88,7 +93,7 @@ fn input_that_fails_ends_the_run_behind_its_last_line(rt: HostRuntime) -> Result
 fn an_answer_that_cannot_be_told_ends_the_run(rt: HostRuntime) -> Result<(), Fail> {
     let play = Play {
         shows: &[0],
-        ..plain(LINES, &[OKAY, OKAY])
+        ..plain(LINES, &[OKAY, OKAY_2])
     };
     let wanted = Wanted {
         status: EditStatus::WriteFault,
@@ -125,5 +130,8 @@ fn each_status_has_its_number(rt: HostRuntime) -> Result<(), Fail> {
     assert_eq!(rt; EditStatus::WriteFault.number(), 4);
     assert_eq!(rt; EditStatus::NoMemory.number(), 5);
     assert_eq!(rt; EditStatus::Lost.number(), 6);
+    assert_eq!(rt; EditStatus::Unsent { line: 7 }.number(), 6);
+    assert_eq!(rt; EditStatus::Unheard { line: 7 }.number(), 6);
+    assert_eq!(rt; EditStatus::Unanswered { line: 7 }.number(), 6);
     Ok(())
 }

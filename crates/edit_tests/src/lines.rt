@@ -10,6 +10,10 @@ pub const SECOND: &str = "<mos><mosID>e</mosID><ncsID>n</ncsID><messageID>2</mes
 
 pub const THIRD: &str = "<mos><mosID>e</mosID><ncsID>n</ncsID><messageID>3</messageID>";
 
+const FOURTH: &str = "<mos><mosID>e</mosID><ncsID>n</ncsID><messageID>4</messageID>";
+
+const FIFTH: &str = "<mos><mosID>e</mosID><ncsID>n</ncsID><messageID>5</messageID>";
+
 /// What is sent for lines.
 pub const CREATE: &str =
     "<roCreate><roID>R1</roID><roSlug>R1</roSlug><story><storyID>A</storyID></story><story><storyID>B</storyID><item><itemID>1</itemID><objID>1</objID><mosID>m1</mosID></item><item><itemID>2</itemID><objID>2</objID><mosID>m1</mosID></item></story></roCreate></mos>";
@@ -27,20 +31,53 @@ pub const LIST_ALL: &str = "<roReqAll></roReqAll></mos>";
 pub const OKAY: &str =
     "<mos><mosID>e</mosID><ncsID>n</ncsID><messageID>1</messageID><roAck><roID>R1</roID><roStatus>OK</roStatus></roAck></mos>";
 
+/// The same to the second message, and to the third.
+pub const OKAY_2: &str =
+    "<mos><mosID>e</mosID><ncsID>n</ncsID><messageID>2</messageID><roAck><roID>R1</roID><roStatus>OK</roStatus></roAck></mos>";
+
+pub const OKAY_3: &str =
+    "<mos><mosID>e</mosID><ncsID>n</ncsID><messageID>3</messageID><roAck><roID>R1</roID><roStatus>OK</roStatus></roAck></mos>";
+
+/// An answer without a messageID and without a roID.
+pub const BARE: &str =
+    "<mos><mosID>e</mosID><ncsID>n</ncsID><roAck><roID></roID><roStatus>OK</roStatus></roAck></mos>";
+
+/// Answers of another order.
+pub const OTHER_OKAY: &str =
+    "<mos><mosID>e</mosID><ncsID>n</ncsID><roAck><roID>R2</roID><roStatus>OK</roStatus></roAck></mos>";
+
+pub const OTHER_ORDER: &str =
+    "<mos><mosID>e</mosID><ncsID>n</ncsID><roList><roID>R2</roID><roSlug>Six</roSlug></roList></mos>";
+
 pub const MISSING: &str =
     "<mos><mosID>e</mosID><ncsID>n</ncsID><messageID>1</messageID><roAck><roID>R1</roID><roStatus>MISSING A</roStatus></roAck></mos>";
 
 pub const ORDER: &str =
-    "<mos><mosID>e</mosID><ncsID>n</ncsID><messageID>1</messageID><roList><roID>R1</roID><roSlug>Six</roSlug><story><storyID>B</storyID><item><itemID>1</itemID><objID>o</objID><mosID>m1</mosID></item><item><itemID>2</itemID><objID>o</objID><mosID>m1</mosID></item></story><story><storyID>A</storyID></story></roList></mos>";
+    "<mos><mosID>e</mosID><ncsID>n</ncsID><roList><roID>R1</roID><roSlug>Six</roSlug><story><storyID>B</storyID><item><itemID>1</itemID><objID>o</objID><mosID>m1</mosID></item><item><itemID>2</itemID><objID>o</objID><mosID>m1</mosID></item></story><story><storyID>A</storyID></story></roList></mos>";
 
 pub const EMPTY_ORDER: &str =
-    "<mos><mosID>e</mosID><ncsID>n</ncsID><messageID>1</messageID><roList><roID>R1</roID><roSlug>Six</roSlug></roList></mos>";
+    "<mos><mosID>e</mosID><ncsID>n</ncsID><roList><roID>R1</roID><roSlug>Six</roSlug></roList></mos>";
 
 pub const TWO_ORDERS: &str =
-    "<mos><mosID>e</mosID><ncsID>n</ncsID><messageID>1</messageID><roListAll><ro><roID>R1</roID><roSlug>Six</roSlug></ro><ro><roID>R2</roID><roSlug>Ten</roSlug></ro></roListAll></mos>";
+    "<mos><mosID>e</mosID><ncsID>n</ncsID><roListAll><ro><roID>R1</roID><roSlug>Six</roSlug></ro><ro><roID>R2</roID><roSlug>Ten</roSlug></ro></roListAll></mos>";
 
 pub const NO_ORDERS: &str =
-    "<mos><mosID>e</mosID><ncsID>n</ncsID><messageID>1</messageID><roListAll></roListAll></mos>";
+    "<mos><mosID>e</mosID><ncsID>n</ncsID><roListAll></roListAll></mos>";
+
+/// What is noted of lines that are no edit.
+const NOTES: &str = "line 3: 'Swap' begins no edit; edit_orders --help lists them
+line 5: two spaces, or one at the start or the end
+line 6: list wants R, or no more words
+line 7: two spaces, or one at the start or the end
+line 8: 'help' begins no edit; edit_orders --help lists them
+line 9: swap wants R A B
+line 10: 'R-1' is no name; one is 1 to 32 of A-Z a-z 0-9 _
+line 11: story A twice
+line 12: 'B:1,1' is no story; one is NAME or NAME:ITEM,ITEM, names of 1 to 32 of A-Z a-z 0-9 _, no item twice
+line 13: it ends with a carriage return
+line 14: create wants R S ..
+line 15: 'b!' is no name; one is 1 to 32 of A-Z a-z 0-9 _
+";
 
 /// Pieces of one byte.
 const ONES: [usize; 4000] = [1; 4000];
@@ -49,7 +86,7 @@ const ONES: [usize; 4000] = [1; 4000];
 fn an_edit_is_sent_as_its_message_and_its_status_is_told(rt: HostRuntime) -> Result<(), Fail> {
     let play = plain(
         "create R1 A B:1,2\nswap R1 A B\nready R1\n",
-        &[OKAY, OKAY, OKAY],
+        &[OKAY, OKAY_2, OKAY_3],
     );
     let wanted = Wanted {
         status: EditStatus::Done,
@@ -94,7 +131,7 @@ fn all_orders_are_listed(rt: HostRuntime) -> Result<(), Fail> {
 
 #[test]
 fn an_answer_that_is_not_ok_is_told_and_the_run_goes_on(rt: HostRuntime) -> Result<(), Fail> {
-    let play = plain("swap R1 A B\nready R1\n", &[MISSING, OKAY]);
+    let play = plain("swap R1 A B\nready R1\n", &[MISSING, OKAY_2]);
     let wanted = Wanted {
         status: EditStatus::Refused,
         sent: &[FIRST, SWAP, SECOND, READY],
@@ -107,7 +144,7 @@ fn an_answer_that_is_not_ok_is_told_and_the_run_goes_on(rt: HostRuntime) -> Resu
 
 #[test]
 fn a_message_that_answers_something_else_is_not_wanted(rt: HostRuntime) -> Result<(), Fail> {
-    let play = plain("ready R1\nlist\nlist R1\n", &[ORDER, ORDER, OKAY]);
+    let play = plain("ready R1\nlist\nlist R1\n", &[ORDER, ORDER, OKAY_3]);
     let wanted = Wanted {
         status: EditStatus::Refused,
         sent: &[FIRST, READY, SECOND, LIST_ALL, THIRD, LIST],
@@ -118,17 +155,37 @@ fn a_message_that_answers_something_else_is_not_wanted(rt: HostRuntime) -> Resul
     Ok(())
 }
 
+// The second answer is to the first message, the third and the fourth of another order, and the last one has neither a messageID
+// nor a roID.
 #[test]
-fn a_line_that_is_no_edit_is_noted_by_its_number(rt: HostRuntime) -> Result<(), Fail> {
+fn an_answer_to_another_message_is_not_taken(rt: HostRuntime) -> Result<(), Fail> {
     let play = plain(
-        "# evening\n\nswop R1 A B\nready R1\nready  R1\nlist R1 R2\n",
+        "ready R1\nready R1\nready R1\nlist R1\nready R1\n",
+        &[OKAY, OKAY, OTHER_OKAY, OTHER_ORDER, BARE],
+    );
+    let wanted = Wanted {
+        status: EditStatus::Refused,
+        sent: &[
+            FIRST, READY, SECOND, READY, THIRD, READY, FOURTH, LIST, FIFTH, READY,
+        ],
+        shown: "ready R1: OK\nready R1: ANOTHER MESSAGE\nready R1: ANOTHER MESSAGE\nlist R1: ANOTHER MESSAGE\nready R1: OK\n",
+        noted: "",
+    };
+    assert!(rt; is(&rt, rt.alloc(), &play, &wanted)?);
+    Ok(())
+}
+
+#[test]
+fn the_mistake_of_a_line_is_noted_behind_its_number(rt: HostRuntime) -> Result<(), Fail> {
+    let play = plain(
+        "# evening\n\nSwap R1 A B\nready R1\nready  R1\nlist R1 R2\nready R1 \nhelp\nswap R1 A\nready R-1\ncreate R1 A B:1 A:2\ncreate R1 A B:1,1\ndelete R1\r\ncreate\nmove R1 - A b!\n",
         &[OKAY],
     );
     let wanted = Wanted {
         status: EditStatus::Refused,
         sent: &[FIRST, READY],
         shown: "ready R1: OK\n",
-        noted: "LINE 3 is no edit\nLINE 5 is no edit\nLINE 6 is no edit\n",
+        noted: NOTES,
     };
     assert!(rt; is(&rt, rt.alloc(), &play, &wanted)?);
     Ok(())
@@ -150,7 +207,7 @@ fn empty_lines_and_remarks_are_passed_over(rt: HostRuntime) -> Result<(), Fail> 
 
 #[test]
 fn the_last_line_may_lack_its_line_feed(rt: HostRuntime) -> Result<(), Fail> {
-    let play = plain("ready R1\nready R1", &[OKAY, OKAY]);
+    let play = plain("ready R1\nready R1", &[OKAY, OKAY_2]);
     let wanted = Wanted {
         status: EditStatus::Done,
         sent: &[FIRST, READY, SECOND, READY],
@@ -179,7 +236,7 @@ fn a_line_that_is_too_long_is_no_edit(rt: HostRuntime) -> Result<(), Fail> {
         status: EditStatus::Refused,
         sent: &[],
         shown: "",
-        noted: "LINE 1 is no edit\n",
+        noted: "line 1: more than 1000 bytes\n",
     };
     let line = long_line(&rt, 247, " 999\n")?;
     assert_eq!(rt; line.len(), 1002);

@@ -1,6 +1,6 @@
 //! Whole messages of a file, with their answers, and how runs of them end.
 use crate::giving::{Given, Giving, gives, unfailing};
-use crate::lines::{MISSING, NO_ORDERS, OKAY, ORDER};
+use crate::lines::{BARE, NO_ORDERS};
 use edit_runs::EditStatus;
 use message_runs::MessageEnd;
 use mos_lexer::Kind;
@@ -31,15 +31,31 @@ const SPACED_REQUEST: &str =
 /// The front of a message.
 const CUT: &str = "<mos><mosID>desk</mosID><ncsID>ncs1</ncsID><messageID>7</messageID><roEl";
 
+/// Their answers.
+const OKAY: &str =
+    "<mos><mosID>desk</mosID><ncsID>ncs1</ncsID><messageID>70</messageID><roAck><roID>EVENING</roID><roStatus>OK</roStatus></roAck></mos>";
+
+const OKAY_7: &str =
+    "<mos><mosID>desk</mosID><ncsID>ncs1</ncsID><messageID>7</messageID><roAck><roID>EVENING</roID><roStatus>OK</roStatus></roAck></mos>";
+
+const OKAY_NONE: &str =
+    "<mos><mosID>desk</mosID><ncsID>ncs1</ncsID><roAck><roID>EVENING</roID><roStatus>OK</roStatus></roAck></mos>";
+
+const MISSING: &str =
+    "<mos><mosID>desk</mosID><ncsID>ncs1</ncsID><messageID>70</messageID><roAck><roID>EVENING</roID><roStatus>MISSING A</roStatus></roAck></mos>";
+
+const ORDER: &str =
+    "<mos><mosID>other</mosID><ncsID>ncs1</ncsID><roList><roID>EVENING</roID><roSlug>Six</roSlug><story><storyID>B</storyID><item><itemID>1</itemID><objID>o</objID><mosID>m1</mosID></item></story><story><storyID>A</storyID></story></roList></mos>";
+
 /// What is told of the three messages.
-const TOLD: &str = "roCreate EVENING: OK\nroElementAction EVENING: OK\nR1 B:1,2 A\n";
+const TOLD: &str = "roCreate EVENING: OK\nroElementAction EVENING: OK\nEVENING B:1 A\n";
 
 /// Pieces of one byte.
 const ONES: [usize; 4000] = [1; 4000];
 
 // The three messages, each of which has the answer that it wants.
 fn three<'a>() -> Giving<'a> {
-    unfailing(&[CREATE, SWAP, REQUEST], &[OKAY, OKAY, ORDER])
+    unfailing(&[CREATE, SWAP, REQUEST], &[OKAY, OKAY_7, ORDER])
 }
 
 #[test]
@@ -65,7 +81,7 @@ fn messages_are_sent_in_their_canonical_encodings(rt: HostRuntime) -> Result<(),
     let given = Given {
         end: MessageEnd::Done,
         sent: &[REQUEST, REQUEST],
-        shown: "R1 B:1,2 A\nR1 B:1,2 A\n",
+        shown: "EVENING B:1 A\nEVENING B:1 A\n",
     };
     let spaced = Giving {
         front: &[0xFE, 0xFF],
@@ -94,8 +110,14 @@ fn an_answer_to_a_message_that_is_not_ok_is_told(rt: HostRuntime) -> Result<(), 
         sent: &[CREATE, SWAP, REQUEST],
         shown: "roCreate EVENING: MISSING A\nroElementAction EVENING: OK\nroReq EVENING: OK\n",
     };
-    let answered = unfailing(&[CREATE, SWAP, REQUEST], &[MISSING, OKAY, OKAY]);
+    let answered = unfailing(&[CREATE, SWAP, REQUEST], &[MISSING, OKAY_7, OKAY_NONE]);
     assert!(rt; gives(&rt, rt.alloc(), &answered, &given)?);
+    let another = Given {
+        shown: "roCreate EVENING: OK\nroElementAction EVENING: ANOTHER MESSAGE\nroReq EVENING: OK\n",
+        ..given
+    };
+    let answered = unfailing(&[CREATE, SWAP, REQUEST], &[OKAY, OKAY, BARE]);
+    assert!(rt; gives(&rt, rt.alloc(), &answered, &another)?);
     Ok(())
 }
 
@@ -109,7 +131,7 @@ fn a_message_without_a_ro_id_is_told_by_its_name(rt: HostRuntime) -> Result<(), 
     };
     let others = unfailing(
         &[HEARTBEAT, ALL, ALL, UNKNOWN],
-        &[HEARTBEAT, NO_ORDERS, OKAY, OKAY],
+        &[HEARTBEAT, NO_ORDERS, BARE, OKAY_NONE],
     );
     assert!(rt; gives(&rt, rt.alloc(), &others, &given)?);
     Ok(())
@@ -130,7 +152,7 @@ fn a_file_that_is_cut_inside_a_message_is_rejected_at_its_end(rt: HostRuntime) -
         place: (CREATE.len() + CUT.len()) as u64,
         kind: Kind::End,
     });
-    let cut = unfailing(&[CREATE, CUT], &[OKAY, OKAY]);
+    let cut = unfailing(&[CREATE, CUT], &[OKAY, OKAY_7]);
     assert!(rt; gives(&rt, rt.alloc(), &cut, &given)?);
     let odd = Giving {
         behind: &[0],
@@ -151,7 +173,7 @@ fn a_file_that_is_no_stream_is_rejected_behind_its_messages(rt: HostRuntime) -> 
         place: CREATE.len() as u64,
         kind: Kind::Tag,
     });
-    let bad = unfailing(&[CREATE, "<mis>", SWAP], &[OKAY, OKAY]);
+    let bad = unfailing(&[CREATE, "<mis>", SWAP], &[OKAY, OKAY_7]);
     assert!(rt; gives(&rt, rt.alloc(), &bad, &given)?);
     Ok(())
 }
@@ -159,7 +181,7 @@ fn a_file_that_is_no_stream_is_rejected_behind_its_messages(rt: HostRuntime) -> 
 // The second message was sent, and had no answer.
 fn lost<'a>() -> Given<'a> {
     Given {
-        end: MessageEnd::Lost,
+        end: MessageEnd::Unanswered,
         sent: &[CREATE, SWAP],
         shown: "roCreate EVENING: OK\n",
     }
@@ -180,11 +202,15 @@ fn a_connection_that_ends_before_the_second_answer_is_lost(rt: HostRuntime) -> R
 #[test]
 fn each_read_of_an_answer_that_fails_loses_the_connection(rt: HostRuntime) -> Result<(), Fail> {
     let none = Given {
-        end: MessageEnd::Lost,
+        end: MessageEnd::Unheard,
         sent: &[CREATE],
         shown: "",
     };
-    let hearings = [2 * OKAY.len(), 2 * OKAY.len()];
+    let second = Given {
+        end: MessageEnd::Unheard,
+        ..lost()
+    };
+    let hearings = [2 * OKAY.len(), 2 * OKAY_7.len()];
     let at_first = Giving {
         hearings: &hearings,
         hears: &[0],
@@ -195,14 +221,14 @@ fn each_read_of_an_answer_that_fails_loses_the_connection(rt: HostRuntime) -> Re
         hears: &[1],
         ..at_first
     };
-    assert!(rt; gives(&rt, rt.alloc(), &at_second, &lost())?);
+    assert!(rt; gives(&rt, rt.alloc(), &at_second, &second)?);
     Ok(())
 }
 
 #[test]
 fn each_write_of_a_message_that_fails_loses_the_connection(rt: HostRuntime) -> Result<(), Fail> {
     let none = Given {
-        end: MessageEnd::Lost,
+        end: MessageEnd::Unsent,
         sent: &[],
         shown: "",
     };
@@ -215,7 +241,7 @@ fn each_write_of_a_message_that_fails_loses_the_connection(rt: HostRuntime) -> R
         sends: &[1],
         ..three()
     };
-    assert!(rt; gives(&rt, rt.alloc(), &at_second, &first(MessageEnd::Lost))?);
+    assert!(rt; gives(&rt, rt.alloc(), &at_second, &first(MessageEnd::Unsent))?);
     Ok(())
 }
 
@@ -288,7 +314,9 @@ fn each_end_has_its_status(rt: HostRuntime) -> Result<(), Fail> {
     assert_eq!(rt; rejected.status(), EditStatus::Refused);
     assert_eq!(rt; MessageEnd::ReadFault.status(), EditStatus::ReadFault);
     assert_eq!(rt; MessageEnd::WriteFault.status(), EditStatus::WriteFault);
-    assert_eq!(rt; MessageEnd::Lost.status(), EditStatus::Lost);
+    assert_eq!(rt; MessageEnd::Unsent.status(), EditStatus::Lost);
+    assert_eq!(rt; MessageEnd::Unheard.status(), EditStatus::Lost);
+    assert_eq!(rt; MessageEnd::Unanswered.status(), EditStatus::Lost);
     assert_eq!(rt; MessageEnd::NoMemory.status(), EditStatus::NoMemory);
     Ok(())
 }

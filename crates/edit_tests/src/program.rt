@@ -1,7 +1,7 @@
 //! The program's runs: its words, the connection that is dialed, and how it ends.
 use crate::dialed::{FileTurn, Line, Turn, edits_lines, gives_file, words_of};
-use crate::lines::{OKAY, READY, SWAP};
-use edit_program::{USAGE, last_file_words, last_words, place_in};
+use crate::lines::{OKAY, OKAY_2, READY, SWAP};
+use edit_program::{USAGE, last_words, place_in};
 use edit_runs::EditStatus;
 use message_runs::MessageEnd;
 use mos_fields::{NoMemory, Text};
@@ -24,6 +24,10 @@ const SECOND: &str = "<mos><mosID>editor</mosID><ncsID>n</ncsID><messageID>2</me
 /// A message of a file.
 const MESSAGE: &str =
     "<mos><mosID>desk</mosID><ncsID>ncs1</ncsID><messageID>7</messageID><roReadyToAir><roID>EVENING</roID><roAir>READY</roAir></roReadyToAir></mos>";
+
+/// Its answer.
+const OKAY_7: &str =
+    "<mos><mosID>desk</mosID><ncsID>ncs1</ncsID><messageID>7</messageID><roAck><roID>EVENING</roID><roStatus>OK</roStatus></roAck></mos>";
 
 /// The front of a message.
 const CUT: &str = "<mos><mosID>desk</mosID><ncsID>ncs1</ncsID><messageID>8</messageID><roEl";
@@ -50,7 +54,7 @@ const PLACES: &str =
 fn edits_line<'a>(fails: &'a [u64]) -> Line<'a> {
     Line {
         sent: &[FIRST, SWAP, SECOND, READY],
-        answers: &[OKAY, OKAY],
+        answers: &[OKAY, OKAY_2],
         fails,
     }
 }
@@ -108,7 +112,7 @@ fn file_turn<'a>(
 fn message_line<'a>(fails: &'a [u64]) -> Line<'a> {
     Line {
         sent: &[MESSAGE],
-        answers: &[OKAY],
+        answers: &[OKAY_7],
         fails,
     }
 }
@@ -168,22 +172,53 @@ fn a_place_is_a_host_and_the_port_behind_its_last_colon(rt: HostRuntime) -> Resu
     Ok(())
 }
 
+// Whether these are the last words of a run of lines with the words of this row.
+fn says(alloc: Global, row: &str, status: EditStatus, text: &str) -> Result<bool, NoMemory> {
+    let words = words_of(alloc, row)?;
+    match last_words(alloc, &words, status)? {
+        Some(said) => Ok(said.as_str() == text),
+        None => Ok(text.is_empty()),
+    }
+}
+
+/// On each line words that are wrong, a bar, and what is said of them.
+const WRONG_WORDS: &str = "localhost n|localhost has no port: HOST:PORT is wanted
+localhost:99999 n|localhost:99999 has no port from 1 to 65535: HOST:PORT is wanted
+:7 n|:7 has no host: HOST:PORT is wanted
+localhost:7 |NCS_ID has to be 1 to 128 characters
+--nosuch n FILE|--nosuch is no option: --help and --version are";
+
+// Whether what is said of the words of a row is what stands behind its bar.
+fn is_said(alloc: Global, row: &str) -> Result<bool, NoMemory> {
+    match row.split_once('|') {
+        None => Ok(false),
+        Some((words, said)) => {
+            let text = format!(in alloc; "{said}\n{USAGE}")?;
+            says(alloc, words, EditStatus::Usage, text.as_str())
+        }
+    }
+}
+
+#[test]
+fn what_is_wrong_with_words_is_said(rt: HostRuntime) -> Result<(), Fail> {
+    for row in WRONG_WORDS.split('\n') {
+        assert!(rt; is_said(rt.alloc(), row)?);
+    }
+    assert!(rt; says(rt.alloc(), "localhost:7", EditStatus::Usage, USAGE)?);
+    Ok(())
+}
+
 #[test]
 fn what_went_wrong_is_said(rt: HostRuntime) -> Result<(), Fail> {
-    assert_eq!(rt; last_words(EditStatus::Usage), Some(USAGE));
-    assert_eq!(rt; last_words(EditStatus::Done), None);
-    assert_eq!(rt; last_words(EditStatus::Refused), None);
-    assert_eq!(rt;
-        last_words(EditStatus::ReadFault),
-        Some("ReadFault: standard input failed")
-    );
-    assert_eq!(rt;
-        last_file_words(EditStatus::ReadFault),
-        Some("ReadFault: FILE can't be opened or read")
-    );
-    assert_eq!(rt;
-        last_file_words(EditStatus::Lost),
-        last_words(EditStatus::Lost)
-    );
+    assert!(rt; says(rt.alloc(), WORDS, EditStatus::Done, "")?);
+    assert!(rt; says(rt.alloc(), WORDS, EditStatus::Refused, "")?);
+    let lost = "Lost: no connection to localhost:10542; nothing was sent";
+    assert!(rt; says(rt.alloc(), WORDS, EditStatus::Lost, lost)?);
+    let unsent = EditStatus::Unsent { line: 3 };
+    assert!(rt; says(rt.alloc(), WORDS, unsent, "Lost: line 3 couldn't be sent whole")?);
+    let unanswered = EditStatus::Unanswered { line: 3 };
+    let ended =
+        "Lost: the connection ended before the answer to line 3, which may have been taken";
+    assert!(rt; says(rt.alloc(), WORDS, unanswered, ended)?);
     Ok(())
 }

@@ -9,11 +9,10 @@ use Rattle.port_session.specs.declared.end.End.{End}
 use Rattle.port_session.specs.declared.inlet.Inlet.{Inlet}
 use Rattle.port_session.proofs.Readings.{reads_none, rose_from}
 use Rattle.port_session.proofs.Servings.{appends_more, appends_none}
-use Rattle.edit_lines.specs.Answers.{answer_text, is_wanted, wanted_by}
-use Rattle.edit_lines.specs.declared.wanted.Wanted.{Wanted}
+use Rattle.edit_lines.specs.Answers.{answer_text}
 use Rattle.edit_runs.specs.Runs.{HasGiven, HearsTold, IsHearing, IsNewInlet, Sent}
-use Rattle.edit_runs.specs.declared.status.EditStatus.{EditStatus}
-use Rattle.edit_runs.specs.declared.status.EditStatus.TheVariants as statuses
+use Rattle.edit_runs.specs.declared.halt.Halt.{Halt}
+use Rattle.edit_runs.specs.declared.halt.Halt.TheVariants as whys
 use Rattle.edit_runs.proofs.Goings.{front_all, front_none, front_same, given_now}
 use Rattle.message_runs.specs.Exchanges.{Exchange, answers_of, are_good, is_good, messages_of, sent_of, told_of, told_text}
 use Rattle.message_runs.specs.Given.{Ends, Given, Gives, Giving, Going, IsAnswered, IsOver, IsStopped, Rises, Sides, Stops, Turned, sides}
@@ -43,49 +42,42 @@ module _ (was a : Sides) (exchanges : List Exchange) (inlet : Inlet) (g : Going 
 
   module _ (bytes : List ℕ) (bytes_are : bytes ≡ encoding e) where
     -- the message couldn't be written
-    pub stops_unsent : (w : Option (List ℕ)) (m : ℕ) (status : EditStatus) → Sent a.sent w a.sends m bytes (Err status)
-        → Stops was a (sides a.left a.heard w m a.shown a.shows) (answers_of exchanges) e (stopped_by status)
-    stops_unsent w m statuses.Lost x = inl (record {
+    pub stops_unsent : (w : Option (List ℕ)) (m : ℕ) (why : Halt) → Sent a.sent w a.sends m bytes (Err why) → Stops was a (sides a.left a.heard w m a.shown a.shows) (answers_of exchanges) e (stopped_by why)
+    stops_unsent w m whys.Unsent x = record {
       sent = subst (λ (z : List ℕ). AppendsFront a.sent w z) bytes_are x.0;
       rose = rose_from was.sends a.sends m g.rises.sends x.1;
       given = given_before;
       shown = refl;
-    })
-    stops_unsent w m statuses.NoMemory x = record { sent = front_same a.sent w (encoding e) x; given = given_before; shown = refl }
-    stops_unsent w m statuses.Done x = absurd x
-    stops_unsent w m statuses.Refused x = absurd x
-    stops_unsent w m statuses.Usage x = absurd x
-    stops_unsent w m statuses.ReadFault x = absurd x
-    stops_unsent w m statuses.WriteFault x = absurd x
+    }
+    stops_unsent w m whys.NoMemory x = record { sent = front_same a.sent w (encoding e) x; given = given_before; shown = refl }
+    stops_unsent w m whys.Unheard x = absurd x
+    stops_unsent w m whys.Unanswered x = absurd x
+    stops_unsent w m whys.WriteFault x = absurd x
 
-    module _ (b : Sides) (inlet' : Inlet) (sent : Appends a.sent b.sent bytes) (label : List ℕ) (wanted : Wanted) where
+    module _ (b : Sides) (inlet' : Inlet) (sent : Appends a.sent b.sent bytes) (label : List ℕ) where
       was_sent : Appends a.sent b.sent (encoding e)
       was_sent = subst (λ (z : List ℕ). Appends a.sent b.sent z) bytes_are sent
 
       -- it was written, and no answer was told
-      pub stops_untold : (status : EditStatus) → HearsTold was.left was.heard b.left b.heard inlet' (answers_of exchanges) label wanted a.shown b.shown a.shows b.shows (Err status)
-          → Stops was a b (answers_of exchanges) e (stopped_by status)
-      stops_untold statuses.Lost x = inr (record { sent = was_sent; hung_up = x.0; shown = x.1 })
-      stops_untold statuses.WriteFault x = record { sent = was_sent; shown = x.1.0; rose = rose_from was.shows a.shows b.shows g.rises.shows x.1.1; given = x.0 }
-      stops_untold statuses.NoMemory x = record { sent = front_all a.sent b.sent (encoding e) was_sent; given = x.0; shown = x.1 }
-      stops_untold statuses.Done x = absurd x
-      stops_untold statuses.Refused x = absurd x
-      stops_untold statuses.Usage x = absurd x
-      stops_untold statuses.ReadFault x = absurd x
+      pub stops_untold : (why : Halt) → HearsTold was.left was.heard b.left b.heard inlet' (answers_of exchanges) label e a.shown b.shown a.shows b.shows (Err why) → Stops was a b (answers_of exchanges) e (stopped_by why)
+      stops_untold whys.Unheard x = record { sent = was_sent; hung_up = x.0; shown = x.1 }
+      stops_untold whys.Unanswered x = record { sent = was_sent; hung_up = x.0; shown = x.1 }
+      stops_untold whys.WriteFault x = record { sent = was_sent; shown = x.1.0; rose = rose_from was.shows a.shows b.shows g.rises.shows x.1.1; given = x.0 }
+      stops_untold whys.NoMemory x = record { sent = front_all a.sent b.sent (encoding e) was_sent; given = x.0; shown = x.1 }
+      stops_untold whys.Unsent x = absurd x
 
       -- the answer was told
-      module _ (label_is : label ≡ label_text e.message) (wanted_is : wanted ≡ wanted_by e.message) where
-        pub is_answered : (good : Bool) → HearsTold was.left was.heard b.left b.heard inlet' (answers_of exchanges) label wanted a.shown b.shown a.shows b.shows (Ok good) → a.heard ≤ b.heard → a.sends ≤ b.sends → a.shows ≤ b.shows
+      module _ (label_is : label ≡ label_text e.message) where
+        pub is_answered : (good : Bool) → HearsTold was.left was.heard b.left b.heard inlet' (answers_of exchanges) label e a.shown b.shown a.shows b.shows (Ok good) → a.heard ≤ b.heard → a.sends ≤ b.sends → a.shows ≤ b.shows
             → IsAnswered was b exchanges e inlet' good
         is_answered good x p q r = let y : Exchange = record { sent = e; answer = x.answer } in record {
           answer = x.answer;
-          good_is = x.good_is ∙ ap (λ (w : Wanted). is_wanted w x.answer.message) wanted_is;
+          good_is = x.good_is;
           going = record {
             reads = subst (λ (all : List Envelope). InletReads was.left was.heard b.left b.heard inlet' all) (answers_more exchanges y) x.reads;
             sent = subst (λ (z : List ℕ). Appends was.sent b.sent z) (sent_more exchanges y) (appends_more was.sent a.sent b.sent (sent_of exchanges) (encoding e) g.sent was_sent);
             shown = subst (λ (z : List ℕ). Appends was.shown b.shown z) (told_more exchanges y) (appends_more was.shown a.shown b.shown (told_of exchanges) (told_text y) g.shown
-                (subst (λ (w : Wanted). Appends a.shown b.shown (answer_text w (label_text e.message) x.answer.message)) wanted_is
-                (subst (λ (z : List ℕ). Appends a.shown b.shown (answer_text wanted z x.answer.message)) label_is x.shows)));
+                (subst (λ (z : List ℕ). Appends a.shown b.shown (answer_text e z x.answer)) label_is x.shows));
             rises = rising b p q r;
           };
         }

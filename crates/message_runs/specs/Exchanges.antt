@@ -3,7 +3,7 @@ use Rattle.std.specs.Prelude.{ℕ, Bool, List, map}
 use Rattle.std.specs.List.{flat_map, list_all}
 use Rattle.mos_codec.specs.Codec.{encoding}
 use Rattle.mos_values.specs.declared.message.Envelope.{Envelope}
-use Rattle.edit_lines.specs.Answers.{answer_text, is_wanted, wanted_by}
+use Rattle.edit_lines.specs.Answers.{answer_text, is_wanted}
 use Rattle.message_runs.specs.Labels.{label_text}
 
 -- a message that was sent, and the one that answered it
@@ -13,11 +13,11 @@ pub record Exchange : Type 0 where
 
 -- what is told of an answer, behind the message's label
 abbrev pub told_text : Exchange → List ℕ
-told_text x = answer_text (wanted_by x.sent.message) (label_text x.sent.message) x.answer.message
+told_text x = answer_text x.sent (label_text x.sent.message) x.answer
 
 -- the answer is the one that the message wanted
 abbrev pub is_good : Exchange → Bool
-is_good x = is_wanted (wanted_by x.sent.message) x.answer.message
+is_good x = is_wanted x.sent x.answer
 
 -- ---- one after another
 

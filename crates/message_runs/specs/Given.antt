@@ -8,11 +8,13 @@ use Rattle.mos_values.specs.declared.message.Envelope.{Envelope}
 use Rattle.port_session.specs.Reading.{Halts, InletReads}
 use Rattle.port_session.specs.declared.end.End.{End}
 use Rattle.port_session.specs.declared.inlet.Inlet.{Inlet}
+use Rattle.edit_runs.specs.declared.halt.Halt.{Halt}
+use Rattle.edit_runs.specs.declared.halt.Halt.TheVariants as whys
 use Rattle.edit_runs.specs.Runs.{AppendsSome, HasGiven, IsHungUp}
 use Rattle.message_runs.specs.Exchanges.{Exchange, answers_of, are_good, is_good, messages_of, sent_of, told_of}
 use Rattle.message_runs.specs.MessageEnds.{ended_by}
 use Rattle.message_runs.specs.declared.message_end.MessageEnd.{MessageEnd}
-use Rattle.message_runs.specs.declared.message_end.MessageEnd.TheVariants.{WriteFault, Lost, NoMemory}
+use Rattle.message_runs.specs.declared.message_end.MessageEnd.TheVariants.{WriteFault, Unsent, Unheard, Unanswered, NoMemory}
 
 -- What is left of the connection, what was written to it and what was told, and the counts of faults of each.
 pub record Sides : Type 0 where
@@ -49,10 +51,10 @@ pub record IsUnsent (was between now : Sides) (answers : List Envelope) (next : 
   pub given : HasGiven was.left was.heard now.left now.heard answers
   pub shown : now.shown ≡ between.shown
 
--- The message was sent, and the connection gave no answer. Nothing was told of it.
-pub record IsUnanswered (was between now : Sides) (answers : List Envelope) (next : Envelope) : Type 0 where
+-- The message was sent, and the connection gave no answer, for this reason. Nothing was told of it.
+pub record IsUnanswered (was between now : Sides) (answers : List Envelope) (next : Envelope) (why : Halt) : Type 0 where
   pub sent : Appends between.sent now.sent (encoding next)
-  pub hung_up : IsHungUp was.left was.heard now.left now.heard answers
+  pub hung_up : IsHungUp was.left was.heard now.left now.heard answers why
   pub shown : now.shown ≡ between.shown
 
 -- The message was sent, and a write of what is told failed: at most a part of one text was told.
@@ -70,7 +72,9 @@ pub record IsStarved (was between now : Sides) (answers : List Envelope) (next :
 
 -- Why a run stops at the next message, which had these answers before, and what was done about that message.
 abbrev pub Stops : Sides → Sides → Sides → List Envelope → Envelope → MessageEnd → Type 0
-Stops was between now answers next Lost = IsUnsent was between now answers next ⊎ IsUnanswered was between now answers next
+Stops was between now answers next Unsent = IsUnsent was between now answers next
+Stops was between now answers next Unheard = IsUnanswered was between now answers next whys.Unheard
+Stops was between now answers next Unanswered = IsUnanswered was between now answers next whys.Unanswered
 Stops was between now answers next WriteFault = IsUntold was between now answers next
 Stops was between now answers next NoMemory = IsStarved was between now answers next
 Stops was between now answers next end = ⊥

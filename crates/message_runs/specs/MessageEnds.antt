@@ -3,10 +3,12 @@ use Rattle.std.specs.Prelude.{ℕ, Bool, true, false}
 use Rattle.mos_lexer.specs.declared.kind.Kind.TheVariants as kinds
 use Rattle.port_session.specs.declared.end.End.{End}
 use Rattle.port_session.specs.declared.end.End.TheVariants as ends
+use Rattle.edit_runs.specs.declared.halt.Halt.{Halt}
+use Rattle.edit_runs.specs.declared.halt.Halt.TheVariants as whys
 use Rattle.edit_runs.specs.declared.status.EditStatus.{EditStatus}
 use Rattle.edit_runs.specs.declared.status.EditStatus.TheVariants as statuses
 use Rattle.message_runs.specs.declared.message_end.MessageEnd.{MessageEnd}
-use Rattle.message_runs.specs.declared.message_end.MessageEnd.TheVariants.{Done, Refused, Rejected, ReadFault, WriteFault, Lost, NoMemory}
+use Rattle.message_runs.specs.declared.message_end.MessageEnd.TheVariants.{Done, Refused, Rejected, ReadFault, WriteFault, Unsent, Unheard, Unanswered, NoMemory}
 
 -- the status that the program ends with
 abbrev pub status_of : MessageEnd → EditStatus
@@ -15,14 +17,18 @@ status_of Refused = statuses.Refused
 status_of (Rejected place kind) = statuses.Refused
 status_of ReadFault = statuses.ReadFault
 status_of WriteFault = statuses.WriteFault
-status_of Lost = statuses.Lost
+status_of Unsent = statuses.Lost
+status_of Unheard = statuses.Lost
+status_of Unanswered = statuses.Lost
 status_of NoMemory = statuses.NoMemory
 
 -- where a message couldn't be sent, or its answer couldn't be heard and told
-abbrev pub stopped_by : EditStatus → MessageEnd
-stopped_by statuses.Lost = Lost
-stopped_by statuses.WriteFault = WriteFault
-stopped_by status = NoMemory
+abbrev pub stopped_by : Halt → MessageEnd
+stopped_by whys.Unsent = Unsent
+stopped_by whys.Unheard = Unheard
+stopped_by whys.Unanswered = Unanswered
+stopped_by whys.WriteFault = WriteFault
+stopped_by whys.NoMemory = NoMemory
 
 -- where the stream was read to its end, and each message had the answer that it wanted, or one had another
 abbrev pub finished : Bool → MessageEnd

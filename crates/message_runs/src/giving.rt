@@ -8,7 +8,6 @@ ghost use Rattle.message_runs.specs.Labels.{label_text};
 
 use crate::label::label_of;
 use crate::message_end::{MessageEnd, stopped_by};
-use edit_lines::wanted_of;
 use edit_runs::{hear, send};
 use mos_fields::pair_ok;
 use mos_io::{Sink, Source};
@@ -39,9 +38,9 @@ fn give_bytes<R: Wait, C: Source, D: Sink, K: Sink>(
     ensures shows { K.faults out.old ≤ K.faults out.new }
 {
     match send(to, bytes) {
-        Err(status) => Err(stopped_by(status)),
-        Ok(()) => match hear(rt, alloc, inlet, from, out, label, wanted_of(&e.message)) {
-            Err(status) => Err(stopped_by(status)),
+        Err(halt) => Err(stopped_by(halt)),
+        Ok(()) => match hear(rt, alloc, inlet, from, out, label, e) {
+            Err(halt) => Err(stopped_by(halt)),
             Ok(good) => Ok(good),
         },
     }

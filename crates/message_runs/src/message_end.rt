@@ -2,7 +2,7 @@
 ghost use Rattle.std.specs.Prelude.{◌≡◌};
 ghost use Rattle.message_runs.specs.MessageEnds.{ended_by as ended_by_of, status_of, stopped_by as stopped_by_of};
 
-use edit_runs::EditStatus;
+use edit_runs::{EditStatus, Halt};
 use mos_lexer::Kind;
 use port_session::End;
 
@@ -24,14 +24,19 @@ pub enum MessageEnd {
     ReadFault,
     /// What was told couldn't be written.
     WriteFault,
-    /// The connection broke, or gave no whole answer.
-    Lost,
+    /// A write to the connection failed: the message behind the last one whose answer was told wasn't sent whole.
+    Unsent,
+    /// The message behind the last one whose answer was told was sent, and a read of the connection failed before its answer came.
+    Unheard,
+    /// The message behind the last one whose answer was told was sent, and the connection ended before its answer came, or gave what
+    /// is no message.
+    Unanswered,
     /// Memory ran out.
     NoMemory,
 }
 
 impl MessageEnd {
-    /// The status that the program ends with.
+    /// The status that the program ends with. Each of the three ways to lose the connection has the status `Lost`.
     pub fn status(self) -> EditStatus
         ensures { result ≡ status_of self }
     {
@@ -41,20 +46,24 @@ impl MessageEnd {
             MessageEnd::Rejected { place: _, kind: _ } => EditStatus::Refused,
             MessageEnd::ReadFault => EditStatus::ReadFault,
             MessageEnd::WriteFault => EditStatus::WriteFault,
-            MessageEnd::Lost => EditStatus::Lost,
+            MessageEnd::Unsent => EditStatus::Lost,
+            MessageEnd::Unheard => EditStatus::Lost,
+            MessageEnd::Unanswered => EditStatus::Lost,
             MessageEnd::NoMemory => EditStatus::NoMemory,
         }
     }
 }
 
 /// How a run ends whose message couldn't be sent, or whose answer couldn't be heard and told, for this reason.
-pub(crate) fn stopped_by(status: EditStatus) -> MessageEnd
-    ensures { result ≡ stopped_by_of status }
+pub(crate) fn stopped_by(halt: Halt) -> MessageEnd
+    ensures { result ≡ stopped_by_of halt }
 {
-    match status {
-        EditStatus::Lost => MessageEnd::Lost,
-        EditStatus::WriteFault => MessageEnd::WriteFault,
-        _ => MessageEnd::NoMemory,
+    match halt {
+        Halt::Unsent => MessageEnd::Unsent,
+        Halt::Unheard => MessageEnd::Unheard,
+        Halt::Unanswered => MessageEnd::Unanswered,
+        Halt::WriteFault => MessageEnd::WriteFault,
+        Halt::NoMemory => MessageEnd::NoMemory,
     }
 }
 

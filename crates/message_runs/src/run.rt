@@ -45,8 +45,10 @@ fn run_all<R: Wait, S: Source, C: Source, D: Sink, K: Sink>(
 /// `Done` and `Refused` come where the stream was read to its end, `Done` where each message had the answer that it wanted:
 /// a roReq a roList, roReqAll a roListAll, and any other a roAck with the text `OK`. `Rejected` comes where the stream is rejected,
 /// or ends inside a message, or where 2^64 - 1 bytes of it were read; the messages before that were given and answered.
-/// `ReadFault` comes only where the count of faults of `source` rose; `Lost` where that of `to` rose, or `from` failed, ended or
-/// gave what is no message; `WriteFault` where that of `out` rose. The call waits where the connection does.
+/// An answer that isn't for its message, by its messageID or its roID, is another one. `ReadFault` comes only where the count of
+/// faults of `source` rose; `Unsent` where that of `to` rose, `Unheard` where a read of `from` failed before an answer came, and
+/// `Unanswered` where `from` ended before that or gave what is no message; `WriteFault` where that of `out` rose. The call waits
+/// where the connection does.
 pub fn run_messages<R: Wait, S: Source, C: Source, D: Sink, K: Sink>(
     rt: &R,
     alloc: Global,

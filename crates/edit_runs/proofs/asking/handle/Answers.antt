@@ -20,4 +20,4 @@ returns-in-Ok-NoEdit-clause-handled g c lines was w =
 pub returns-in-Ok-Sends-clause-handled : goal.returns-in-Ok-Sends-clause-handled
 returns-in-Ok-Sends-clause-handled g c lines was w =
     let asks = subst (λ r. IsRequest c.args.names.now c.args.counts.now.number (asked_of c.args.line.now) r) c.in-Ok-Sends.field-0-is c.in-Ok-Sends.ensures in
-    c.ask.ensures.handled _ lines was _ _ w (rw c.deref.ensures.value asks)
+    c.ask-answered.ensures.handled _ lines was _ _ w (rw c.deref.ensures.value asks)

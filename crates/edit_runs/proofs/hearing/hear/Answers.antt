@@ -7,4 +7,4 @@ returns-in-Ok-clause-told g c l f given r = told_by l f _ _ _ given _ _ _ _ _ _ 
 
 pub returns-in-Err-clause-told : goal.returns-in-Err-clause-told
 returns-in-Err-clause-told g c l f given r =
-    rw c.lost_by.ensures (untold_by l f _ _ c.next_answer.new.inlet given c.args.line.now c.args.wanted _ _ _ _ _ _ (c.in-Err.ensures.heard l f given r).0 refl)
+    rw c.lost_by.ensures (untold_by l f _ _ c.next_answer.new.inlet given c.args.line.now c.args.asked.now _ _ _ _ _ _ (c.in-Err.ensures.heard l f given r).0 refl)
