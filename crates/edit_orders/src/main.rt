@@ -70,9 +70,9 @@ fn dialer_of<R: Net<Stream = TcpStream> + Clock + Wait + Eprint + AllocGlobal + 
 /// What is said of an answer `NOT FOR ME`.
 fn hint_of(rt: &HostRuntime, words: &[String]) -> Result<String, NoMemory> {
     match words {
-        [place, id] => Ok(
-            format!(in rt.alloc(); "the server at {place} isn't {id}: use the ncs_id of its settings\n")?,
-        ),
+        [place, id] => Ok(format!(in rt.alloc();
+            "the server at {place} isn't {id}: use the ncs_id of its settings\n"
+        )?),
         _ => Ok(String::new(rt.alloc())),
     }
 }
@@ -81,12 +81,7 @@ fn hint_of(rt: &HostRuntime, words: &[String]) -> Result<String, NoMemory> {
 fn run_source<
     R: Net<Stream = TcpStream> + Clock + Wait + Eprint + AllocGlobal + Copy + Drop,
     S: Source,
->(
-    rt: &R,
-    host: &HostRuntime,
-    words: &[String],
-    source: &mut S,
-) -> EditStatus {
+>(rt: &R, host: &HostRuntime, words: &[String], source: &mut S) -> EditStatus {
     let Ok(hint) = hint_of(host, words) else {
         return EditStatus::NoMemory;
     };

@@ -126,27 +126,23 @@ fn wrong_place(alloc: Global, word: &str) -> Result<Option<String>, NoMemory> {
             }
         }
     };
-    Ok(Some(
-        format!(in alloc; "{word} {wrong}: HOST:PORT is wanted\n{USAGE}")?,
-    ))
+    Ok(Some(format!(in alloc; "{word} {wrong}: HOST:PORT is wanted\n{USAGE}")?))
 }
 
 // The same of the word behind it, where that one is right.
 fn wrong_server(alloc: Global, first: &str) -> Result<Option<String>, NoMemory> {
     match wrong_place(alloc, first)? {
         Some(wrong) => Ok(Some(wrong)),
-        None => Ok(Some(
-            format!(in alloc; "NCS_ID has to be 1 to 128 characters\n{USAGE}")?,
-        )),
+        None => Ok(Some(format!(in alloc; "NCS_ID has to be 1 to 128 characters\n{USAGE}")?)),
     }
 }
 
 // What is printed on standard error for wrong words.
 fn usage_words(alloc: Global, words: &[String]) -> Result<Option<String>, NoMemory> {
     if let Some(word) = option_in(words) {
-        return Ok(Some(
-            format!(in alloc; "{word} is no option: --help and --version are\n{USAGE}")?,
-        ));
+        return Ok(Some(format!(in alloc;
+            "{word} is no option: --help and --version are\n{USAGE}"
+        )?));
     }
     match words {
         [first, _] | [first, _, _] => wrong_server(alloc, first.as_str()),
@@ -157,9 +153,9 @@ fn usage_words(alloc: Global, words: &[String]) -> Result<Option<String>, NoMemo
 // What is printed where the connection couldn't be opened.
 fn unopened_words(alloc: Global, words: &[String]) -> Result<Option<String>, NoMemory> {
     match words {
-        [place, ..] => Ok(Some(
-            format!(in alloc; "Lost: no connection to {place}; nothing was sent")?,
-        )),
+        [place, ..] => Ok(Some(format!(in alloc;
+            "Lost: no connection to {place}; nothing was sent"
+        )?)),
         [] => text(alloc, "Lost: no connection"),
     }
 }
@@ -178,15 +174,15 @@ pub fn last_words(
         EditStatus::WriteFault => text(alloc, "WriteFault: an output failed"),
         EditStatus::NoMemory => text(alloc, "NoMemory"),
         EditStatus::Lost => unopened_words(alloc, words),
-        EditStatus::Unsent { line } => Ok(Some(
-            format!(in alloc; "Lost: line {line} couldn't be sent whole")?,
-        )),
-        EditStatus::Unheard { line } => Ok(Some(
-            format!(in alloc; "Lost: the answer to line {line} couldn't be read; the line may have been taken")?,
-        )),
-        EditStatus::Unanswered { line } => Ok(Some(
-            format!(in alloc; "Lost: the connection ended before the answer to line {line}, which may have been taken")?,
-        )),
+        EditStatus::Unsent { line } => Ok(Some(format!(in alloc;
+            "Lost: line {line} couldn't be sent whole"
+        )?)),
+        EditStatus::Unheard { line } => Ok(Some(format!(in alloc;
+            "Lost: the answer to line {line} couldn't be read; the line may have been taken"
+        )?)),
+        EditStatus::Unanswered { line } => Ok(Some(format!(in alloc;
+            "Lost: the connection ended before the answer to line {line}, which may have been taken"
+        )?)),
     }
 }
 
@@ -219,9 +215,7 @@ pub fn last_file_words(
 ) -> Result<Option<String>, NoMemory> {
     match status {
         EditStatus::ReadFault => match words {
-            [_, _, path] => Ok(Some(
-                format!(in alloc; "ReadFault: {path} can't be opened")?,
-            )),
+            [_, _, path] => Ok(Some(format!(in alloc; "ReadFault: {path} can't be opened")?)),
             _ => text(alloc, "ReadFault: FILE can't be opened"),
         },
         _ => last_words(alloc, words, status),

@@ -61,8 +61,7 @@ pub const EMPTY_ORDER: &str =
 pub const TWO_ORDERS: &str =
     "<mos><mosID>e</mosID><ncsID>n</ncsID><roListAll><ro><roID>R1</roID><roSlug>Six</roSlug></ro><ro><roID>R2</roID><roSlug>Ten</roSlug></ro></roListAll></mos>";
 
-pub const NO_ORDERS: &str =
-    "<mos><mosID>e</mosID><ncsID>n</ncsID><roListAll></roListAll></mos>";
+pub const NO_ORDERS: &str = "<mos><mosID>e</mosID><ncsID>n</ncsID><roListAll></roListAll></mos>";
 
 /// What is noted of lines that are no edit.
 const NOTES: &str = "line 3: 'Swap' begins no edit; edit_orders --help lists them

@@ -215,10 +215,16 @@ fn what_went_wrong_is_said(rt: HostRuntime) -> Result<(), Fail> {
     let lost = "Lost: no connection to localhost:10542; nothing was sent";
     assert!(rt; says(rt.alloc(), WORDS, EditStatus::Lost, lost)?);
     let unsent = EditStatus::Unsent { line: 3 };
-    assert!(rt; says(rt.alloc(), WORDS, unsent, "Lost: line 3 couldn't be sent whole")?);
+    assert!(rt;
+        says(
+            rt.alloc(),
+            WORDS,
+            unsent,
+            "Lost: line 3 couldn't be sent whole"
+        )?
+    );
     let unanswered = EditStatus::Unanswered { line: 3 };
-    let ended =
-        "Lost: the connection ended before the answer to line 3, which may have been taken";
+    let ended = "Lost: the connection ended before the answer to line 3, which may have been taken";
     assert!(rt; says(rt.alloc(), WORDS, unanswered, ended)?);
     Ok(())
 }

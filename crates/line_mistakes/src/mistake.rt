@@ -42,11 +42,7 @@ fn ends_with_return(line: &[u8]) -> bool
 }
 
 // The mistake of words each of which is right for itself: a story that stands twice behind the roID.
-fn twice<'a>(
-    alloc: Global,
-    verb: LineVerb,
-    words: &[&'a [u8]],
-) -> Result<Mistake<'a>, NoMemory>
+fn twice<'a>(alloc: Global, verb: LineVerb, words: &[&'a [u8]]) -> Result<Mistake<'a>, NoMemory>
     ensures { IfOk result (λ mistake. seen mistake ≡ twice_mistake verb (words_in words.now)) }
 {
     match words {

@@ -27,10 +27,7 @@ fn story_name<'a>(alloc: Global, word: &'a [u8]) -> Result<&'a [u8], NoMemory>
 }
 
 /// The names of the stories that words are. The only error is that memory runs out.
-pub(crate) fn story_names<'a>(
-    alloc: Global,
-    words: &[&'a [u8]],
-) -> Result<Vec<&'a [u8]>, NoMemory>
+pub(crate) fn story_names<'a>(alloc: Global, words: &[&'a [u8]]) -> Result<Vec<&'a [u8]>, NoMemory>
     ensures { IfOk result (λ names. words_in names.items ≡ map story_name_of (words_in words.now)) }
 {
     let mut names = Vec::new(alloc);
