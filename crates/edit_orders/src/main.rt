@@ -183,14 +183,18 @@ fn file_status(
 }
 
 /// What the program comes to with these words.
-fn run_words(rt: &HostRuntime, words: &[String]) -> EditStatus {
+fn run_words<R: Net<Stream = TcpStream> + Clock + Wait + Eprint + AllocGlobal + Copy + Drop>(
+    rt: &R,
+    host: &HostRuntime,
+    words: &[String],
+) -> EditStatus {
     if let Some(text) = about(words) {
-        return print_text(rt, text);
+        return print_text(host, text);
     }
     if option_in(words).is_some() {
         return EditStatus::Usage;
     }
-    run_lines(rt, rt, words)
+    run_lines(rt, host, words)
 }
 
 fn main(rt: HostRuntime) -> ExitCode {
@@ -207,7 +211,7 @@ fn main(rt: HostRuntime) -> ExitCode {
             file_status(&rt, &words, ran)
         }
         _ => {
-            let status = run_words(&rt, &words);
+            let status = run_words(&rt, &rt, &words);
             say(&rt, last_words(rt.alloc(), &words, status));
             status
         }
