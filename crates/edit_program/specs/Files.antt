@@ -47,18 +47,13 @@ pub record HasGivenFile (was now : FileStreams) (end : MessageEnd) : Type 0 wher
   pub sends_later : ℕ
   pub ends : Ends was.left was.reads now.left now.reads (sides left heard sent sends was.shown was.shows) (sides left_later heard_later sent_later sends_later now.shown now.shows) end
 
--- A run was made over a connection that the dialer opened; or it opened none, and nothing was read or written.
+-- A run was made over a connection that the dialer opened; or it opened none, or wasn't called for want of memory, and nothing was
+-- read or written.
 abbrev pub Gave : Dials → Dials → FileStreams → FileStreams → Result MessageEnd EditStatus → Type 0
 Gave before after was now (Ok end) = HasOpened before after × HasGivenFile was now end
 Gave before after was now (Err statuses.Lost) = HasFailed before after × (now ≡ was)
+Gave before after was now (Err statuses.NoMemory) = (after ≡ before) × (now ≡ was)
 Gave before after was now (Err status) = ⊥
-
--- The same, or memory ran out before the dialer was called: nothing was read or written.
-abbrev pub GaveTo : Dials → Dials → FileStreams → FileStreams → Result MessageEnd EditStatus → Type 0
-GaveTo before after was now (Ok end) = HasOpened before after × HasGivenFile was now end
-GaveTo before after was now (Err statuses.Lost) = HasFailed before after × (now ≡ was)
-GaveTo before after was now (Err statuses.NoMemory) = (after ≡ before) × (now ≡ was)
-GaveTo before after was now (Err status) = ⊥
 
 -- How the program's run ends. The dialer is called, and a run is made, only with the words that it has to be given. Without a run
 -- nothing is read or written.

@@ -1,7 +1,7 @@
 //! A run of the messages of a file.
 ghost use Rattle.std.specs.Prelude.{◌∷◌, [], map, string_bytes};
 ghost use Rattle.edit_program.specs.Dials.{dials};
-ghost use Rattle.edit_program.specs.Files.{Checks, FileEnds, Gave, GaveTo, HasGivenFile, file_streams};
+ghost use Rattle.edit_program.specs.Files.{Checks, FileEnds, Gave, HasGivenFile, file_streams};
 
 use crate::server::{Server, port_to, server_in, tell_silence};
 use edit_runs::EditStatus;
@@ -87,7 +87,7 @@ fn give_to<R: AllocGlobal + Wait, D: Dialer, S: Source, K: Sink>(
     source: &mut S,
     out: &mut K,
 ) -> Result<MessageEnd, EditStatus>
-    ensures { GaveTo (dials (D.links dialer.old) (D.calls dialer.old) (D.faults dialer.old)) (dials (D.links dialer.new) (D.calls dialer.new) (D.faults dialer.new)) (file_streams (S.left source.old) (S.faults source.old) (K.written out.old) (K.faults out.old)) (file_streams (S.left source.new) (S.faults source.new) (K.written out.new) (K.faults out.new)) result }
+    ensures { Gave (dials (D.links dialer.old) (D.calls dialer.old) (D.faults dialer.old)) (dials (D.links dialer.new) (D.calls dialer.new) (D.faults dialer.new)) (file_streams (S.left source.old) (S.faults source.old) (K.written out.old) (K.faults out.old)) (file_streams (S.left source.new) (S.faults source.new) (K.written out.new) (K.faults out.new)) result }
 {
     match port_to(&server.id) {
         Ok(port) => give_at(rt, &server.place, &port, dialer, source, out),

@@ -7,7 +7,7 @@ ghost use Rattle.edit_program.specs.Words.{editor_id as editor_id_of};
 use crate::server::{Server, port_to, server_in, tell_silence};
 use edit_lines::Names;
 use edit_runs::{EditStatus, run_edits};
-use mos_fields::{Id, NoMemory, pair_ok};
+use mos_fields::{Id, NoMemory};
 use mos_io::{Sink, Source};
 use port_links::{Dialer, Link, News, Place};
 use port_session::Port;
@@ -107,10 +107,12 @@ fn run_to<R: AllocGlobal + Wait, D: Dialer, S: Source, K: Sink, E: Sink>(
     ensures { Connects server.id (dials (D.links dialer.old) (D.calls dialer.old) (D.faults dialer.old)) (dials (D.links dialer.new) (D.calls dialer.new) (D.faults dialer.new)) (streams (S.left source.old) (S.faults source.old) (K.written out.old) (K.faults out.old) (E.written notes.old) (E.faults notes.old)) (streams (S.left source.new) (S.faults source.new) (K.written out.new) (K.faults out.new) (E.written notes.new) (E.faults notes.new)) result ⊎ IsStarved (dials (D.links dialer.old) (D.calls dialer.old) (D.faults dialer.old)) (dials (D.links dialer.new) (D.calls dialer.new) (D.faults dialer.new)) (streams (S.left source.old) (S.faults source.old) (K.written out.old) (K.faults out.old) (E.written notes.old) (E.faults notes.old)) (streams (S.left source.new) (S.faults source.new) (K.written out.new) (K.faults out.new) (E.written notes.new) (E.faults notes.new)) result }
 {
     let place = server.place;
-    let port = port_to(&server.id);
-    match pair_ok(port, names_of(rt.alloc(), server.id)) {
-        Ok((port, names)) => run_at(rt, &place, &port, &names, dialer, source, out, notes),
+    match port_to(&server.id) {
         Err(_) => EditStatus::NoMemory,
+        Ok(port) => match names_of(rt.alloc(), server.id) {
+            Ok(names) => run_at(rt, &place, &port, &names, dialer, source, out, notes),
+            Err(_) => EditStatus::NoMemory,
+        },
     }
 }
 
