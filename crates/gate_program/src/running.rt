@@ -51,7 +51,7 @@ where
         Ok(objects) => objects,
         Err(end) => return end,
     };
-    let Ok(common) = Arc::new(alloc, Common::new(1)) else {
+    let Ok(common) = Arc::new(alloc, Common::at_address(1, given.listen)) else {
         return ProgramEnd::NoMemory;
     };
     let listeners = match ports_of(rt, given, &common, why) {

@@ -3,13 +3,33 @@ use crate::common::Common;
 use connection_lines::{say, shut_line};
 use port_events::Side;
 use std::alloc::Global;
-use std::net::{Ipv4Addr, Net, TcpStream};
+use std::net::{IpAddr, Ipv4Addr, Ipv6Addr, Net, TcpStream};
 use std::time::Clock;
+
+// Where a port that listens at this address is reached from this machine.
+fn near_address(address: IpAddr) -> IpAddr {
+    match address {
+        IpAddr::V4(own) => {
+            if own.is_unspecified() {
+                IpAddr::V4(Ipv4Addr::LOCALHOST)
+            } else {
+                address
+            }
+        }
+        IpAddr::V6(own) => {
+            if own.is_unspecified() {
+                IpAddr::V6(Ipv6Addr::LOCALHOST)
+            } else {
+                address
+            }
+        }
+    }
+}
 
 // Opens a connection to the port, if it awaits one, so that it sees that the program is to end.
 fn wake_port<R: Net<Stream = TcpStream>>(rt: &R, common: &Common, side: Side) {
     if let Some(port) = common.at(side).listens() {
-        let _ = TcpStream::connect(rt, (Ipv4Addr::LOCALHOST, port));
+        let _ = TcpStream::connect(rt, (near_address(common.address()), port));
     }
 }
 
