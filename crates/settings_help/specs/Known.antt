@@ -1,5 +1,5 @@
 -- The keys that the programs know, and the lines on those that they don't.
-use Rattle.std.specs.Prelude.{ℕ, suc, Bool, true, false, cond, ◌+◌, List, [], ◌∷◌, ◌++◌, codes, Option, Some, None}
+use Rattle.std.specs.Prelude.{ℕ, suc, Bool, true, false, cond, ◌+◌, List, [], ◌∷◌, ◌++◌, codes, Option, Some}
 use Rattle.std.specs.Str.{chars}
 use Rattle.toml.specs.Data.{Data, table, Members, no_members, member, Items, no_items, item}
 use Rattle.mos_fields.specs.Fields.{same}

@@ -1,5 +1,5 @@
 -- The lines that explain a fault.
-use Rattle.std.specs.Prelude.{ℕ, Bool, cond, ◌==◌, nat_lt, List, [], ◌∷◌, ◌++◌, map, codes, string_bytes}
+use Rattle.std.specs.Prelude.{ℕ, cond, ◌==◌, nat_lt, List, [], ◌∷◌, ◌++◌, codes, string_bytes}
 use Rattle.std.specs.List.{flat_map}
 use Rattle.std.specs.Char.{encode_utf8}
 use Rattle.std.specs.Fmt.{decimal}
