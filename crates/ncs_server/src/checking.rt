@@ -23,11 +23,7 @@ fn end_of(cause: StartCause) -> ProgramEnd
 }
 
 // The bytes of the journal, or nothing where there is none yet.
-fn bytes_of(
-    rt: &HostRuntime,
-    path: &str,
-    why: &mut Why,
-) -> Result<Option<Vec<u8>>, ProgramEnd>
+fn bytes_of(rt: &HostRuntime, path: &str, why: &mut Why) -> Result<Option<Vec<u8>>, ProgramEnd>
     ensures { IfErr result (λ end. IsServerRunEnd end) }
 {
     match fs::read(rt, path) {
@@ -56,16 +52,22 @@ fn say_found(rt: &HostRuntime, path: &str, log: &str, devices: usize, found: Jou
     let (orders, entries, rest) = (found.orders, found.entries, found.rest);
     let (of_devices, of_orders) = (ending(devices as u64), ending(orders));
     let of_entries = entry_word(entries);
-    let _ = println!(rt; "{path}: {devices} device{of_devices}, {orders} order{of_orders}, {entries} {of_entries} in {log}");
+    let _ = println!(rt;
+        "{path}: {devices} device{of_devices}, {orders} order{of_orders}, {entries} {of_entries} in {log}"
+    );
     if rest > 0 {
-        let _ = println!(rt; "{log}: {rest} bytes behind the last entry are no whole entry; a start takes them off");
+        let _ = println!(rt;
+            "{log}: {rest} bytes behind the last entry are no whole entry; a start takes them off"
+        );
     }
 }
 
 // Says that there is no journal yet.
 fn say_none(rt: &HostRuntime, path: &str, log: &str, devices: usize) {
     let of_devices = ending(devices as u64);
-    let _ = println!(rt; "{path}: {devices} device{of_devices}; there is no journal {log} yet, a start makes it");
+    let _ = println!(rt;
+        "{path}: {devices} device{of_devices}; there is no journal {log} yet, a start makes it"
+    );
 }
 
 // Looks at the journal at this path.

@@ -42,11 +42,7 @@ fn say_notes(rt: &HostRuntime, path: &str, text: &[u8], settings: &ServerSetting
 
 /// The settings in a file. What may be a mistake is said on standard error; why there are none stands in `why`.
 #[tactic(auto, using(program_ends::proofs::RunEnds::unread_settings, program_ends::proofs::RunEnds::refused_settings))]
-pub(crate) fn settings_in(
-    rt: &HostRuntime,
-    path: &str,
-    why: &mut Why,
-) -> Result<Given, ProgramEnd>
+pub(crate) fn settings_in(rt: &HostRuntime, path: &str, why: &mut Why) -> Result<Given, ProgramEnd>
     ensures devices { IfOk result (λ g. AreDevices g.settings.devices) }
     ensures fault { IfErr result (λ end. IsNoSettings end) }
 {

@@ -124,12 +124,7 @@ pub fn taken_line(alloc: Global, path: &str) -> Result<String, NoMemory>
 }
 
 /// The line of a port that couldn't be opened: its number, the cause, and its key.
-pub fn no_port_line(
-    alloc: Global,
-    port: u16,
-    side: Side,
-    cause: &str,
-) -> Result<String, NoMemory>
+pub fn no_port_line(alloc: Global, port: u16, side: Side, cause: &str) -> Result<String, NoMemory>
     ensures { IfOk result (λ line. string_bytes line ≡ no_port port side cause.now) }
 {
     let mut line = String::new(alloc);
