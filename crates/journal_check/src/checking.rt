@@ -23,13 +23,16 @@ pub struct JournalFound {
     pub rest: u64,
 }
 
-// How many bytes stand before the zeros at the end.
+// How many bytes stand before the zeros at the end, with the other half of a code unit.
 fn before_zeros(bytes: &[u8]) -> usize
     ensures within { result ≤ length bytes.now }
     ensures zeros { AllByRecursion (λ b. b ≡ 0) (drop result bytes.now) }
 {
     let mut count = bytes.len();
-    while count > 0 && bytes[count - 1] == 0 {
+    while count > 0
+        && bytes[count - 1] == 0
+        && (count < 2 || count % 2 == 1 || bytes[count - 2] == 0)
+    {
         count -= 1;
     }
     count
