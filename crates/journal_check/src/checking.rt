@@ -12,6 +12,9 @@ use ncs_core::{Ncs, StartCause};
 use rundown_log::{Entries, Entry};
 use std::alloc::Global;
 
+// The end tag of a message, in UTF-16BE.
+const END: [u8; 12] = [0, 60, 0, 47, 0, 109, 0, 111, 0, 115, 0, 62];
+
 /// What a start finds in a journal.
 #[derive(Clone, Copy, Debug, PartialEq, Eq)]
 pub struct JournalFound {
@@ -46,15 +49,39 @@ fn read_cause(fault: JournalFault) -> StartCause {
     }
 }
 
-// The entries of a journal, and how many bytes stand behind the last whole message.
+// The last so many of these bytes.
+fn last_of(bytes: &[u8], count: usize) -> &[u8] {
+    match bytes.get(bytes.len().saturating_sub(count)..) {
+        Some(last) => last,
+        None => bytes,
+    }
+}
+
+// Whether the end tag of a message stands in these bytes.
+fn holds_end(bytes: &[u8]) -> bool {
+    let mut rest = bytes;
+    while let [_, more @ ..] = rest {
+        if rest.starts_with(&END) {
+            return true;
+        }
+        rest = more;
+    }
+    false
+}
+
+// The entries of a journal, and how many bytes stand behind the last whole message: no end tag of a message stands there.
 fn entries_in(alloc: Global, bytes: &[u8]) -> Result<(Entries, u64), StartCause>
     ensures { IfOk result (λ r. HasEntries bytes.now r.0) }
 {
     let mut reader = JournalReader::new(alloc);
     match reader.feed(bytes) {
         Ok(()) => {
-            let rest = reader.rest() as u64;
-            Ok((reader.into_entries(), rest))
+            let rest = reader.rest();
+            if holds_end(last_of(bytes, rest)) {
+                let_go(reader);
+                return Err(StartCause::StoreFault);
+            }
+            Ok((reader.into_entries(), rest as u64))
         }
         Err(fault) => {
             let_go(reader);
@@ -90,7 +117,7 @@ fn count_orders(entries: &[Entry]) -> u64
 }
 
 /// What a start of a server of 1 to 64 devices finds in a journal of these bytes, or how it would fail: `StoreFault` where they
-/// are damaged, `BadEntry` at the first entry that isn't accepted after those before it, `NoMemory`.
+/// are damaged, or the end tag of a message stands behind the last whole one, `BadEntry` at the first entry that isn't accepted after those before it, `NoMemory`.
 pub fn check_journal(alloc: Global, bytes: &[u8], devices: u32) -> Result<JournalFound, StartCause>
     requires least { 1 ≤ devices }
     requires most { devices ≤ 64 }
