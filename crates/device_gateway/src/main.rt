@@ -4,7 +4,7 @@
 #![tactic(auto)]
 
 use deck_rack::{Deck, LineDeck};
-use gate_program::{Asked, USAGE, asked, check_gateway, run_gateway};
+use gate_program::{Asked, USAGE, asked_for, check_gateway, run_gateway};
 use mos_io::StdSink;
 use program_ends::{ProgramEnd, Why};
 use std::env;
@@ -53,7 +53,7 @@ fn main(rt: HostRuntime) -> ExitCode {
         Ok(words) => words,
         Err(end) => return said(&rt, end, &Why::new()),
     };
-    match asked(&words) {
+    match asked_for(&words) {
         Asked::About(text) => {
             let _ = print!(rt; "{text}");
             return ExitCode::SUCCESS;

@@ -10,4 +10,4 @@ mod texts;
 
 pub use checking::check_gateway;
 pub use running::run_gateway;
-pub use texts::{Asked, USAGE, asked};
+pub use texts::{Asked, USAGE, asked_for};

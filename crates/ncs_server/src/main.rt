@@ -11,7 +11,7 @@ mod texts;
 
 use crate::checking::check_server;
 use crate::running::run_server;
-use crate::texts::{Asked, USAGE, asked};
+use crate::texts::{Asked, USAGE, asked_for};
 use program_ends::{ProgramEnd, Why};
 use std::env;
 use std::io::ErrorKind;
@@ -59,7 +59,7 @@ fn main(rt: HostRuntime) -> ExitCode {
         Ok(words) => words,
         Err(end) => return said(&rt, end, &Why::new()),
     };
-    match asked(&words) {
+    match asked_for(&words) {
         Asked::About(text) => {
             let _ = print!(rt; "{text}");
             ExitCode::SUCCESS

@@ -82,7 +82,7 @@ fn asked_by(word: &str) -> Asked<'_> {
 }
 
 /// What words ask for. A word that begins with a minus sign is no file.
-pub(crate) fn asked(words: &[String]) -> Asked<'_> {
+pub(crate) fn asked_for(words: &[String]) -> Asked<'_> {
     match words {
         [word] => asked_by(word.as_str()),
         [word, path] if word.as_str() == "--check" => Asked::Check(path.as_str()),
