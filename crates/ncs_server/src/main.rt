@@ -4,6 +4,7 @@
 
 mod checking;
 mod journal;
+mod outside;
 mod ports;
 mod running;
 mod settings;

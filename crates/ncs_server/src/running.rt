@@ -5,15 +5,16 @@ ghost use Rattle.program_ends.specs.Ends.{IsServerRunEnd};
 ghost use Rattle.program_ends.specs.declared.program_end.ProgramEnd.TheVariants.{Usage};
 
 use crate::journal::{keeper_of, lock_of};
-use crate::ports::ports_of;
+use crate::outside::{Outside, outside_of};
 use crate::settings::{Given, settings_in};
+use file_keeper::FileKeeper;
 use mos_fields::let_go;
-use port_tcp::{Common, SystemClock};
-use program_ends::{ProgramEnd, Why, dialer, pacer};
+use port_tcp::SystemClock;
+use program_ends::{ProgramEnd, Why};
 use server_serving::ncs_serve_by_threads;
 use settings_help::server_start_line;
 use std::net::{Net, TcpListener, TcpStream};
-use std::sync::{Arc, Wait};
+use std::sync::Wait;
 use std::thread::Threads;
 use std::time::Clock;
 
@@ -24,8 +25,108 @@ fn say_start(rt: &HostRuntime, given: &Given) {
     }
 }
 
+// Serves by these settings, with a keeper of the journal, and what the ports and the workers share.
+#[tactic(auto, using(program_ends::proofs::RunEnds::server_served))]
+fn serve_with<
+    R: Net<Listener = TcpListener, Stream = TcpStream>
+        + Clock
+        + AllocGlobal
+        + Threads
+        + Wait
+        + Eprint
+        + Copy
+        + Drop
+        + Send
+        + Sync
+        + 'static,
+>(
+    rt: HostRuntime,
+    threads: R,
+    given: &Given,
+    keeper: FileKeeper<HostRuntime>,
+    outside: Outside<R>,
+) -> ProgramEnd
+    requires devices { AreDevices (given.now.settings).devices }
+    requires refused { (outside.listeners).refused ≡ 0 }
+    ensures { IsServerRunEnd result }
+{
+    let Outside {
+        listeners,
+        dialer,
+        pacer,
+    } = outside;
+    say_start(&rt, given);
+    let (end, _listeners) = ncs_serve_by_threads(
+        &threads,
+        rt.alloc(),
+        &given.settings,
+        keeper,
+        listeners,
+        dialer,
+        pacer,
+        SystemClock::new(rt),
+    );
+    ProgramEnd::of_serving(end)
+}
+
+// The same with a keeper alone.
+fn serve_kept<
+    R: Net<Listener = TcpListener, Stream = TcpStream>
+        + Clock
+        + AllocGlobal
+        + Threads
+        + Wait
+        + Eprint
+        + Copy
+        + Drop
+        + Send
+        + Sync
+        + 'static,
+>(
+    rt: HostRuntime,
+    threads: R,
+    given: &Given,
+    keeper: FileKeeper<HostRuntime>,
+    why: &mut Why,
+) -> ProgramEnd
+    requires { AreDevices (given.now.settings).devices }
+    ensures { IsServerRunEnd result }
+{
+    match outside_of(threads, rt.alloc(), given, why) {
+        Ok(outside) => serve_with(rt, threads, given, keeper, outside),
+        Err(end) => {
+            let_go(keeper);
+            end
+        }
+    }
+}
+
+// The same, while the journal is locked.
+#[tactic(auto, using(program_ends::proofs::RunEnds::server_log))]
+fn serve_locked<
+    R: Net<Listener = TcpListener, Stream = TcpStream>
+        + Clock
+        + AllocGlobal
+        + Threads
+        + Wait
+        + Eprint
+        + Copy
+        + Drop
+        + Send
+        + Sync
+        + 'static,
+>(rt: HostRuntime, threads: R, given: &Given, why: &mut Why) -> ProgramEnd
+    requires { AreDevices (given.now.settings).devices }
+    ensures { IsServerRunEnd result }
+{
+    match keeper_of(&rt, &given.settings) {
+        Ok(keeper) => serve_kept(rt, threads, given, keeper, why),
+        Err(end) => end,
+    }
+}
+
 // Serves by these settings.
-#[tactic(auto, using(program_ends::proofs::RunEnds::server_log, program_ends::proofs::RunEnds::server_served))]
+#[tactic(auto, using(program_ends::proofs::RunEnds::server_log))]
 fn serve<
     R: Net<Listener = TcpListener, Stream = TcpStream>
         + Clock
@@ -42,42 +143,14 @@ fn serve<
     requires { AreDevices (given.now.settings).devices }
     ensures { IsServerRunEnd result }
 {
-    let alloc = rt.alloc();
-    let lock = match lock_of(&rt, &given.settings, why) {
-        Ok(lock) => lock,
-        Err(end) => return end,
-    };
-    let keeper = match keeper_of(&rt, &given.settings) {
-        Ok(keeper) => keeper,
-        Err(end) => return end,
-    };
-    let Ok(common) = Arc::new(alloc, Common::at_address(1, given.listen)) else {
-        return ProgramEnd::NoMemory;
-    };
-    let listeners = match ports_of(threads, given, &common, why) {
-        Ok(listeners) => listeners,
-        Err(end) => return end,
-    };
-    let (Ok(pacing), Ok(dialing)) = (Arc::try_clone(&common), Arc::try_clone(&common)) else {
-        return ProgramEnd::NoMemory;
-    };
-    let Ok(dialer) = dialer(threads, alloc, dialing) else {
-        return ProgramEnd::NoMemory;
-    };
-    let clock = SystemClock::new(rt);
-    say_start(&rt, given);
-    let (end, _listeners) = ncs_serve_by_threads(
-        &threads,
-        alloc,
-        &given.settings,
-        keeper,
-        listeners,
-        dialer,
-        pacer(threads, pacing),
-        clock,
-    );
-    let_go(lock);
-    ProgramEnd::of_serving(end)
+    match lock_of(&rt, &given.settings, why) {
+        Ok(lock) => {
+            let end = serve_locked(rt, threads, given, why);
+            let_go(lock);
+            end
+        }
+        Err(end) => end,
+    }
 }
 
 // A run with the settings in a file.
