@@ -10,7 +10,6 @@ use program_ends::{ProgramEnd, Why, dialer, pacer};
 use std::alloc::Global;
 use std::net::{Net, TcpListener, TcpStream};
 use std::sync::{Arc, Wait};
-use std::thread::Threads;
 use std::time::Clock;
 use thread_doors::ServerListeners;
 
