@@ -6,7 +6,7 @@ use Rattle.port_events.specs.declared.event.Side.{Side}
 use Rattle.port_events.specs.declared.event.Side.TheVariants.{Upper, Lower, Editor}
 use Rattle.port_session.specs.declared.end.End.{End}
 use Rattle.port_session.specs.declared.end.End.TheVariants.{Closed, Truncated, BadMessage, ReadFault, WriteFault, Budget, Stale, Unasked, Stopped, NoMemory}
-use Rattle.stream_commands.specs.Lines.{printed_text, refused_line}
+use Rattle.line_texts.specs.Texts.{printed_text, refused_line}
 
 abbrev pub side_text : Side → List ℕ
 side_text Upper = codes "upper"

@@ -4,7 +4,7 @@ use Rattle.mos_fields.specs.Values.{time_text}
 use Rattle.mos_fields.specs.declared.time.MosTime.{MosTime}
 use Rattle.port_session.specs.declared.end.End.{End}
 use Rattle.port_session.specs.declared.end.End.TheVariants.{Closed}
-use Rattle.stream_commands.specs.Lines.{printed_text}
+use Rattle.line_texts.specs.Texts.{printed_text}
 
 -- the mark by which systemd's journal knows a line that warns
 abbrev pub mark_text : Bool → List ℕ

@@ -2,9 +2,8 @@
 ghost use Rattle.std.specs.Prelude.{◌≡◌, IfOk, string_bytes};
 ghost use Rattle.connection_lines.specs.Lines.{accepted_line as accepted_line_of, dialed_line as dialed_line_of, ended_line as ended_line_of, failed_line as failed_line_of, known_line as known_line_of, quiet_line as quiet_line_of, silent_line as silent_line_of, stranger_line as stranger_line_of};
 
-use crate::parts::{
-    push_connection, push_device, push_end, push_number, push_place, push_side, push_word,
-};
+use crate::parts::{push_connection, push_device, push_end, push_place, push_side};
+use line_texts::{push_number, push_word};
 use mos_fields::{NoMemory, Text};
 use port_events::Side;
 use port_session::End;

@@ -2,68 +2,13 @@
 ghost use Rattle.std.specs.Prelude.{◌≡◌, ◌++◌, IfOk, OnOk, string_bytes};
 ghost use Rattle.std.specs.Fmt.{decimal};
 ghost use Rattle.port_session.specs.declared.end.End.TheVariants.{Truncated};
-ghost use Rattle.stream_commands.specs.Lines.{printed as printed_of, printed_text};
 ghost use Rattle.connection_lines.specs.Lines.{at_text, connection_text, device_text, end_text, numbered_text, place_text, side_text};
 
+use line_texts::{push_number, push_text, push_word, refused_line};
 use mos_fields::{NoMemory, Text};
 use port_events::Side;
 use port_session::End;
 use std::alloc::Global;
-use stream_commands::refused_line;
-
-/// Appends a word.
-pub(crate) fn push_word(out: &mut String, word: &str) -> Result<(), NoMemory>
-    ensures { OnOk result (string_bytes out.new ≡ string_bytes out.old ++ word.now) }
-{
-    out.push_str(word)?;
-    Ok(())
-}
-
-/// Appends the decimal digits of a number.
-pub(crate) fn push_number(alloc: Global, out: &mut String, number: u64) -> Result<(), NoMemory>
-    ensures { OnOk result (string_bytes out.new ≡ string_bytes out.old ++ decimal number) }
-{
-    let digits = number.to_string(alloc)?;
-    push_word(out, digits.as_str())
-}
-
-// A character as it is printed: tab, line feed and carriage return as a space.
-fn printed(c: char) -> char
-    ensures { result ≡ printed_of c }
-{
-    if c == '\t' || c == '\n' || c == '\r' {
-        ' '
-    } else {
-        c
-    }
-}
-
-/// Appends characters as they are printed.
-pub(crate) fn push_chars(out: &mut String, chars: &[char]) -> Result<(), NoMemory>
-    ensures { OnOk result (string_bytes out.new ≡ string_bytes out.old ++ printed_text chars.now) }
-{
-    for c in chars {
-        out.push(printed(*c))?;
-    }
-    Ok(())
-}
-
-// The characters of a text.
-fn chars_of(alloc: Global, text: &Text) -> Result<Vec<char>, NoMemory>
-    ensures { IfOk result (λ chars. chars.items ≡ text.now) }
-{
-    let mut chars = Vec::new(alloc);
-    text.push_to(&mut chars)?;
-    Ok(chars)
-}
-
-// Appends a text as it is printed.
-fn push_text(alloc: Global, out: &mut String, text: &Text) -> Result<(), NoMemory>
-    ensures { OnOk result (string_bytes out.new ≡ string_bytes out.old ++ printed_text text.now) }
-{
-    let chars = chars_of(alloc, text)?;
-    push_chars(out, &chars)
-}
 
 fn side_word(side: Side) -> &'static str
     ensures { result.now ≡ side_text side }

@@ -2,7 +2,8 @@
 ghost use Rattle.std.specs.Prelude.{◌≡◌, IfOk, string_bytes};
 ghost use Rattle.connection_lines.specs.Lines.{full_line as full_line_of, shut_line as shut_line_of, stalled_line as stalled_line_of, threads_line, waits_line as waits_line_of, works_line as works_line_of};
 
-use crate::parts::{push_number, push_side, push_word};
+use crate::parts::push_side;
+use line_texts::{push_number, push_word};
 use mos_fields::NoMemory;
 use port_events::Side;
 use std::alloc::Global;

@@ -3,7 +3,7 @@ ghost use Rattle.std.specs.Prelude.{◌≡◌, ◌++◌, IfOk, OnOk, string_byte
 ghost use Rattle.mos_fields.specs.Values.{time_text};
 ghost use Rattle.connection_lines.specs.Stamps.{end_warns, mark_text, said_text, stamp_text};
 
-use crate::parts::{push_chars, push_word};
+use line_texts::{push_chars, push_word};
 use mos_fields::{MosTime, NoMemory};
 use port_session::End;
 use std::alloc::Global;

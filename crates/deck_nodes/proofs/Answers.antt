@@ -6,7 +6,7 @@ use Rattle.mos_edits.specs.Orders.{Order}
 use Rattle.mos_machines.specs.Device.{Decks, GateState}
 use Rattle.mos_machines.specs.Steps.{DeviceStep}
 use Rattle.mos_machines.specs.Tables.{GateTables, gate_of}
-use Rattle.port_events.specs.Ports.{ComesTo, gate_at, idle, no_order}
+use Rattle.port_replies.specs.Ports.{ComesTo, gate_at, idle, no_order}
 use Rattle.port_events.specs.declared.answer.PortAnswer.{PortAnswer}
 use Rattle.port_events.specs.declared.event.PortEvent.{PortEvent}
 use Rattle.port_events.specs.declared.event.Side.{Side}

@@ -6,7 +6,7 @@ use Rattle.mos_edits.specs.KeyedLists.{Applied}
 use Rattle.mos_edits.specs.KeyedLists.Applied.{Done, Fault}
 use Rattle.mos_edits.specs.Entries.{Kind, kind, Entry}
 use Rattle.mos_edits.specs.Entries.Kind.{IsWhole, IsAction, IsReady, IsNotReady}
-use Rattle.mos_values.specs.declared.edit.Edit.TheVariants as edits
+use Rattle.mos_edits.specs.declared.edit.Edit.TheVariants as edits
 use Rattle.mos_fields.specs.declared.air.Air.TheVariants.{Ready, NotReady}
 use Rattle.mos_fields.specs.declared.time.MosTime.{MosTime}
 use Rattle.mos_machines.specs.Messages.{Message, Step, is_link}
@@ -19,7 +19,7 @@ use Rattle.mos_machines.specs.Steps.{DeviceStep, StepAnswer, asked_on, device_st
 use Rattle.mos_machines.specs.Steps.DeviceEvent.{ReadUpper, ReadAnswer}
 use Rattle.mos_machines.specs.Values.{seen}
 use Rattle.gateway_core.proofs.TableSteps.{set-same}
-use Rattle.port_events.specs.Ports.{ComesTo}
+use Rattle.port_replies.specs.Ports.{ComesTo}
 use Rattle.port_events.specs.declared.answer.PortAnswer.{PortAnswer}
 use Rattle.port_events.specs.declared.event.What.{What}
 use Rattle.port_events.specs.declared.event.What.TheVariants as whats

@@ -9,7 +9,7 @@ use Rattle.mos_machines.specs.Steps.DeviceEvent.{ReadUpper}
 use Rattle.mos_machines.specs.Values.{seen}
 use Rattle.mos_values.specs.declared.message.Message as values
 use Rattle.mos_values.specs.declared.message.Message.TheVariants as carried
-use Rattle.mos_values.specs.declared.edit.Edit.TheVariants as edits
+use Rattle.mos_edits.specs.declared.edit.Edit.TheVariants as edits
 use Rattle.mos_fields.specs.declared.air.Air.TheVariants.{Ready, NotReady}
 use Rattle.port_events.specs.declared.event.What.TheVariants as whats
 use Rattle.deck_nodes.specs.DeckCalls.{DeckCall, read_call, refused_call, upper_call}

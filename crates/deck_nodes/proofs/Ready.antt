@@ -6,7 +6,7 @@ use Rattle.mos_edits.specs.Orders.{Order, apply}
 use Rattle.mos_edits.specs.KeyedLists.ActFault.{Missing}
 use Rattle.mos_edits.specs.Entries.{Entry, entry_of}
 use Rattle.mos_edits.specs.Entries.Kind.{IsReady}
-use Rattle.mos_values.specs.declared.edit.Edit.TheVariants as edits
+use Rattle.mos_edits.specs.declared.edit.Edit.TheVariants as edits
 use Rattle.mos_values.specs.declared.message.Message.TheVariants as carried
 use Rattle.mos_fields.specs.declared.air.Air.TheVariants.{Ready}
 use Rattle.mos_machines.specs.Messages.{Message, Status, is_link}
@@ -17,7 +17,7 @@ use Rattle.mos_machines.specs.Device.Phase.{InStep, OutOfStep, Asked, Crossed}
 use Rattle.mos_machines.specs.Steps.{DeviceStep, device_step, gate_says, unless_stale}
 use Rattle.mos_machines.specs.Steps.DeviceEvent.{ReadUpper}
 use Rattle.mos_machines.specs.Tables.{gate_of}
-use Rattle.port_events.specs.Ports.{ComesTo, said}
+use Rattle.port_replies.specs.Ports.{ComesTo, said}
 use Rattle.port_events.specs.declared.answer.PortAnswer.{PortAnswer}
 use Rattle.port_events.specs.declared.answer.PortAnswer.TheVariants as answers
 use Rattle.port_events.specs.declared.event.PortEvent.{PortEvent}

@@ -10,7 +10,7 @@ use Rattle.mos_machines.specs.Steps.DeviceEvent.{NextAsk, ReadAnswer}
 use Rattle.machine_answers.specs.Answers.{asked_of, step_of}
 use Rattle.machine_answers.specs.declared.answers.Sent.{Sent}
 use Rattle.machine_answers.specs.declared.answers.Step.{Step as CallStep}
-use Rattle.port_events.specs.Ports.{Asked, ComesTo, said}
+use Rattle.port_replies.specs.Ports.{Asked, ComesTo, said}
 use Rattle.port_events.specs.declared.answer.PortAnswer.{PortAnswer}
 use Rattle.deck_nodes.specs.Ports.{sent_said, step_said}
 

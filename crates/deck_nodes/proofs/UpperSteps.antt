@@ -12,7 +12,7 @@ use Rattle.mos_machines.specs.Values.{seen}
 use Rattle.mos_values.specs.declared.message.Message as values
 use Rattle.mos_values.specs.declared.message.Message.TheVariants as carried
 use Rattle.gateway_core.specs.Gots.{says_no_order}
-use Rattle.port_events.specs.Ports.{Asked, ComesTo, said}
+use Rattle.port_replies.specs.Ports.{Asked, ComesTo, said}
 use Rattle.port_events.specs.declared.answer.PortAnswer.{PortAnswer}
 use Rattle.port_events.specs.declared.event.What.{What}
 use Rattle.port_events.specs.declared.event.What.TheVariants as whats

@@ -11,7 +11,7 @@ use Rattle.mos_machines.specs.Device.{Decks, GateOut, GateState, is_no_order, re
 use Rattle.mos_machines.specs.Device.GateOut.{AsksFor}
 use Rattle.mos_machines.specs.Steps.{DeviceEvent}
 use Rattle.mos_machines.specs.Steps.DeviceEvent.{ReadUpper, ReadAnswer}
-use Rattle.port_events.specs.Ports.{Asked}
+use Rattle.port_replies.specs.Ports.{Asked}
 use Rattle.port_events.specs.declared.event.What.{What}
 use Rattle.deck_nodes.specs.Ports.{upper_with}
 use Rattle.deck_rack.specs.Decks.{DeckView, AreCalled, loaded, marked}

@@ -5,7 +5,7 @@ use Rattle.mos_machines.specs.Steps.{DeviceStep}
 use Rattle.mos_machines.specs.Tables.{GateTables, gate_of}
 use Rattle.mos_values.specs.declared.mach_info.MachInfo.{MachInfo}
 use Rattle.mos_values.specs.declared.mos_obj.MosObj.{MosObj}
-use Rattle.port_events.specs.Ports.{ComesTo, GatePortStep}
+use Rattle.port_replies.specs.Ports.{ComesTo, GatePortStep}
 use Rattle.port_events.specs.declared.answer.PortAnswer.{PortAnswer}
 use Rattle.port_events.specs.declared.event.PortEvent.{PortEvent}
 use Rattle.port_events.specs.declared.event.Side.{Side}

@@ -11,7 +11,7 @@ use Rattle.machine_answers.specs.declared.answers.Heard.{Heard}
 use Rattle.machine_answers.specs.declared.answers.Heard.TheVariants as heard
 use Rattle.machine_answers.specs.declared.answers.Sent.{Sent}
 use Rattle.machine_answers.specs.declared.answers.Sent.TheVariants as sent
-use Rattle.port_events.specs.Ports.{Asked, gate_upper, said}
+use Rattle.port_replies.specs.Ports.{Asked, gate_upper, said}
 use Rattle.port_events.specs.declared.event.What.{What}
 use Rattle.port_events.specs.declared.event.What.TheVariants as whats
 use Rattle.port_events.specs.declared.answer.PortAnswer.{PortAnswer}

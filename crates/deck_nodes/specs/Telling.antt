@@ -10,7 +10,7 @@ use Rattle.mos_values.specs.declared.message.Message.{Message}
 use Rattle.mos_values.specs.declared.message.Message.TheVariants as carried
 use Rattle.mos_fields.specs.declared.air.Air.TheVariants.{NotReady}
 use Rattle.gateway_core.specs.Gots.{says_no_order}
-use Rattle.port_events.specs.Ports.{ComesTo}
+use Rattle.port_replies.specs.Ports.{ComesTo}
 use Rattle.port_events.specs.declared.answer.PortAnswer.{PortAnswer}
 use Rattle.port_events.specs.declared.event.What.{What}
 use Rattle.deck_nodes.specs.Ports.{upper_with}

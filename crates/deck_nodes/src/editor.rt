@@ -1,13 +1,12 @@
 //! The editors' port, at which a gateway does nothing.
 ghost use Rattle.std.specs.Prelude.{◌≡◌, IfOk};
-ghost use Rattle.port_events.specs.Ports.{idle, no_order, refused as refused_of};
+ghost use Rattle.port_replies.specs.Ports.{idle, no_order, refused as refused_of};
 ghost use Rattle.port_events.specs.declared.answer.PortAnswer.TheVariants as answers;
 
 use machine_answers::{Status, acknowledgement};
 use mos_fields::NoMemory;
-use mos_values::Message;
+use mos_values::{Message, nameless};
 use port_events::{PortAnswer, What};
-use port_replies::nameless;
 use std::alloc::Global;
 
 // The roAck of no order.

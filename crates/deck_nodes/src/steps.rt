@@ -4,7 +4,7 @@ ghost use Rattle.mos_machines.specs.Steps.{DeviceEvent, DeviceStep};
 ghost use Rattle.mos_machines.specs.Tables.{gate_of};
 ghost use Rattle.mos_machines.specs.Values.{seen};
 ghost use Rattle.gateway_core.specs.Parts.{decks_of};
-ghost use Rattle.port_events.specs.Ports.{Asked, ComesTo, said};
+ghost use Rattle.port_replies.specs.Ports.{Asked, ComesTo, said};
 ghost use Rattle.deck_nodes.specs.Ports.{heard_said, sent_said, step_said};
 
 use gateway_core::{DeckState, Gate};

@@ -9,6 +9,7 @@ ghost use Rattle.device_answers.specs.Taking.{IsAnswered, answer_to, device_afte
 
 use crate::wide::wide;
 use gateway_core::{DeckState, Gate};
+use line_texts::refused_line;
 use machine_answers::Heard;
 use mos_fields::{NoMemory, let_go};
 use mos_lexer::Kind;
@@ -18,7 +19,7 @@ use mos_reader::Found;
 use mos_values::{Envelope, Message};
 use std::alloc::Global;
 use std::marker::Model;
-use stream_commands::{Teller, refused_line};
+use stream_commands::Teller;
 use value_laws::ranges::message_is_in_range;
 
 /// The connection that the device accepted.

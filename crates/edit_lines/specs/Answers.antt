@@ -2,8 +2,7 @@
 use Rattle.std.specs.Prelude.{ℕ, Bool, true, false, List, [], ◌∷◌, ◌++◌, length, Option, Some, None, if◌then◌else◌, ◌==◌, ◌&&◌, ◌||◌, bytes_eq, codes}
 use Rattle.std.specs.List.{flat_map}
 use Rattle.mos_fields.specs.Characters.{Text, units_of}
-use Rattle.mos_machines.specs.Messages.{message_ro}
-use Rattle.mos_machines.specs.Values.{seen}
+use Rattle.mos_values.specs.Names.{message_ro}
 use Rattle.mos_values.specs.OrderValue.{OrderBody}
 use Rattle.mos_values.specs.StoryValue.{Story}
 use Rattle.mos_values.specs.declared.header.HeaderPatch.{HeaderPatch}
@@ -11,7 +10,7 @@ use Rattle.mos_values.specs.declared.item.Item.{Item}
 use Rattle.mos_values.specs.declared.message.Envelope.{Envelope}
 use Rattle.mos_values.specs.declared.message.Message.{Message}
 use Rattle.mos_values.specs.declared.message.Message.TheVariants as carried
-use Rattle.stream_commands.specs.Lines.{printed_text}
+use Rattle.line_texts.specs.Texts.{printed_text}
 use Rattle.edit_lines.specs.declared.wanted.Wanted.{Wanted}
 use Rattle.edit_lines.specs.declared.wanted.Wanted.TheVariants.{Okay, Order, All}
 
@@ -50,8 +49,8 @@ is_same_order asked ro = (length asked == 0) || (length ro == 0) || bytes_eq ask
 
 -- a roAck and a roList speak of the order of which the message speaks; where one of the two speaks of none, they may be for each other
 abbrev pub speaks_of : Message → Message → Bool
-speaks_of m (carried.RoAck ack) = is_same_order (message_ro (seen m)) ack.ro
-speaks_of m (carried.RoList body) = is_same_order (message_ro (seen m)) body.header.ro
+speaks_of m (carried.RoAck ack) = is_same_order (message_ro m) ack.ro
+speaks_of m (carried.RoList body) = is_same_order (message_ro m) body.header.ro
 speaks_of m answer = true
 
 -- one messageID is the other, or one of them is lacking

@@ -2,8 +2,8 @@
 use Rattle.std.specs.Prelude.{ℕ, Bool, true, List, [], ◌∷◌, length, Option, Some, None, if◌then◌else◌, ◌==◌, nat_le, codes}
 use Rattle.mos_fields.specs.Characters.{Text}
 use Rattle.mos_fields.specs.Fields.{same}
-use Rattle.mos_machines.specs.Values.{edit_message}
-use Rattle.mos_values.specs.declared.edit.Edit.{Edit}
+use Rattle.mos_edits.specs.Carried.{edit_message}
+use Rattle.mos_edits.specs.declared.edit.Edit.{Edit}
 use Rattle.mos_values.specs.declared.message.Message.TheVariants as carried
 use Rattle.script_edits.specs.Edits.{edit_of}
 use Rattle.script_edits.specs.Words.{Word, words_of, name_of}

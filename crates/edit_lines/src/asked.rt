@@ -1,12 +1,12 @@
 //! What a line asks.
 ghost use Rattle.std.specs.Prelude.{◌≡◌, IfOk};
-ghost use Rattle.mos_machines.specs.Values.{edit_message};
 ghost use Rattle.script_edits.specs.Edits.{edit_of};
 ghost use Rattle.script_edits.specs.Words.{words_in};
 ghost use Rattle.edit_lines.specs.Asked.{asked_of, edit_asked, is_passed_over as is_passed_over_of, list_asked, words_asked};
 
+use mos_edits::message_of_edit;
 use mos_fields::NoMemory;
-use mos_values::{Edit, Message};
+use mos_values::Message;
 use script_edits::{edit, is_word, name, parts};
 use std::alloc::Global;
 
@@ -24,27 +24,13 @@ pub enum Asked {
 /// The most bytes of a line, without its line feed.
 const LINE_LIMIT: usize = 1000;
 
-// The message that carries an edit.
-fn message_of(edit: Edit) -> Message
-    ensures { result ≡ edit_message edit }
-{
-    match edit {
-        Edit::Create(body) => Message::RoCreate(body),
-        Edit::Replace(body) => Message::RoReplace(body),
-        Edit::Delete(ro) => Message::RoDelete(ro),
-        Edit::Metadata(patch) => Message::RoMetadataReplace(patch),
-        Edit::Act { ro, action } => Message::RoElementAction { ro, action },
-        Edit::Air { ro, air } => Message::RoReadyToAir { ro, air },
-    }
-}
-
 // What words ask that are an edit, or none.
 fn edited(alloc: Global, words: &[&[u8]]) -> Result<Asked, NoMemory>
     ensures { IfOk result (λ a. a ≡ edit_asked (edit_of (words_in words.now))) }
 {
     match edit(alloc, words)? {
         None => Ok(Asked::NoEdit),
-        Some(edit) => Ok(Asked::Asks(message_of(edit))),
+        Some(edit) => Ok(Asked::Asks(message_of_edit(edit))),
     }
 }
 

@@ -1,7 +1,6 @@
 //! Whether an answer is for a message.
 ghost use Rattle.std.specs.Prelude.{◌≡◌, Some};
-ghost use Rattle.mos_machines.specs.Messages.{message_ro};
-ghost use Rattle.mos_machines.specs.Values.{seen};
+ghost use Rattle.mos_values.specs.Names.{message_ro};
 ghost use Rattle.edit_lines.specs.Answers.{is_for as is_for_of, is_same_id as is_same_id_of, is_same_order as is_same_order_of, speaks_of as speaks_of_order};
 
 use mos_fields::{OptId, Text};
@@ -16,7 +15,7 @@ fn is_same_order(asked: &Text, ro: &Text) -> bool
 
 // Whether a message speaks of the order of this roID, or of none.
 fn is_of(asked: &Message, ro: &Text) -> bool
-    ensures { result ≡ is_same_order_of (message_ro (seen asked.now)) ro.now }
+    ensures { result ≡ is_same_order_of (message_ro asked.now) ro.now }
 {
     match asked {
         Message::RoElementStat(status) => is_same_order(status.as_ref().ro.text(), ro),

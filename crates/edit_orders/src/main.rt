@@ -8,6 +8,7 @@ use edit_program::{
     run_file,
 };
 use edit_runs::EditStatus;
+use line_texts::refused_line;
 use message_runs::MessageEnd;
 use mos_fields::NoMemory;
 use mos_io::{Sink, Source, StdSink, StdSource};
@@ -21,7 +22,6 @@ use std::rt::Files;
 use std::sync::{Arc, Wait};
 use std::time::{Clock, Duration};
 use std::{env, fs};
-use stream_commands::refused_line;
 
 /// So long an answer is awaited without a byte from the server, in seconds.
 const PATIENCE: u64 = 30;

@@ -6,7 +6,7 @@ use Rattle.mos_edits.specs.KeyedLists.{Applied}
 use Rattle.mos_edits.specs.Actions.{act}
 use Rattle.mos_edits.specs.Orders.{Order, shape, form_of, apply}
 use Rattle.mos_values.specs.declared.action.Action as values
-use Rattle.mos_values.specs.declared.edit.Edit.TheVariants as edit
+use Rattle.mos_edits.specs.declared.edit.Edit.TheVariants as edit
 use Rattle.element_action.specs.declared.fault.ActFault.{ActFault}
 use Rattle.element_action.specs.declared.fault.ActFault.TheVariants.{Missing, AlreadyThere, NoMemory}
 use Rattle.element_action.specs.Answers.{IsCause, IsChecked}

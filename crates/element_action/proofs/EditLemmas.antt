@@ -6,7 +6,7 @@ use Rattle.mos_edits.specs.KeyedLists.Applied.{Done, Fault}
 use Rattle.mos_edits.specs.Actions.{act}
 use Rattle.mos_edits.specs.Orders.{Order, HeaderPatch, shape, form_of, patched, with_stories, apply}
 use Rattle.mos_values.specs.declared.action.Action as values
-use Rattle.mos_values.specs.declared.edit.Edit.TheVariants as edit
+use Rattle.mos_edits.specs.declared.edit.Edit.TheVariants as edit
 use Rattle.mos_fields.specs.declared.air.Air.{Air}
 
 pub replace_none : (r : Text) (body : Order) → apply r None (edit.Replace body) ≡ Fault (Missing r)

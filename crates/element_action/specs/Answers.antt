@@ -6,7 +6,7 @@ use Rattle.mos_edits.specs.Actions.{Action}
 use Rattle.mos_edits.specs.Actions.Action.{OnStories, OnItems}
 use Rattle.mos_edits.specs.KeyedLists.Applied.{Done, Fault}
 use Rattle.mos_edits.specs.Orders.{Story, Order, Edit, form_of}
-use Rattle.mos_values.specs.declared.edit.Edit.TheVariants as edit
+use Rattle.mos_edits.specs.declared.edit.Edit.TheVariants as edit
 use Rattle.element_action.specs.declared.first_fault.FirstFault.{FirstFault}
 use Rattle.element_action.specs.declared.first_fault.FirstFault.TheVariants as first
 use Rattle.element_action.specs.declared.fault.ActFault.{ActFault}

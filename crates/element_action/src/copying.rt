@@ -3,14 +3,15 @@ ghost use Rattle.std.specs.Prelude.{◌≡◌, true, Some, IfOk, IfErr};
 ghost use Rattle.std.specs.Option.{option_copied};
 ghost use Rattle.mos_edits.specs.KeyedLists.Applied.{Done};
 ghost use Rattle.mos_edits.specs.Orders.{apply as apply_of, edit_ro};
-ghost use Rattle.mos_values.specs.declared.edit.Edit.TheVariants as edit;
+ghost use Rattle.mos_edits.specs.declared.edit.Edit.TheVariants as edit;
 ghost use Rattle.element_action.specs.Answers.{IsCause};
 
 use crate::checks::check;
 use crate::edits::apply;
 use crate::fault::ActFault;
+use mos_edits::Edit;
 use mos_fields::{Id, NoMemory};
-use mos_values::{Action, Edit};
+use mos_values::Action;
 use running_order::Order;
 use std::alloc::Global;
 

@@ -2,13 +2,14 @@
 ghost use Rattle.std.specs.Prelude.{◌≡◌, true, false, OnOk, OnErr, IfErr};
 ghost use Rattle.mos_edits.specs.KeyedLists.Applied.{Done};
 ghost use Rattle.mos_edits.specs.Orders.{apply as apply_of, edit_ro, form_of};
-ghost use Rattle.mos_values.specs.declared.edit.Edit.TheVariants as edit;
+ghost use Rattle.mos_edits.specs.declared.edit.Edit.TheVariants as edit;
 ghost use Rattle.element_action.specs.Answers.{IsApplied, IsCause, edit_takes_memory, takes_memory};
 
 use crate::actions::act;
 use crate::fault::{ActFault, missing_order, order_there};
+use mos_edits::Edit;
 use mos_fields::{Air, Id};
-use mos_values::{Action, Edit, HeaderPatch, OrderBody};
+use mos_values::{Action, HeaderPatch, OrderBody};
 use running_order::Order;
 use std::alloc::Global;
 

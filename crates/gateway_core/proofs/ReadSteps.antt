@@ -6,7 +6,7 @@ use Rattle.mos_edits.specs.KeyedLists.Applied.{Done, Fault}
 use Rattle.mos_edits.specs.Actions.{act}
 use Rattle.mos_edits.specs.Orders.{Order, HeaderPatch, Story, Edit, apply, patched, shape, form_of, with_stories}
 use Rattle.mos_edits.specs.Entries.{kind, Entry}
-use Rattle.mos_values.specs.declared.edit.Edit.TheVariants.{Metadata, Act, Air, Create, Replace, Delete}
+use Rattle.mos_edits.specs.declared.edit.Edit.TheVariants.{Metadata, Act, Air, Create, Replace, Delete}
 use Rattle.mos_values.specs.declared.action.Action.{Action}
 use Rattle.mos_fields.specs.declared.air.Air.TheVariants.{Ready, NotReady}
 use Rattle.mos_machines.specs.Messages.{Status}

@@ -10,7 +10,7 @@ use Rattle.mos_machines.specs.Messages.Message.{RoEdit}
 use Rattle.mos_machines.specs.Device.{Decks, ReadResult, Phase, read_edit, ready_status}
 use Rattle.mos_machines.specs.Device.Phase.{InStep, OutOfStep, Asked, Crossed}
 use Rattle.mos_machines.specs.Tables.{KnownOrder, unknown_order, look, put_row}
-use Rattle.mos_values.specs.declared.edit.Edit.TheVariants as edits
+use Rattle.mos_edits.specs.declared.edit.Edit.TheVariants as edits
 use Rattle.mos_values.specs.declared.message.Message as values
 use Rattle.mos_values.specs.declared.message.Message.TheVariants as carried
 use Rattle.mos_values.specs.declared.ro_ack.RoAck.{RoAck}

@@ -9,7 +9,8 @@ use Rattle.mos_edits.specs.Orders.{Edit}
 use Rattle.mos_lexer.specs.Units.{Found}
 use Rattle.mos_values.specs.MessageViews.{envelope_events}
 use Rattle.mos_values.specs.declared.message.Envelope.{Envelope}
-use Rattle.journal_bytes.specs.Journals.{Carries, Follows, HasNoEntry, IsDamaged, Takes, edit_in, journal_fault, one_more}
+use Rattle.mos_edits.specs.Carried.{edit_in}
+use Rattle.journal_bytes.specs.Journals.{Carries, Follows, HasNoEntry, IsDamaged, Takes, journal_fault, one_more}
 use Rattle.journal_bytes.specs.declared.fault.JournalFault.{JournalFault}
 use Rattle.journal_bytes.specs.declared.fault.JournalFault.TheVariants.{Damaged}
 

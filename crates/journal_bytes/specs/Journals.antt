@@ -9,12 +9,9 @@ use Rattle.mos_edits.specs.Entries.{Entry, entry_of}
 use Rattle.mos_edits.specs.Orders.{Edit}
 use Rattle.mos_lexer.specs.Units.{Found}
 use Rattle.mos_lexer.specs.declared.kind.Kind.{Kind}
-use Rattle.mos_machines.specs.Values.{edit_message}
+use Rattle.mos_edits.specs.Carried.{edit_in, edit_message}
 use Rattle.mos_values.specs.MessageViews.{envelope_events}
-use Rattle.mos_values.specs.declared.edit.Edit.TheVariants as edits
 use Rattle.mos_values.specs.declared.message.Envelope.{Envelope}
-use Rattle.mos_values.specs.declared.message.Message.{Message}
-use Rattle.mos_values.specs.declared.message.Message.TheVariants as carried
 use Rattle.journal_bytes.specs.declared.fault.JournalFault.{JournalFault}
 use Rattle.journal_bytes.specs.declared.fault.JournalFault.TheVariants.{Damaged, NoMemory}
 
@@ -27,16 +24,6 @@ log_envelope edit = record { mos = codes "log"; ncs = codes "log"; message_id = 
 -- the bytes of an entry
 abbrev pub entry_bytes : Entry → List ℕ
 entry_bytes e = encoding (log_envelope e.edit)
-
--- the edit that a message carries
-abbrev pub edit_in : Message → Option Edit
-edit_in (carried.RoCreate body) = Some (edits.Create body)
-edit_in (carried.RoReplace body) = Some (edits.Replace body)
-edit_in (carried.RoDelete ro) = Some (edits.Delete ro)
-edit_in (carried.RoMetadataReplace patch) = Some (edits.Metadata patch)
-edit_in (carried.RoElementAction ro action) = Some (edits.Act ro action)
-edit_in (carried.RoReadyToAir ro air) = Some (edits.Air ro air)
-edit_in message = None
 
 -- ---- the entries of a stream's messages
 

@@ -4,37 +4,21 @@ ghost use Rattle.mos_codec.specs.Decoding.{HasTaken};
 ghost use Rattle.mos_edits.specs.Entries.{entry_of};
 ghost use Rattle.mos_lexer.specs.Units.{Found};
 ghost use Rattle.mos_reader.specs.Answers.{fed};
-ghost use Rattle.journal_bytes.specs.Journals.{Follows, HasNoEntry, IsDamaged, Takes, edit_in as edit_of, journal_fault as fault_of};
+ghost use Rattle.mos_edits.specs.Carried.{edit_in as edit_of};
+ghost use Rattle.journal_bytes.specs.Journals.{Follows, HasNoEntry, IsDamaged, Takes, journal_fault as fault_of};
 
 use crate::fault::JournalFault;
 use mos_codec::{DecodeFault, Decoder};
+use mos_edits::{Edit, edit_of_message};
 use mos_fields::let_go;
-use mos_values::{Edit, Envelope, Message};
+use mos_values::{Envelope, Message};
 use rundown_log::Entry;
-
-/// The edit that a message carries.
-fn edit_in(message: Message) -> Option<Edit>
-    ensures { result ≡ edit_of message }
-{
-    match message {
-        Message::RoCreate(body) => Some(Edit::Create(body)),
-        Message::RoReplace(body) => Some(Edit::Replace(body)),
-        Message::RoDelete(ro) => Some(Edit::Delete(ro)),
-        Message::RoMetadataReplace(patch) => Some(Edit::Metadata(patch)),
-        Message::RoElementAction { ro, action } => Some(Edit::Act { ro, action }),
-        Message::RoReadyToAir { ro, air } => Some(Edit::Air { ro, air }),
-        other => {
-            let_go(other);
-            None
-        }
-    }
-}
 
 /// The edit that the message of an envelope carries.
 fn edit_inside(envelope: Envelope) -> Option<Edit>
     ensures { result ≡ edit_of envelope.message }
 {
-    edit_in(envelope.message)
+    edit_of_message(envelope.message)
 }
 
 /// The edit that the next whole message carries, and `None` inside for one that carries none; `None` where no message is

@@ -1,11 +1,11 @@
 //! From entries to bytes.
 ghost use Rattle.std.specs.Prelude.{◌≡◌, IfOk, codes};
-ghost use Rattle.mos_machines.specs.Values.{edit_message};
 ghost use Rattle.journal_bytes.specs.Journals.{entry_bytes as bytes_of_entry, log_envelope};
 
+use mos_edits::{Edit, edit_message};
 use mos_fields::{Id, NoMemory, let_go};
 use mos_messages::encode;
-use mos_values::{Edit, Envelope, Message};
+use mos_values::Envelope;
 use rundown_log::Entry;
 use std::alloc::Global;
 
@@ -29,32 +29,12 @@ fn log_names(alloc: Global) -> Result<(Id, Id), NoMemory>
     Ok((mos, ncs))
 }
 
-/// The message that carries an edit, in memory of its own.
-fn message_of_edit(edit: &Edit) -> Result<Message, NoMemory>
-    ensures { IfOk result (λ m. m ≡ edit_message edit.now) }
-{
-    Ok(match edit {
-        Edit::Create(body) => Message::RoCreate(body.try_clone()?),
-        Edit::Replace(body) => Message::RoReplace(body.try_clone()?),
-        Edit::Delete(ro) => Message::RoDelete(ro.try_clone()?),
-        Edit::Metadata(patch) => Message::RoMetadataReplace(patch.try_clone()?),
-        Edit::Act { ro, action } => Message::RoElementAction {
-            ro: ro.try_clone()?,
-            action: action.try_clone()?,
-        },
-        Edit::Air { ro, air } => Message::RoReadyToAir {
-            ro: ro.try_clone()?,
-            air: *air,
-        },
-    })
-}
-
 /// An edit in the envelope of an entry.
 fn envelope_of(alloc: Global, edit: &Edit) -> Result<Envelope, NoMemory>
     ensures { IfOk result (λ e. e ≡ log_envelope edit.now) }
 {
     let (mos, ncs) = log_names(alloc)?;
-    let message = message_of_edit(edit)?;
+    let message = edit_message(edit)?;
     Ok(Envelope {
         mos,
         ncs,

@@ -2,7 +2,7 @@
 ghost use Rattle.std.specs.Prelude.{◌≡◌};
 ghost use Rattle.journal_check.specs.Checks.{creations, deletions, is_create, is_delete};
 
-use mos_values::Edit;
+use mos_edits::Edit;
 use rundown_log::Entry;
 
 // Whether an entry creates its order.

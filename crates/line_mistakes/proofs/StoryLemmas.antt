@@ -2,7 +2,7 @@
 use Rattle.std.proofs.Common.{◌≡◌, ℕ, List, [], ◌∷◌, Option, Some, None, refl, codes, is_some}
 use Rattle.std.specs.Option.{option_map}
 use Rattle.mos_values.specs.StoryValue.{Story}
-use Rattle.mos_values.specs.declared.edit.Edit.{Edit}
+use Rattle.mos_edits.specs.declared.edit.Edit.{Edit}
 use Rattle.script_edits.specs.Edits.{edit_of, edit_verb_of}
 use Rattle.script_edits.specs.Stories.{if_distinct, story_of}
 use Rattle.script_edits.specs.Words.{Word, both, is_name}

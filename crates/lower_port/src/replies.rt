@@ -13,9 +13,9 @@ ghost use Rattle.lower_port.specs.Servers.{not_supported as not_supported_of, ta
 
 use machine_answers::Status;
 use mos_fields::{Id, MosTime, NoMemory, OptId, let_go};
-use mos_values::{Boxed, MachInfo, Message, MosObj};
+use mos_values::{Boxed, MachInfo, Message, MosObj, named};
 use port_events::PortAnswer;
-use port_replies::{named, object_refusal, object_taken};
+use port_replies::{object_refusal, object_taken};
 use std::alloc::Global;
 
 // What an end says of itself.

@@ -3,8 +3,8 @@
 use crate::edits::{edit_of, first_of, order_of};
 use crate::letters::{letters_of, letters_of_answer};
 use element_action::apply;
+use mos_edits::Edit;
 use mos_fields::let_go;
-use mos_values::Edit;
 use running_order::Order;
 use std::alloc::Global;
 use std::process::Abort;

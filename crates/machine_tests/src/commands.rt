@@ -7,8 +7,9 @@ ghost use Rattle.mos_values.specs.Views.{header_events};
 
 use crate::journal::ready;
 use crate::letters::id;
+use mos_edits::Edit;
 use mos_fields::{FieldFault, Id, Slug, Text, let_go};
-use mos_values::{Boxed, Edit, Header, OrderBody, Unreads};
+use mos_values::{Boxed, Header, OrderBody, Unreads};
 use ncs_core::{CommandFault, Ncs, StartFault};
 use rundown_log::MemKeeper;
 use std::alloc::Global;

@@ -1,8 +1,9 @@
 //! Actions and edits, by the first letter of their form. An action of stories has a `_` in place of a story.
 
 use crate::letters::{body, header, id, items, opt_id, opt_ids, stories};
+use mos_edits::Edit;
 use mos_fields::{Air, FieldFault, Id};
-use mos_values::{Action, Boxed, Edit};
+use mos_values::{Action, Boxed};
 use running_order::Order;
 use std::alloc::Global;
 use std::test::Fail;

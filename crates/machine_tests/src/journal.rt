@@ -4,8 +4,8 @@ ghost use Rattle.mos_machines.specs.Values.{edit_message};
 ghost use Rattle.mos_values.specs.Sound.{IsSound};
 
 use crate::letters::id;
+use mos_edits::Edit;
 use mos_fields::{Air, FieldFault, Id, let_go};
-use mos_values::Edit;
 use rundown_log::{Journal, KeepFault, Keeper, MemKeeper};
 use std::alloc::Global;
 use std::process::Abort;

@@ -4,11 +4,10 @@ use Rattle.mos_events.specs.EventView.{message_text}
 use Rattle.mos_events.specs.declared.message_name.MessageName.{MessageName}
 use Rattle.mos_events.specs.declared.message_name.MessageName.TheVariants as names
 use Rattle.mos_fields.specs.Characters.{Text}
-use Rattle.mos_machines.specs.Messages.{message_ro}
-use Rattle.mos_machines.specs.Values.{seen}
+use Rattle.mos_values.specs.Names.{message_ro}
 use Rattle.mos_values.specs.declared.message.Message.{Message}
 use Rattle.mos_values.specs.declared.message.Message.TheVariants as carried
-use Rattle.stream_commands.specs.Lines.{printed_text}
+use Rattle.line_texts.specs.Texts.{printed_text}
 
 -- the name of a message's element, where the tables have it
 abbrev pub table_name : Message → Option MessageName
@@ -56,4 +55,4 @@ ro_text (c ∷ cs) = codes " " ++ printed_text (c ∷ cs)
 
 -- The label of a message: the name of its element, and behind a space the roID that it has, if it has one.
 abbrev pub label_text : Message → List ℕ
-label_text m = name_text m ++ ro_text (message_ro (seen m))
+label_text m = name_text m ++ ro_text (message_ro m)

@@ -5,8 +5,7 @@ ghost use Rattle.message_runs.specs.Labels.{label_text, name_text, other_name, r
 use edit_lines::{push_bytes, push_text};
 use mos_events::MessageName;
 use mos_fields::{NoMemory, Text, let_go};
-use mos_values::Message;
-use port_replies::message_ro;
+use mos_values::{Message, message_ro};
 use std::alloc::Global;
 
 // The name of a message's element, where the tables have it.

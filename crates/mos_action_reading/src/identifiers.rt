@@ -26,7 +26,7 @@ pub(crate) fn id_of(text: Text) -> OptId
 }
 
 /// The identifiers of these texts, in order.
-#[tactic(auto, using(mos_story_reading::proofs::Read::read_start, mos_story_reading::proofs::Read::read_next, mos_story_reading::proofs::Read::read_more, mos_story_reading::proofs::Read::read_end))]
+#[tactic(auto, using(mos_cursor::proofs::Read::read_start, mos_cursor::proofs::Read::read_next, mos_cursor::proofs::Read::read_more, mos_cursor::proofs::Read::read_end))]
 fn read_ids(alloc: Global, leaves: Sequence<LeafText>) -> Result<OptIds, NoMemory>
     requires { AllByRecursion HoldsId leaves }
     ensures { IfOk result (λ ids. map (λ x. x) ids ≡ map text_of leaves) }

@@ -4,6 +4,7 @@ ghost use Rattle.mos_fields.specs.Characters.{bytes_of, units_of};
 ghost use Rattle.mos_tables.specs.Canonical.{canonical};
 ghost use Rattle.mos_values.specs.MessageViews.{envelope_events};
 
+use line_texts::refused_line;
 use mos_fields::{NoMemory, let_go};
 use mos_lexer::Kind;
 use mos_message_reading::{envelope_of, read_message};
@@ -11,7 +12,7 @@ use mos_messages::encode;
 use mos_reader::Found;
 use mos_values::Envelope;
 use std::alloc::Global;
-use stream_commands::{Teller, refused_line};
+use stream_commands::Teller;
 
 /// Tells each message in its canonical encoding, and of a rejection its line in UTF-8.
 #[derive(Clone, Copy, Debug, PartialEq, Eq)]

@@ -14,3 +14,7 @@ pub mod Lengths
 pub mod Fill
 pub mod Typed
 pub mod WholeRecords
+pub mod HalfLemmas
+pub mod Joined
+pub mod Read
+pub mod NestedRecords

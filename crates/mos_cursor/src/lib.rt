@@ -2,6 +2,7 @@
 #![tactic(auto)]
 
 mod cursor;
+mod halves;
 mod laws;
 mod numbers;
 mod record;
@@ -10,6 +11,7 @@ mod take;
 mod texts;
 
 pub use cursor::Cursor;
+pub use halves::halves_of;
 pub use laws::{whole_record, written_tags};
 pub use record::record_slots;
 pub use slot::{LeafText, Nested, Slot};

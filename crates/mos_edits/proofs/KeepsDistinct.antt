@@ -8,8 +8,8 @@ use Rattle.mos_edits.specs.KeyedLists.ListAction.{Insert, Replace, Move, Delete,
 use Rattle.mos_edits.specs.Actions.{Action, act, act_in, put_items}
 use Rattle.mos_edits.specs.Actions.Action.{OnStories, OnItems}
 use Rattle.mos_edits.specs.Orders.{Item, Story, Order, Edit, shape, form_of, with_stories, apply}
-use Rattle.mos_values.specs.declared.edit.Edit.TheVariants as Edits
-use Rattle.mos_values.specs.declared.edit.Edit.TheVariants.{Create, Delete as DeleteOrder, Metadata, Act, Air}
+use Rattle.mos_edits.specs.declared.edit.Edit.TheVariants as Edits
+use Rattle.mos_edits.specs.declared.edit.Edit.TheVariants.{Create, Delete as DeleteOrder, Metadata, Act, Air}
 use Rattle.mos_values.specs.Distinct.{AreDistinct, story_ids, item_ids}
 use Rattle.mos_edits.specs.Distinct.{Each, HasDistinctItems, HasDistinctIdsIf, SourcesOk, ActionOk, BringsDistinctIds}
 use Rattle.mos_edits.proofs.Identifiers.{same-true, same-self, has-without}

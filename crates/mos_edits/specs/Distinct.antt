@@ -6,8 +6,8 @@ use Rattle.mos_edits.specs.KeyedLists.ListAction.{Insert, Replace}
 use Rattle.mos_edits.specs.Actions.{Action}
 use Rattle.mos_edits.specs.Actions.Action.{OnStories}
 use Rattle.mos_edits.specs.Orders.{Item, Story, Order, Edit, form_of}
-use Rattle.mos_values.specs.declared.edit.Edit.TheVariants as Edits
-use Rattle.mos_values.specs.declared.edit.Edit.TheVariants.{Create, Act}
+use Rattle.mos_edits.specs.declared.edit.Edit.TheVariants as Edits
+use Rattle.mos_edits.specs.declared.edit.Edit.TheVariants.{Create, Act}
 
 -- what holds of each element of a list
 abbrev pub Each : {X : Type 0} → (X → Type 0) → List X → Type 0

@@ -5,3 +5,4 @@ pub mod Orders
 pub mod Distinct
 pub mod Sizes
 pub mod Entries
+pub mod Carried

@@ -1,13 +1,18 @@
 //! Running orders and their edits as plain data: the definitions that the crates of orders, of the two machines and of
 //! the world cite, and their laws.
 //!
-//! Each law stands as the contract of a function that does nothing.
+//! Each law stands as the contract of a function that does nothing. `Edit` is the type of edits in memory, and a few
+//! functions turn messages into edits and back.
 #![tactic(auto)]
 
+mod carried;
+mod edit;
 mod edits;
 mod journal;
 mod lists;
 
+pub use carried::{edit_in, edit_message, edit_of_message, message_of_edit};
+pub use edit::Edit;
 pub use edits::{
     create_makes_an_order, other_edits_need_an_order, ready_changes_nothing,
     whole_order_edits_give_their_body,

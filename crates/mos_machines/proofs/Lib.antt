@@ -7,3 +7,4 @@ pub mod ServerAnswers
 pub mod SizeLemmas
 pub mod Views
 pub mod Written
+pub mod Names

@@ -9,7 +9,7 @@ use Rattle.mos_edits.specs.Entries.{Kind, kind, Entry, entry_of, entry_count, ed
 use Rattle.mos_edits.specs.Entries.Kind.{IsWhole, IsAction, IsReady, IsNotReady}
 use Rattle.mos_edits.proofs.Names.{named-now, edit-named}
 use Rattle.mos_fields.specs.declared.time.MosTime.{MosTime}
-use Rattle.mos_values.specs.declared.edit.Edit.TheVariants as edits
+use Rattle.mos_edits.specs.declared.edit.Edit.TheVariants as edits
 use Rattle.mos_machines.specs.Messages.{Status, status_text, read_status, Message, Packet, untagged}
 use Rattle.mos_machines.specs.Messages.Status.{Okay, NoDeck, NotInStep, Faulty, Full, StoreFault, Stopped, NotNow, NoRunningOrder, NotSupported, OtherStatus}
 use Rattle.mos_machines.specs.Messages.Message.{Heartbeat, RoEdit, RoAck, RoReq, RoReqAll, RoList, RoListAll, RoElementStat, OtherMessage}

@@ -1,6 +1,6 @@
 -- The two machines as the calls of the code make them. A call for a link that isn't the current one is answered Stale
 -- and changes nothing; only where a device is asked what it sends next, it is answered Nothing.
-use Rattle.std.specs.Prelude.{◌≡◌, ℕ, ◌≤◌, List, [], ◌∷◌, ◌++◌, Bool, true, false, Option, Some, None}
+use Rattle.std.specs.Prelude.{◌≡◌, ℕ, ◌<◌, ◌≤◌, ◌⊎◌, List, [], ◌∷◌, ◌++◌, Bool, true, false, Option, Some, None}
 use Rattle.mos_edits.specs.Texts.{Text, set_number}
 use Rattle.mos_edits.specs.Orders.{Order}
 use Rattle.mos_edits.specs.Entries.{Entry, entry_count, acceptance}
@@ -12,7 +12,6 @@ use Rattle.mos_machines.specs.Server.{PeerState, no_peer, upper_link, peer_opene
 use Rattle.mos_machines.specs.Server.Verdict.{Takes, Fails, Refuses}
 use Rattle.mos_machines.specs.Device.{GateState, Phase, no_gate, Decks, gate_accepted, gate_left, gate_read, gate_dropped, gate_opened, gate_next, gate_got, gate_want, gate_beat}
 use Rattle.mos_fields.specs.declared.time.MosTime.{MosTime}
-use Rattle.mos_io.specs.Counts.{Rose}
 
 -- `faults` is the keeper's fault count; `stopped` says that an append of this run failed.
 pub record ServerState : Type 0 where
@@ -88,6 +87,10 @@ server_step fails s (DeviceDropped d c) = unless_stale (is_lower s d c) s (Stepp
 server_step fails s (NextSend d c now) = unless_stale (is_upper s d c) s (server_sent s d (peer_next s.journal now (s.peers d)))
 server_step fails s (Hear d c m) = unless_stale (is_lower s d c) s (server_says s d (peer_hear s.journal (s.peers d) m))
 
+-- a count of 64 bits rose, or stands at its last value
+abbrev pub HasRisen : ℕ → ℕ → Type 0
+HasRisen before after = (before < after) ⊎ (18446744073709551615 ≤ after)
+
 -- An event of the server with its answer and the state after it. The keeper's fault count never falls, and an append
 -- fails only where it rose, or stands at its last value.
 pub record ServerStep (s : ServerState) (e : ServerEvent) (a : StepAnswer) (t : ServerState) : Type 0 where
@@ -95,7 +98,7 @@ pub record ServerStep (s : ServerState) (e : ServerEvent) (a : StepAnswer) (t : 
   pub answer : (server_step fails s e).0 ≡ a
   pub next : record (server_step fails s e).1 { faults = t.faults } ≡ t
   pub count : s.faults ≤ t.faults
-  pub rose : fails ≡ true → Rose s.faults t.faults
+  pub rose : fails ≡ true → HasRisen s.faults t.faults
 
 pub data DeviceEvent : Type 0 where
   UpperAccepted : (link : ℕ) → DeviceEvent

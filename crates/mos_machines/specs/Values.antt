@@ -1,14 +1,15 @@
 -- The messages of the machines and the values of mos_values that carry them.
 use Rattle.std.specs.Prelude.{◌≡◌, []}
 use Rattle.mos_edits.specs.Texts.{Text}
-use Rattle.mos_edits.specs.Orders.{Edit}
 use Rattle.mos_edits.specs.Entries.{entry_of, IsEntry}
 use Rattle.mos_machines.specs.Messages.{Status, status_text, read_status, Message}
 use Rattle.mos_machines.specs.Messages.Status.{OtherStatus}
 use Rattle.mos_machines.specs.Messages.Message.{Heartbeat, RoEdit, RoAck, RoReq, RoReqAll, RoList, RoListAll, RoElementStat, OtherMessage}
+pub use Rattle.mos_edits.specs.Carried.{edit_message}
+pub use Rattle.mos_values.specs.Names.{ack}
 use Rattle.mos_values.specs.declared.message.Message as values
 use Rattle.mos_values.specs.declared.message.Message.TheVariants as carried
-use Rattle.mos_values.specs.declared.edit.Edit.TheVariants as edits
+use Rattle.mos_edits.specs.declared.edit.Edit.TheVariants as edits
 
 -- what a machine sees of a message
 abbrev pub seen : values.Message → Message
@@ -27,18 +28,6 @@ seen (carried.RoListAll headers) = RoListAll headers
 seen (carried.RoElementStat status) = RoElementStat status.ro
 seen (carried.RoStorySend story) = OtherMessage story.ro
 seen message = OtherMessage []
-
--- the message that carries an edit
-abbrev pub edit_message : Edit → values.Message
-edit_message (edits.Create body) = carried.RoCreate body
-edit_message (edits.Replace body) = carried.RoReplace body
-edit_message (edits.Delete ro) = carried.RoDelete ro
-edit_message (edits.Metadata patch) = carried.RoMetadataReplace patch
-edit_message (edits.Act ro action) = carried.RoElementAction ro action
-edit_message (edits.Air ro air) = carried.RoReadyToAir ro air
-
-abbrev pub ack : Text → Text → values.Message
-ack ro status = carried.RoAck (record { ro = ro; status = status; groups = [] })
 
 -- The message that a machine writes. It writes no roElementStat and no other message; those would be a roAck.
 abbrev pub message_of : Message → values.Message

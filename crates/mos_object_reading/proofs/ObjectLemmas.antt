@@ -10,8 +10,8 @@ use Rattle.mos_cursor.specs.Accepted.{RecordsFit}
 use Rattle.mos_cursor.specs.Parts.{records, part_events}
 use Rattle.mos_cursor.specs.Slots.{record_of}
 use Rattle.mos_cursor.specs.declared.slot.Nested.{Nested}
-use Rattle.mos_story_reading.specs.Inner.{inner_events, Holds}
-use Rattle.mos_story_reading.proofs.Lists.{IsPlain, all_hold, all_elements}
+use Rattle.mos_cursor.specs.Inner.{inner_events, Holds}
+use Rattle.mos_cursor.proofs.NestedRecords.{IsPlain, all_hold, all_elements}
 
 plain_object : IsPlain tables.MosObj
 plain_object = record { same_table = λ before. refl; no_attribute = λ g h. h }

@@ -12,9 +12,8 @@ ghost use Rattle.mos_cursor.specs.Parts.{parts_events, places};
 ghost use Rattle.mos_cursor.specs.Slots.{parts_of};
 
 use crate::profiles::optional_supported;
-use mos_cursor::{Cursor, Slot};
+use mos_cursor::{Cursor, Slot, halves_of};
 use mos_fields::{MosTime, NoMemory, Text, pair_ok, triple_ok};
-use mos_story_reading::halves_of;
 use mos_tables::Table;
 use mos_values::{MachInfo, SupportedProfiles, Unreads};
 use std::alloc::Global;

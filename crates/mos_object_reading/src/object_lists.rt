@@ -10,7 +10,7 @@ ghost use Rattle.mos_values.specs.Views.{mos_obj_events, objects_events};
 ghost use Rattle.mos_cursor.specs.Accepted.{AllFit, IsAccepted, RecordsFit};
 ghost use Rattle.mos_cursor.specs.Parts.{parts_events, places, record_events};
 ghost use Rattle.mos_cursor.specs.Slots.{parts_of, record_of};
-ghost use Rattle.mos_story_reading.specs.Inner.{Holds, inner_events};
+ghost use Rattle.mos_cursor.specs.Inner.{Holds, inner_events};
 
 use crate::objects::object_of;
 use mos_cursor::{Cursor, Nested, Slot, record_slots};
@@ -20,7 +20,7 @@ use mos_values::{MosObjs, Sequence};
 use std::alloc::Global;
 
 /// The objects of these records, in order. The only error is that memory runs out.
-#[tactic(auto, using(mos_story_reading::proofs::Read::read_start, mos_story_reading::proofs::Read::read_next, mos_story_reading::proofs::Read::read_more, mos_story_reading::proofs::Read::read_end))]
+#[tactic(auto, using(mos_cursor::proofs::Read::read_start, mos_cursor::proofs::Read::read_next, mos_cursor::proofs::Read::read_more, mos_cursor::proofs::Read::read_end))]
 fn read_objects(alloc: Global, inner: Sequence<Nested>) -> Result<MosObjs, NoMemory>
     requires { AllByRecursion (Holds tables.MosObj) inner }
     ensures { IfOk result (λ objects. map mos_obj_events objects ≡ map inner_events inner) }

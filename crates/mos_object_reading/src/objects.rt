@@ -11,11 +11,10 @@ ghost use Rattle.mos_cursor.specs.Accepted.{AllFit, IsAccepted};
 ghost use Rattle.mos_cursor.specs.Parts.{parts_events, places};
 ghost use Rattle.mos_cursor.specs.Slots.{parts_of};
 
-use mos_cursor::{Cursor, Slot};
+use mos_cursor::{Cursor, Slot, halves_of};
 use mos_fields::{
     Air, Id, NoMemory, ObjType, Rev, Samples, Slug, Text, Unread, pair_ok, triple_ok,
 };
-use mos_story_reading::halves_of;
 use mos_tables::Table;
 use mos_values::{MosObj, Unreads};
 use std::alloc::Global;

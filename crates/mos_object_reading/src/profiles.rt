@@ -59,7 +59,7 @@ fn profile_of(leaf: &LeafText) -> Profile
 }
 
 /// The profiles of these texts, in order. The only error is that memory runs out.
-#[tactic(auto, using(mos_story_reading::proofs::Read::read_start, mos_story_reading::proofs::Read::read_next, mos_story_reading::proofs::Read::read_more, mos_story_reading::proofs::Read::read_end))]
+#[tactic(auto, using(mos_cursor::proofs::Read::read_start, mos_cursor::proofs::Read::read_next, mos_cursor::proofs::Read::read_more, mos_cursor::proofs::Read::read_end))]
 fn read_profiles(alloc: Global, leaves: Sequence<LeafText>) -> Result<Profiles, NoMemory>
     requires { AllByRecursion (λ l. LeafFits forms.Profile (leaf_of l)) leaves }
     ensures { IfOk result (λ ps. map profile_events ps ≡ map (λ l. leaf_event (name_of fields.MosProfile) (leaf_of l) ∷ []) leaves) }

@@ -5,7 +5,7 @@ ghost use Rattle.mos_values.specs.Sound.{IsSound};
 
 use crate::actions::is_sound_action;
 use crate::orders::{is_sound_body, is_sound_patch};
-use mos_values::Edit;
+use mos_edits::Edit;
 
 /// Whether the message of the edit has an encoding, as `is_sound` says of it.
 #[tactic(auto, unfolding(mos_values::specs::Sound::IsSound))]

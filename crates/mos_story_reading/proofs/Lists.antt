@@ -24,13 +24,10 @@ use Rattle.mos_cursor.specs.Accepted.{IsGivenTo, IsAccepted, RecordFits, Records
 use Rattle.mos_cursor.specs.Parts.{RecordPart, Part, records, record_events, part_events, parts_events, places}
 use Rattle.mos_cursor.specs.Slots.{record_of}
 use Rattle.mos_cursor.specs.declared.slot.Nested.{Nested}
-use Rattle.mos_story_reading.specs.Inner.{inner_events, Holds, header_places}
+use Rattle.mos_cursor.specs.Inner.{inner_events, Holds}
+use Rattle.mos_cursor.proofs.NestedRecords.{IsPlain, all_hold, all_elements, first_same}
+use Rattle.mos_story_reading.specs.HeaderPlaces.{header_places}
 use Rattle.mos_story_reading.proofs.Keys.{FreshKeys, fresh_distinct}
-
--- the table of a record that no target changes, and whose start has no attributes
-pub record IsPlain (u : Table) : Type 0 where
-  pub same_table : (before : List Child) → with_aim before u ≡ u
-  pub no_attribute : (g : List Attribute) → IsGivenTo u g → g ≡ []
 
 plain_item : IsPlain tables.Item
 plain_item = record { same_table = λ before. refl; no_attribute = λ g h. h }
@@ -40,31 +37,6 @@ plain_story = record { same_table = λ before. refl; no_attribute = λ g h. h }
 
 plain_header : IsPlain tables.HeaderPatch
 plain_header = record { same_table = λ before. refl; no_attribute = λ g h. h }
-
--- each of them is a record of the table
-pub all_hold : (t u : Table) (earlier : List Text) (rs : List Nested) → IsPlain u → RecordsFit t u earlier (map record_of rs) → AllByRecursion (Holds u) rs
-all_hold t u earlier [] p h = tt
-all_hold t u earlier (r ∷ rs) p h =
-    let k : IsAccepted u h.0.taken r.inner = subst (λ (z : Table). IsAccepted z h.0.taken r.inner) (p.same_table h.0.before) h.0.accepted in
-    ((h.0.taken, k), all_hold t u (earlier ++ first_text r.inner) rs p h.1)
-
-one_element : (n : Text) (r : Nested) (es : List Event) → (record_of r).given ≡ [] → es ≡ r.inner → record_events n (record_of r) ≡ element n es
-one_element n r es g e = ap (λ (z : List Attribute). opens n z ∷ (r.inner ++ closes n ∷ [])) g ∙ ap (λ (z : List Event). opens n [] ∷ (z ++ closes n ∷ [])) (sym e)
-
-first_same : (x y : List Event) (xs ys : List (List Event)) → x ∷ xs ≡ y ∷ ys → (x ≡ y) × (xs ≡ ys)
-first_same x y xs ys h = (cc, cc)
-
--- their events are those of the values
-pub all_elements : {A : Type 0} (read : A → List Event) (n : Text) (t u : Table) (earlier : List Text) (rs : List Nested) (xs : List A) → IsPlain u → RecordsFit t u earlier (map record_of rs)
-    → map read xs ≡ map inner_events rs → flat_map (record_events n) (map record_of rs) ≡ flat_map (λ a. element n (read a)) xs
-all_elements read n t u earlier [] [] p h e = refl
-all_elements read n t u earlier [] (x ∷ xs) p h e = absurd cc
-all_elements read n t u earlier (r ∷ rs) [] p h e = absurd cc
-all_elements read n t u earlier (r ∷ rs) (x ∷ xs) p h e =
-    let k = first_same (read x) r.inner (map read xs) (map inner_events rs) e in
-    let more = all_elements read n t u (earlier ++ first_text r.inner) rs xs p h.1 k.1 in
-    ap (λ (z : List Event). z ++ flat_map (record_events n) (map record_of rs)) (one_element n r (read x) (p.no_attribute (record_of r).given h.0.given) k.0)
-    ∙ ap (λ (z : List Event). element n (read x) ++ z) more
 
 -- their first texts are the keys of the values, each fresh
 pub all_fresh : {A : Type 0} (read : A → List Event) (key : A → Text) (t u : Table) (earlier : List Text) (rs : List Nested) (xs : List A) → is_keyed t u ≡ true → ((a : A) → first_text (read a) ≡ key a ∷ [])

@@ -9,7 +9,7 @@ ghost use Rattle.mos_values.specs.Views.{body_events, header_events, stories_eve
 ghost use Rattle.mos_cursor.specs.Accepted.{AllFit, AnyRecords, IsAccepted};
 ghost use Rattle.mos_cursor.specs.Parts.{part_events, parts_events, places};
 ghost use Rattle.mos_cursor.specs.Slots.{part_of, parts_of};
-ghost use Rattle.mos_story_reading.specs.Inner.{header_places};
+ghost use Rattle.mos_story_reading.specs.HeaderPlaces.{header_places};
 
 use crate::stories::stories_of;
 use mos_cursor::{Cursor, Slot, record_slots};

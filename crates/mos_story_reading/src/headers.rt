@@ -10,7 +10,7 @@ ghost use Rattle.mos_values.specs.Views.{headers_events, patch_events};
 ghost use Rattle.mos_cursor.specs.Accepted.{AllFit, IsAccepted, RecordsFit};
 ghost use Rattle.mos_cursor.specs.Parts.{parts_events, places, record_events};
 ghost use Rattle.mos_cursor.specs.Slots.{parts_of, record_of};
-ghost use Rattle.mos_story_reading.specs.Inner.{Holds, inner_events};
+ghost use Rattle.mos_cursor.specs.Inner.{Holds, inner_events};
 
 use mos_cursor::{Cursor, Nested, Slot, record_slots};
 use mos_fields::NoMemory;
@@ -20,7 +20,7 @@ use mos_values::{Headers, Sequence};
 use std::alloc::Global;
 
 /// The headers of these records, in order. The only error is that memory runs out.
-#[tactic(auto, using(crate::proofs::Read::read_start, crate::proofs::Read::read_next, crate::proofs::Read::read_more, crate::proofs::Read::read_end))]
+#[tactic(auto, using(mos_cursor::proofs::Read::read_start, mos_cursor::proofs::Read::read_next, mos_cursor::proofs::Read::read_more, mos_cursor::proofs::Read::read_end))]
 fn read_headers(alloc: Global, inner: Sequence<Nested>) -> Result<Headers, NoMemory>
     requires { AllByRecursion (Holds tables.HeaderPatch) inner }
     ensures { IfOk result (λ headers. map patch_events headers ≡ map inner_events inner) }

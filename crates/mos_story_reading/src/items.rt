@@ -14,10 +14,9 @@ ghost use Rattle.mos_values.specs.Views.{item_events, items_events};
 ghost use Rattle.mos_cursor.specs.Accepted.{AllFit, IsAccepted, RecordsFit};
 ghost use Rattle.mos_cursor.specs.Parts.{parts_events, places, record_events};
 ghost use Rattle.mos_cursor.specs.Slots.{parts_of, record_of};
-ghost use Rattle.mos_story_reading.specs.Inner.{Holds, inner_events};
+ghost use Rattle.mos_cursor.specs.Inner.{Holds, inner_events};
 
-use crate::slots::halves_of;
-use mos_cursor::{Cursor, Nested, Slot};
+use mos_cursor::{Cursor, Nested, Slot, halves_of};
 use mos_fields::{Id, NoMemory, OptId, Samples, Slug, Text, Unread, pair_ok, triple_ok};
 use mos_tables::Table;
 use mos_values::{Item, Items, Sequence, Unreads};
@@ -204,7 +203,7 @@ pub fn item_of(alloc: Global, cursor: Cursor) -> Result<Item, NoMemory>
 }
 
 /// The items of these records, in order. The only error is that memory runs out.
-#[tactic(auto, using(crate::proofs::Read::read_start, crate::proofs::Read::read_next, crate::proofs::Read::read_more, crate::proofs::Read::read_end))]
+#[tactic(auto, using(mos_cursor::proofs::Read::read_start, mos_cursor::proofs::Read::read_next, mos_cursor::proofs::Read::read_more, mos_cursor::proofs::Read::read_end))]
 fn read_items(alloc: Global, inner: Sequence<Nested>) -> Result<Items, NoMemory>
     requires { AllByRecursion (Holds tables.Item) inner }
     ensures { IfOk result (λ items. map item_events items ≡ map inner_events inner) }

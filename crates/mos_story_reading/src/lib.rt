@@ -4,11 +4,9 @@
 mod bodies;
 mod headers;
 mod items;
-mod slots;
 mod stories;
 
 pub use bodies::body_of;
 pub use headers::headers_of;
 pub use items::{item_of, items_of};
-pub use slots::halves_of;
 pub use stories::{stories_of, story_of};

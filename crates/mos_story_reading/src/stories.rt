@@ -12,7 +12,7 @@ ghost use Rattle.mos_values.specs.Views.{items_events, stories_events, story_eve
 ghost use Rattle.mos_cursor.specs.Accepted.{AllFit, AnyRecords, IsAccepted, RecordsFit};
 ghost use Rattle.mos_cursor.specs.Parts.{part_events, parts_events, places, record_events};
 ghost use Rattle.mos_cursor.specs.Slots.{part_of, parts_of, record_of};
-ghost use Rattle.mos_story_reading.specs.Inner.{Holds, inner_events};
+ghost use Rattle.mos_cursor.specs.Inner.{Holds, inner_events};
 
 use crate::items::items_of;
 use mos_cursor::{Cursor, Nested, Slot, record_slots};
@@ -80,7 +80,7 @@ pub fn story_of(alloc: Global, cursor: Cursor) -> Result<Story, NoMemory>
 }
 
 /// The stories of these records, in order. The only error is that memory runs out.
-#[tactic(auto, using(crate::proofs::Read::read_start, crate::proofs::Read::read_next, crate::proofs::Read::read_more, crate::proofs::Read::read_end))]
+#[tactic(auto, using(mos_cursor::proofs::Read::read_start, mos_cursor::proofs::Read::read_next, mos_cursor::proofs::Read::read_more, mos_cursor::proofs::Read::read_end))]
 fn read_stories(alloc: Global, inner: Sequence<Nested>) -> Result<Stories, NoMemory>
     requires { AllByRecursion (Holds tables.Story) inner }
     ensures { IfOk result (λ stories. map story_events stories ≡ map inner_events inner) }

@@ -5,6 +5,7 @@ pub mod Headers
 pub mod Parts
 pub mod Views
 pub mod MessageViews
+pub mod Names
 pub mod Units
 pub mod Pieces
 pub mod Sound

@@ -1,21 +1,23 @@
 //! Values on the heap.
 ghost use Rattle.std.specs.Prelude.{◌≡◌, IfOk};
 
-use crate::try_clone::TryClone;
 use mos_fields::NoMemory;
 use std::alloc::Global;
 use std::marker::Model;
+use std::sync::Arc;
 
 /// A value on the heap, so that what holds it is small. Contracts see it as the value.
 #[derive(Drop)]
 pub struct Boxed<T> {
-    held: Box<T>,
+    held: Arc<T>,
 }
 
 impl<T> Model for Boxed<T> {
+    ghost use Rattle.std.specs.Arc.{arc_value};
+
     ghost Value = { T };
 
-    ghost view = { λ b. b.held.value };
+    ghost view = { λ b. arc_value b.held };
 }
 
 impl<T> Boxed<T> {
@@ -23,14 +25,7 @@ impl<T> Boxed<T> {
     pub fn as_ref(&self) -> &T
         ensures { result.now ≡ self.now }
     {
-        self.held.as_ref()
-    }
-
-    /// The value, taken out.
-    pub fn into_inner(self) -> T
-        ensures { result ≡ self }
-    {
-        Box::into_inner(self.held)
+        &*self.held
     }
 }
 
@@ -39,17 +34,21 @@ impl<T: Drop> Boxed<T> {
     pub fn new(alloc: Global, value: T) -> Result<Self, NoMemory>
         ensures { IfOk result (λ b. b ≡ value) }
     {
-        let held = Box::new(alloc, value)?;
-        Ok(Boxed { held })
+        match Arc::new(alloc, value) {
+            Ok(held) => Ok(Boxed { held }),
+            Err(_) => Err(NoMemory),
+        }
     }
 }
 
-impl<T: TryClone> Boxed<T> {
-    /// The same value again, in memory of its own. The only error is that memory runs out.
+impl<T> Boxed<T> {
+    /// The same value again. The only error is that memory runs out.
     pub fn try_clone(&self) -> Result<Self, NoMemory>
         ensures { IfOk result (λ b. b ≡ self.now) }
     {
-        let value = self.held.as_ref().try_clone()?;
-        Boxed::new(*Box::allocator(&self.held), value)
+        match Arc::try_clone(&self.held) {
+            Ok(held) => Ok(Boxed { held }),
+            Err(_) => Err(NoMemory),
+        }
     }
 }

@@ -12,8 +12,8 @@ use crate::accepting::{accept_edit, undo};
 use crate::fault::CommandFault;
 use crate::giving::{give_all, is_whole, reserve_all};
 use crate::ncs::Ncs;
+use mos_edits::Edit;
 use mos_fields::let_go;
-use mos_values::Edit;
 use rundown_log::{Journal, KeepFault, Keeper, edit_ro};
 use server_peer::Peer;
 

@@ -5,8 +5,8 @@ ghost use Rattle.mos_edits.specs.Texts.{set_order};
 ghost use Rattle.mos_machines.specs.Server.{is_open, is_whole as is_whole_of, view_given};
 ghost use Rattle.ncs_core.specs.State.{states, given_by, HaveRoomFor};
 
+use mos_edits::Edit;
 use mos_fields::{Id, NoMemory};
-use mos_values::Edit;
 use server_peer::Peer;
 
 /// Whether an edit says what the whole order is.

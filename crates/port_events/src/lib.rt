@@ -1,7 +1,7 @@
 //! What comes to the server and to a gateway at their ports, and what is answered there.
 //!
 //! Both machines have one type of events and one of answers, so that programs reach either by the same code.
-//! `specs/Ports.antt` says which step of its machine each event is.
+//! Which step of its machine each event is, is said where the machines stand behind ports (`port_replies`).
 #![tactic(auto)]
 
 mod answer;

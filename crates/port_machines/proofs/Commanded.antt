@@ -9,7 +9,7 @@ use Rattle.ncs_core.specs.Commands.{IsCommandStep, LeavesAfter}
 use Rattle.ncs_core.specs.State.{NcsTables, devices_of, ncs_of}
 use Rattle.ncs_core.specs.declared.fault.CommandFault.{CommandFault}
 use Rattle.ncs_core.specs.declared.fault.CommandFault.TheVariants.{Stopped, Missing, AlreadyThere, Full, StoreFault, NoMemory}
-use Rattle.port_events.specs.Ports.{Asked, told}
+use Rattle.port_replies.specs.Ports.{Asked, told}
 use Rattle.mos_machines.specs.Values.{ack}
 use Rattle.port_events.specs.declared.answer.PortAnswer.{PortAnswer}
 use Rattle.port_events.specs.declared.answer.PortAnswer.TheVariants as answers

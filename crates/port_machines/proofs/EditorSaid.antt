@@ -3,15 +3,16 @@ use Rattle.std.proofs.Common.{◌≡◌, Some, None, Result, Ok, Err, IfOk, OnEr
 use Rattle.mos_edits.specs.Entries.{Entry, entry_of}
 use Rattle.mos_machines.specs.Steps.{ServerEvent}
 use Rattle.mos_machines.specs.Values.{seen}
-use Rattle.mos_values.specs.declared.edit.Edit.{Edit}
+use Rattle.mos_edits.specs.declared.edit.Edit.{Edit}
 use Rattle.mos_values.specs.declared.message.Message.{Message}
 use Rattle.ncs_core.specs.Commands.{IsCommandStep, LeavesAfter}
 use Rattle.ncs_core.specs.State.{NcsTables, devices_of, ncs_of}
 use Rattle.ncs_core.specs.declared.fault.CommandFault.{CommandFault}
-use Rattle.port_events.specs.Ports.{Asked, editor_heard, told}
+use Rattle.port_replies.specs.Ports.{Asked, editor_heard, told}
 use Rattle.port_events.specs.declared.answer.PortAnswer.{PortAnswer}
 use Rattle.port_events.specs.declared.answer.PortAnswer.TheVariants as answers
-use Rattle.port_machines.specs.Editing.{edit_in, reply_to}
+use Rattle.mos_edits.specs.Carried.{edit_in}
+use Rattle.port_machines.specs.Editing.{reply_to}
 use Rattle.port_machines.specs.Saying.{IsLeft, IsTold}
 use Rattle.port_machines.specs.Steps.{IsAnswered, IsServerRefusal}
 use Rattle.port_machines.proofs.Commanded.{command-comes, command-leaves}

@@ -12,7 +12,7 @@ use Rattle.mos_values.specs.declared.message.Message as values
 use Rattle.machine_answers.specs.declared.answers.Step.{Step as CallStep}
 use Rattle.mos_fields.specs.declared.time.MosTime.{MosTime}
 use Rattle.machine_answers.specs.Answers.{asked_of, heard_of, step_of}
-use Rattle.port_events.specs.Ports.{Asked, ComesTo, said}
+use Rattle.port_replies.specs.Ports.{Asked, ComesTo, said}
 use Rattle.port_events.specs.declared.answer.PortAnswer.{PortAnswer}
 use Rattle.port_machines.specs.Saying.{heard_said, sent_said, step_said}
 

@@ -4,13 +4,14 @@ use Rattle.mos_edits.specs.Entries.{Entry, entry_of}
 use Rattle.mos_machines.specs.Steps.{ServerEvent}
 use Rattle.mos_machines.specs.Values.{edit_message, seen}
 use Rattle.mos_values.specs.Sound.{IsSound}
-use Rattle.mos_values.specs.declared.edit.Edit.{Edit}
-use Rattle.mos_values.specs.declared.edit.Edit.TheVariants as edits
+use Rattle.mos_edits.specs.declared.edit.Edit.{Edit}
+use Rattle.mos_edits.specs.declared.edit.Edit.TheVariants as edits
 use Rattle.mos_values.specs.declared.message.Message.{Message}
 use Rattle.mos_values.specs.declared.message.Message.TheVariants.{RoCreate, RoReplace, RoMetadataReplace, RoDelete, RoElementAction, RoReadyToAir}
-use Rattle.port_events.specs.Ports.{Asked, editor_heard, told}
+use Rattle.port_replies.specs.Ports.{Asked, editor_heard, told}
 use Rattle.port_events.specs.declared.answer.PortAnswer.TheVariants as answers
-use Rattle.port_machines.specs.Editing.{edit_in, reply_to}
+use Rattle.mos_edits.specs.Carried.{edit_in}
+use Rattle.port_machines.specs.Editing.{reply_to}
 
 same-edit : (x y : Edit) → Some x ≡ Some y → x ≡ y
 same-edit x y h = cc

@@ -4,7 +4,7 @@ use Rattle.std.proofs.lemmas.Bool.{lt-ltb}
 use Rattle.mos_edits.specs.Entries.{Entry}
 use Rattle.mos_machines.specs.Steps.{ServerEvent}
 use Rattle.ncs_core.specs.State.{NcsTables, devices_of}
-use Rattle.port_events.specs.Ports.{Asked, server_asked, server_at, server_editor, server_upper}
+use Rattle.port_replies.specs.Ports.{Asked, server_asked, server_at, server_editor, server_upper}
 use Rattle.port_events.specs.declared.event.PortEvent.{PortEvent}
 use Rattle.port_events.specs.declared.event.Side.TheVariants.{Upper, Editor}
 use Rattle.port_events.specs.declared.answer.PortAnswer.{PortAnswer}

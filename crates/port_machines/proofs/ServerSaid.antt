@@ -12,7 +12,7 @@ use Rattle.machine_answers.specs.declared.answers.Heard.{Heard as CallHeard}
 use Rattle.machine_answers.specs.declared.answers.Sent.{Sent as CallSent}
 use Rattle.machine_answers.specs.declared.answers.Step.{Step as CallStep}
 use Rattle.ncs_core.specs.State.{LeavesRest, NcsTables, devices_of, ncs_of, sent_by}
-use Rattle.port_events.specs.Ports.{Asked, ComesTo, said, server_asked}
+use Rattle.port_replies.specs.Ports.{Asked, ComesTo, said, server_asked}
 use Rattle.port_events.specs.declared.event.PortEvent.{PortEvent}
 use Rattle.port_events.specs.declared.answer.PortAnswer.{PortAnswer}
 use Rattle.port_machines.specs.Saying.{heard_said, sent_said, step_said}

@@ -15,7 +15,7 @@ use Rattle.machine_answers.specs.declared.answers.Sent.TheVariants as sent
 use Rattle.ncs_core.specs.Commands.{fault_status}
 use Rattle.ncs_core.specs.declared.fault.CommandFault.{CommandFault}
 use Rattle.ncs_core.specs.declared.fault.CommandFault.TheVariants.{StoreFault}
-use Rattle.port_events.specs.Ports.{no_object, no_order}
+use Rattle.port_replies.specs.Ports.{no_object, no_order}
 use Rattle.port_events.specs.declared.answer.PortAnswer.{PortAnswer}
 use Rattle.port_events.specs.declared.answer.PortAnswer.TheVariants as answers
 use Rattle.port_machines.specs.declared.idle.Refusal.{Refusal}

@@ -8,7 +8,7 @@ use Rattle.mos_machines.specs.Steps.StepAnswer.{Told}
 use Rattle.mos_machines.specs.Tables.{GateTables, gate_of}
 use Rattle.rundown_log.specs.Keeping.{Keeps}
 use Rattle.ncs_core.specs.State.{NcsTables, ncs_of, devices_of}
-use Rattle.port_events.specs.Ports.{Asked, ComesTo, NcsPortStep, GatePortStep, server_asked}
+use Rattle.port_replies.specs.Ports.{Asked, ComesTo, NcsPortStep, GatePortStep, server_asked}
 use Rattle.port_events.specs.declared.event.PortEvent.{PortEvent}
 use Rattle.port_events.specs.declared.answer.PortAnswer.{PortAnswer}
 

@@ -3,7 +3,7 @@ ghost use Rattle.std.specs.Prelude.{◌≡◌, ◌<◌, OnErr, IfOk};
 ghost use Rattle.mos_machines.specs.Steps.{ServerEvent};
 ghost use Rattle.mos_machines.specs.Values.{seen};
 ghost use Rattle.ncs_core.specs.State.{devices_of};
-ghost use Rattle.port_events.specs.Ports.{Asked, greets, said, server_upper};
+ghost use Rattle.port_replies.specs.Ports.{Asked, greets, said, server_upper};
 ghost use Rattle.port_machines.specs.Steps.{IsAnswered, IsServerRefusal};
 
 use crate::saying::{heard_answer, sent_answer, step_answer};

@@ -5,16 +5,16 @@ ghost use Rattle.mos_machines.specs.Steps.{ServerEvent};
 ghost use Rattle.mos_machines.specs.Values.{edit_message, seen};
 ghost use Rattle.mos_values.specs.Sound.{IsSound};
 ghost use Rattle.mos_values.specs.declared.message.Message.TheVariants as carried;
-ghost use Rattle.port_events.specs.Ports.{Asked, editor_heard, server_editor, told};
+ghost use Rattle.port_replies.specs.Ports.{Asked, editor_heard, server_editor, told};
 ghost use Rattle.port_events.specs.declared.answer.PortAnswer.TheVariants as answers;
 ghost use Rattle.port_machines.specs.Editing.{reply_to};
 ghost use Rattle.port_machines.specs.Steps.{IsAnswered, IsServerRefusal};
 
-use crate::editing::edit_of;
 use crate::faults::{command_answer, prepared};
 use crate::replies::{list, not_supported};
+use mos_edits::{Edit, edit_in};
 use mos_fields::{NoMemory, let_go};
-use mos_values::{Edit, Message};
+use mos_values::Message;
 use ncs_core::Ncs;
 use port_events::{PortAnswer, SoundMessage, What};
 use rundown_log::{Keeper, edit_ro};
@@ -76,7 +76,7 @@ fn hear_editor<K: Keeper>(
     ensures err { OnErr result (IsServerRefusal ncs.old ncs.new) }
 {
     let message = message.message();
-    match edit_of(message)? {
+    match edit_in(message)? {
         Some(edit) => command_of(alloc, ncs, edit),
         None => reply(alloc, ncs, message),
     }

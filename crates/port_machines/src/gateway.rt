@@ -3,7 +3,7 @@ ghost use Rattle.std.specs.Prelude.{◌≡◌, OnErr, IfOk, refl};
 ghost use Rattle.std.proofs.Common.{◌∙◌};
 ghost use Rattle.mos_machines.specs.Steps.{DeviceStep};
 ghost use Rattle.mos_machines.specs.Tables.{gate_of};
-ghost use Rattle.port_events.specs.Ports.{ComesTo, gate_upper};
+ghost use Rattle.port_replies.specs.Ports.{ComesTo, gate_upper};
 ghost use Rattle.port_machines.specs.Steps.{IsGatewayStep};
 
 use crate::idle::{Refusal, idle_answer};

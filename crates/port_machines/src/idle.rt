@@ -1,13 +1,13 @@
 //! Ports at which a machine does nothing.
 ghost use Rattle.std.specs.Prelude.{◌≡◌, IfOk};
-ghost use Rattle.port_events.specs.Ports.{idle, no_object, refused as refused_of};
+ghost use Rattle.port_replies.specs.Ports.{idle, no_object, refused as refused_of};
 ghost use Rattle.port_events.specs.declared.answer.PortAnswer.TheVariants as answers;
 ghost use Rattle.port_machines.specs.Saying.{refusal_of};
 
-use crate::replies::{answer, nameless};
+use crate::replies::answer;
 use machine_answers::Status;
-use mos_fields::{NoMemory, Rev};
-use mos_values::{AckStatus, Message, MosAck};
+use mos_fields::NoMemory;
+use mos_values::{AckStatus, Message, MosAck, first_revision, nameless};
 use port_events::{PortAnswer, What};
 use std::alloc::Global;
 
@@ -18,16 +18,6 @@ pub enum Refusal {
     NoObject,
     /// The roAck of no order.
     NoOrder,
-}
-
-// The first revision.
-fn first_revision() -> Result<Rev, NoMemory>
-    ensures { IfOk result (λ rev. rev ≡ 0) }
-{
-    match Rev::try_new(&['0']) {
-        Ok(rev) => Ok(rev),
-        Err(_) => Err(NoMemory),
-    }
 }
 
 // The mosAck of no object.

@@ -5,7 +5,6 @@
 #![tactic(auto)]
 
 mod device_port;
-mod editing;
 mod editor_port;
 mod faults;
 mod gateway;

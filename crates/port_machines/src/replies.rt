@@ -5,33 +5,16 @@ ghost use Rattle.mos_machines.specs.Messages.{message_ro as message_ro_of};
 ghost use Rattle.mos_machines.specs.Messages.Status.{NotSupported};
 ghost use Rattle.mos_machines.specs.Values.{seen};
 ghost use Rattle.machine_answers.specs.Answers.{status_of};
-ghost use Rattle.port_events.specs.Ports.{order_said};
+ghost use Rattle.port_replies.specs.Ports.{order_said};
 ghost use Rattle.port_events.specs.declared.answer.PortAnswer.TheVariants as answers;
 ghost use Rattle.port_machines.specs.Saying.{acked};
 
 use machine_answers::{Status, acknowledgement};
 use mos_fields::{Id, NoMemory, OptId};
-use mos_values::{Boxed, Message};
+use mos_values::{Boxed, Message, message_ro, named};
 use port_events::PortAnswer;
 use running_order::Order;
 use std::alloc::Global;
-
-// A roID, as one that may be empty.
-fn named(ro: &Id) -> Result<OptId, NoMemory>
-    ensures { IfOk result (λ id. id ≡ ro.now) }
-{
-    Ok(OptId::from_id(ro.try_clone()?))
-}
-
-// No roID.
-pub fn nameless(alloc: Global) -> Result<OptId, NoMemory>
-    ensures { IfOk result (λ id. id ≡ []) }
-{
-    match OptId::try_new(alloc, &[]) {
-        Ok(id) => Ok(id),
-        Err(_) => Err(NoMemory),
-    }
-}
 
 // A roAck.
 pub fn answer(alloc: Global, ro: OptId, status: &Status) -> Result<PortAnswer, NoMemory>
@@ -47,27 +30,8 @@ pub fn answer_for(alloc: Global, ro: &Id, status: &Status) -> Result<PortAnswer,
     answer(alloc, named(ro)?, status)
 }
 
-// The roID that a message has, or an empty one.
-fn message_ro(alloc: Global, message: &Message) -> Result<OptId, NoMemory>
-    ensures { IfOk result (λ id. id ≡ message_ro_of (seen message.now)) }
-{
-    match message {
-        Message::RoElementStat(status) => named(&status.as_ref().ro),
-        Message::RoCreate(body) => named(&body.as_ref().header.ro),
-        Message::RoReplace(body) => named(&body.as_ref().header.ro),
-        Message::RoDelete(ro) => named(ro),
-        Message::RoMetadataReplace(patch) => named(&patch.as_ref().ro),
-        Message::RoElementAction { ro, action: _ } => named(ro),
-        Message::RoReadyToAir { ro, air: _ } => named(ro),
-        Message::RoAck(ack) => ack.ro.try_clone(),
-        Message::RoReq(ro) => named(ro),
-        Message::RoList(body) => named(&body.as_ref().header.ro),
-        Message::RoStorySend(story) => named(&story.as_ref().ro),
-        _ => nameless(alloc),
-    }
-}
-
 // The roAck to a message on which a machine doesn't act.
+#[tactic(auto, using(mos_machines::proofs::Names::seen_ro))]
 pub fn not_supported(alloc: Global, message: &Message) -> Result<PortAnswer, NoMemory>
     ensures { IfOk result (λ a. a ≡ acked (message_ro_of (seen message.now)) NotSupported) }
 {

@@ -2,7 +2,7 @@
 use Rattle.std.proofs.Common.{◌≡◌, Result, Ok, Err, IfOk, OnErr, ap}
 use Rattle.mos_machines.specs.Steps.{ServerEvent}
 use Rattle.ncs_core.specs.State.{NcsTables, devices_of}
-use Rattle.port_events.specs.Ports.{Asked, ComesTo, server_asked}
+use Rattle.port_replies.specs.Ports.{Asked, ComesTo, server_asked}
 use Rattle.port_events.specs.declared.event.PortEvent.{PortEvent}
 use Rattle.port_events.specs.declared.answer.PortAnswer.{PortAnswer}
 use Rattle.port_machines.specs.Steps.{IsServerRefusal, IsServerStep, NcsStep}

@@ -5,10 +5,9 @@ ghost use Rattle.mos_machines.specs.Messages.{status_text};
 ghost use Rattle.mos_values.specs.declared.mos_ack.AckStatus.TheVariants.{Ack, Nack};
 ghost use Rattle.port_replies.specs.Replies.{mos_ack};
 
-use crate::names::{message_obj, message_rev};
 use machine_answers::Status;
 use mos_fields::{NoMemory, Text, triple_ok};
-use mos_values::{AckStatus, Message, MosAck};
+use mos_values::{AckStatus, Message, MosAck, message_obj, message_rev};
 use std::alloc::Global;
 
 /// The mosAck that answers a message, with the objID and the objRev that the message has, and with this text where there was

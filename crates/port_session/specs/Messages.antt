@@ -1,9 +1,8 @@
 -- The messages of a connection: whose they are, how one for another end is answered, and what this end's own are.
-use Rattle.std.specs.Prelude.{◌≡◌, ℕ, Bool, false, [], codes, Option, Some, None, bytes_eq}
+use Rattle.std.specs.Prelude.{◌≡◌, ℕ, Bool, false, codes, Some, bytes_eq}
 use Rattle.std.specs.Fmt.{decimal}
 use Rattle.mos_fields.specs.Characters.{Text, units_of}
-use Rattle.mos_machines.specs.Messages.{message_ro}
-use Rattle.mos_machines.specs.Values.{ack, seen}
+use Rattle.mos_values.specs.Names.{ack, message_obj, message_rev, message_ro}
 use Rattle.mos_values.specs.declared.message.Envelope.{Envelope}
 use Rattle.mos_values.specs.declared.message.Message.{Message}
 use Rattle.mos_values.specs.declared.message.Message.TheVariants as carried
@@ -30,35 +29,11 @@ reply e m = record { mos = e.mos; ncs = e.ncs; message_id = e.message_id; messag
 abbrev pub not_for_me : Text
 not_for_me = codes "NOT FOR ME"
 
--- the text, or an empty one
-abbrev pub text_or_none : Option Text → Text
-text_or_none None = []
-text_or_none (Some text) = text
-
--- the number, or 0
-abbrev pub number_or_none : Option ℕ → ℕ
-number_or_none None = 0
-number_or_none (Some n) = n
-
--- the objID that a message has as a field of its own, or an empty one
-abbrev pub message_obj : Message → Text
-message_obj (carried.MosObj obj) = obj.id
-message_obj (carried.MosReqObj id) = id
-message_obj (carried.MosAck answer) = answer.obj
-message_obj (carried.RoElementStat status) = text_or_none status.obj
-message_obj m = []
-
--- the objRev that a message has as a field of its own, or 0
-abbrev pub message_rev : Message → ℕ
-message_rev (carried.MosObj obj) = number_or_none obj.rev
-message_rev (carried.MosAck answer) = number_or_none answer.rev
-message_rev m = 0
-
 -- `NOT FOR ME`: by a roAck with its roID, on the lower port by a mosAck with its objID
 abbrev pub refusal : Side → Message → Message
-refusal Upper m = ack (message_ro (seen m)) not_for_me
+refusal Upper m = ack (message_ro m) not_for_me
 refusal Lower m = carried.MosAck (record { obj = message_obj m; rev = Some (message_rev m); status = Nack; description = Some not_for_me })
-refusal Editor m = ack (message_ro (seen m)) not_for_me
+refusal Editor m = ack (message_ro m) not_for_me
 
 -- ---- this end's own messages
 

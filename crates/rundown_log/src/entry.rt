@@ -3,8 +3,8 @@ ghost use Rattle.std.specs.Prelude.{◌≡◌, IfOk};
 ghost use Rattle.mos_edits.specs.Entries.{entry_of, IsEntry};
 ghost use Rattle.mos_edits.specs.Orders.{edit_ro as edit_ro_of};
 
+use mos_edits::Edit;
 use mos_fields::{Id, NoMemory};
-use mos_values::Edit;
 use std::marker::Model;
 
 /// An entry of the server's journal: an edit that was accepted, with the roID that it names.

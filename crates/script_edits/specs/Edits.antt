@@ -6,8 +6,8 @@ use Rattle.mos_fields.specs.Values.{word_of}
 use Rattle.mos_fields.specs.declared.air.Air.TheVariants.{Ready as IsReady, NotReady as IsNotReady}
 use Rattle.mos_values.specs.declared.action.Action.{Action}
 use Rattle.mos_values.specs.declared.action.Action.TheVariants as actions
-use Rattle.mos_values.specs.declared.edit.Edit as values
-use Rattle.mos_values.specs.declared.edit.Edit.TheVariants as edits
+use Rattle.mos_edits.specs.declared.edit.Edit as values
+use Rattle.mos_edits.specs.declared.edit.Edit.TheVariants as edits
 use Rattle.mos_values.specs.declared.item.Item.{Item}
 use Rattle.mos_values.specs.StoryValue.{Story}
 use Rattle.script_edits.specs.declared.edit_verb.EditVerb.{EditVerb}

@@ -14,8 +14,9 @@ use crate::stories::distinct_stories;
 use crate::story_actions::{
     delete_stories, insert_stories, move_stories, replace_story, swap_stories,
 };
+use mos_edits::Edit;
 use mos_fields::{Air, Id, NoMemory, Slug};
-use mos_values::{Action, Boxed, Edit, Header, HeaderPatch, OrderBody, Stories, Unreads};
+use mos_values::{Action, Boxed, Header, HeaderPatch, OrderBody, Stories, Unreads};
 use std::alloc::Global;
 
 /// The header of these alone.

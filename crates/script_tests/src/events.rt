@@ -1,7 +1,8 @@
 //! Lines of worked scripts, and made events.
 
+use mos_edits::Edit;
 use mos_fields::{Air, NoMemory};
-use mos_values::{Action, Edit};
+use mos_values::Action;
 use script_reader::close_event;
 use std::alloc::Global;
 use std::test::Fail;

@@ -4,7 +4,7 @@ use Rattle.std.proofs.Common.{◌≡◌, List, [], ◌∷◌, true, false, refl}
 use Rattle.mos_edits.specs.Texts.{same_id}
 use Rattle.mos_edits.specs.Orders.{apply}
 use Rattle.mos_edits.specs.Entries.{over_limit}
-use Rattle.mos_values.specs.declared.edit.Edit.TheVariants.{Act, Air, Replace}
+use Rattle.mos_edits.specs.declared.edit.Edit.TheVariants.{Act, Air, Replace}
 use Rattle.mos_values.specs.declared.action.Action.TheVariants.{SwapStories}
 use Rattle.mos_fields.specs.declared.air.Air.TheVariants.{Ready}
 use Rattle.world_laws.specs.World.{WorldEvent, own_time}

@@ -5,8 +5,8 @@ ghost use Rattle.mos_edits.specs.Entries.{kind, edit_at};
 ghost use Rattle.server_peer.specs.Parts.{view_of};
 
 use crate::view::{Seen, View};
+use mos_edits::Edit;
 use mos_fields::{Air, Id};
-use mos_values::Edit;
 use order_table::RowChange;
 use rundown_log::{Entry, Journal};
 

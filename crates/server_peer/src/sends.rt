@@ -16,8 +16,9 @@ use crate::peer::Peer;
 use crate::until::{first_listed, out_until, place_until};
 use crate::upper::{ServerOut, Upper};
 use machine_answers::{Sent, Tag};
+use mos_edits::edit_message;
 use mos_fields::{Id, MosTime, NoMemory};
-use mos_values::{Edit, Message};
+use mos_values::Message;
 use rundown_log::{Entry, Journal};
 
 // The link of an open connection on which nothing is in flight.
@@ -37,26 +38,6 @@ fn link_if_idle(link: u64, out: &ServerOut) -> Option<u64>
         ServerOut::Idle => Some(link),
         _ => None,
     }
-}
-
-// The message that carries an edit.
-fn edit_message(edit: &Edit) -> Result<Message, NoMemory>
-    ensures { IfOk result (λ m. m ≡ edit_message_of edit.now) }
-{
-    Ok(match edit {
-        Edit::Create(body) => Message::RoCreate(body.try_clone()?),
-        Edit::Replace(body) => Message::RoReplace(body.try_clone()?),
-        Edit::Delete(ro) => Message::RoDelete(ro.try_clone()?),
-        Edit::Metadata(patch) => Message::RoMetadataReplace(patch.try_clone()?),
-        Edit::Act { ro, action } => Message::RoElementAction {
-            ro: ro.try_clone()?,
-            action: action.try_clone()?,
-        },
-        Edit::Air { ro, air } => Message::RoReadyToAir {
-            ro: ro.try_clone()?,
-            air: *air,
-        },
-    })
 }
 
 // The tag of an entry that is due.

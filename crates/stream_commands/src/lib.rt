@@ -12,7 +12,6 @@ mod status;
 mod teller;
 mod texts;
 
-pub use lines::refused_line;
 pub use listing::{Counter, Lister};
 pub use run::run_stream;
 pub use status::Status;

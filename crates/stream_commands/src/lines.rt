@@ -2,12 +2,12 @@
 ghost use Rattle.std.specs.Prelude.{◌≡◌, ◌++◌, OnOk, IfOk, string_bytes, drop};
 ghost use Rattle.mos_events.specs.EventView.{element_text, events_of};
 ghost use Rattle.mos_decoder.specs.Bytes.{found_of};
-ghost use Rattle.stream_commands.specs.Lines.{behind_text as behind_text_of, count_line as count_line_of, element_name, identifier, is_identifier as is_identifier_of, kind_text, message_line, message_part as message_part_of, printed_text, refused_line as refused_line_of, shown_identifier, shown_line as shown_line_of, text_in_front, with_field};
+ghost use Rattle.stream_commands.specs.Lines.{behind_text as behind_text_of, count_line as count_line_of, element_name, identifier, is_identifier as is_identifier_of, message_line, message_part as message_part_of, printed_text, shown_identifier, shown_line as shown_line_of, text_in_front};
 
-use crate::texts::{push_identifier, push_number, push_raw_name, push_text, push_word};
+use crate::texts::{push_identifier, push_raw_name};
+use line_texts::{push_number, push_text, push_word};
 use mos_events::{ElementName, Event};
 use mos_fields::{Field, NoMemory};
-use mos_lexer::Kind;
 use mos_reader::Found;
 use std::alloc::Global;
 
@@ -109,7 +109,7 @@ pub fn shown_line(alloc: Global, found: Found) -> Result<String, NoMemory>
     ensures { IfOk result (λ line. string_bytes line ≡ shown_line_of (found_of found)) }
 {
     let mut line = String::new(alloc);
-    push_number(alloc, &mut line, found.began)?;
+    push_number(alloc, &mut line, found.began as u64)?;
     let events = found.value.into_vec();
     push_message(alloc, &mut line, &events)?;
     Ok(line)
@@ -120,50 +120,9 @@ pub fn count_line(alloc: Global, messages: usize, units: usize) -> Result<String
     ensures { IfOk result (λ line. string_bytes line ≡ count_line_of messages units) }
 {
     let mut line = String::new(alloc);
-    push_number(alloc, &mut line, messages)?;
+    push_number(alloc, &mut line, messages as u64)?;
     push_word(&mut line, " messages, ")?;
-    push_number(alloc, &mut line, units)?;
+    push_number(alloc, &mut line, units as u64)?;
     push_word(&mut line, " units\n")?;
-    Ok(line)
-}
-
-/// Appends a kind that names a field.
-fn push_with_field(out: &mut String, word: &str, field: Field) -> Result<(), NoMemory>
-    ensures { OnOk result (string_bytes out.new ≡ string_bytes out.old ++ with_field word.now field) }
-{
-    push_word(out, word)?;
-    push_word(out, "(")?;
-    push_word(out, field.name())?;
-    push_word(out, ")")
-}
-
-/// Appends a kind.
-fn push_kind(out: &mut String, kind: Kind) -> Result<(), NoMemory>
-    ensures { OnOk result (string_bytes out.new ≡ string_bytes out.old ++ kind_text kind) }
-{
-    match kind {
-        Kind::BadUnit => push_word(out, "BadUnit"),
-        Kind::BadChar => push_word(out, "BadChar"),
-        Kind::Entity => push_word(out, "Entity"),
-        Kind::Twice(field) => push_with_field(out, "Twice", field),
-        Kind::Order(field) => push_with_field(out, "Order", field),
-        Kind::Missing(field) => push_with_field(out, "Missing", field),
-        Kind::Value(field) => push_with_field(out, "Value", field),
-        Kind::Tag => push_word(out, "Tag"),
-        Kind::TooLong => push_word(out, "TooLong"),
-        Kind::End => push_word(out, "End"),
-    }
-}
-
-/// The line of a rejection: its place in code units, and its kind.
-pub fn refused_line(alloc: Global, place: usize, kind: Kind) -> Result<String, NoMemory>
-    ensures { IfOk result (λ line. string_bytes line ≡ refused_line_of place kind) }
-{
-    let mut line = String::new(alloc);
-    push_word(&mut line, "REFUSED ")?;
-    push_number(alloc, &mut line, place)?;
-    push_word(&mut line, " ")?;
-    push_kind(&mut line, kind)?;
-    push_word(&mut line, "\n")?;
     Ok(line)
 }

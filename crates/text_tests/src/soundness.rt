@@ -1,9 +1,8 @@
 //! What is sound and what isn't, by values from outside.
+use mos_edits::Edit;
 use mos_fields::{Id, Name, NoMemory, OptId, OptIds, Slug, Unread, let_go, pair_ok, triple_ok};
 use mos_soundness::{is_sound, is_sound_edit};
-use mos_values::{
-    Action, Boxed, Edit, Header, HeaderPatch, Item, Message, OrderBody, Story, Unreads,
-};
+use mos_values::{Action, Boxed, Header, HeaderPatch, Item, Message, OrderBody, Story, Unreads};
 use std::alloc::Global;
 use std::test::Fail;
 

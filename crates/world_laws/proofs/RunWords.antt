@@ -3,7 +3,7 @@ use Rattle.std.proofs.Common.{◌≡◌, List, [], ◌∷◌, None, refl}
 use Rattle.std.specs.Prelude.{codes}
 use Rattle.mos_edits.specs.Texts.{Text, same_id}
 use Rattle.mos_edits.specs.Orders.{Order, Story, Item, apply}
-use Rattle.mos_values.specs.declared.edit.Edit.TheVariants.{Create}
+use Rattle.mos_edits.specs.declared.edit.Edit.TheVariants.{Create}
 use Rattle.mos_edits.specs.Entries.{over_limit}
 use Rattle.world_laws.specs.World.{World, WorldEvent, opening, run, own_time}
 use Rattle.world_laws.specs.World.WorldEvent.{Command, AtDevice}

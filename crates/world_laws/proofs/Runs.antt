@@ -2,8 +2,8 @@
 use Rattle.std.proofs.Common.{◌≡◌, List, [], ◌∷◌, true, false, Some, None, refl}
 use Rattle.mos_edits.specs.Texts.{same_id}
 use Rattle.mos_edits.specs.Orders.{apply}
-use Rattle.mos_values.specs.declared.edit.Edit.TheVariants as Edits
-use Rattle.mos_values.specs.declared.edit.Edit.TheVariants.{Create, Act, Air}
+use Rattle.mos_edits.specs.declared.edit.Edit.TheVariants as Edits
+use Rattle.mos_edits.specs.declared.edit.Edit.TheVariants.{Create, Act, Air}
 use Rattle.mos_values.specs.declared.action.Action.TheVariants.{InsertStories, ReplaceStory, InsertItems, MoveStories, MoveItems, DeleteStories, DeleteItems, SwapStories, SwapItems}
 use Rattle.mos_fields.specs.declared.air.Air.TheVariants.{Ready}
 use Rattle.mos_edits.specs.Entries.{entry_count, order_now, over_limit}

@@ -15,7 +15,7 @@ use Rattle.mos_machines.specs.Server.{is_whole}
 use Rattle.mos_machines.specs.Values.{edit_message, message_of, IsWrittenStatus, IsWritten}
 use Rattle.mos_fields.specs.declared.air.Air.{Air}
 use Rattle.mos_fields.specs.declared.air.Air.TheVariants as airs
-use Rattle.mos_values.specs.declared.edit.Edit.TheVariants as edits
+use Rattle.mos_edits.specs.declared.edit.Edit.TheVariants as edits
 use Rattle.mos_values.specs.declared.message.Message as values
 use Rattle.rundown_log.proofs.PlaceRows.{set-same}
 use Rattle.world_laws.specs.World.{applied_step, applied_read}

@@ -5,7 +5,7 @@ use Rattle.mos_edits.specs.Orders.{Edit}
 use Rattle.mos_machines.specs.Messages.{Message, Packet as Said, Tag as kinds}
 use Rattle.mos_machines.specs.Messages.Message.{Heartbeat, RoEdit, RoAck, RoReq, RoReqAll, RoList, RoListAll, RoElementStat, OtherMessage}
 use Rattle.mos_machines.specs.Values.{edit_message, message_of, IsWritten}
-use Rattle.mos_values.specs.declared.edit.Edit.TheVariants as edits
+use Rattle.mos_edits.specs.declared.edit.Edit.TheVariants as edits
 use Rattle.world_laws.specs.Outcomes.{Outcome, written}
 use Rattle.world_parts.specs.declared.packet.Packet.{Packet}
 use Rattle.world_parts.specs.declared.packet.PacketTag.{PacketTag}

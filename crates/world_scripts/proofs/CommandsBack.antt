@@ -10,8 +10,8 @@ use Rattle.mos_fields.specs.Characters.{Text}
 use Rattle.mos_fields.specs.declared.air.Air.TheVariants.{Ready, NotReady}
 use Rattle.mos_values.specs.declared.action.Action.{Action}
 use Rattle.mos_values.specs.declared.action.Action.TheVariants as actions
-use Rattle.mos_values.specs.declared.edit.Edit.{Edit}
-use Rattle.mos_values.specs.declared.edit.Edit.TheVariants as edits
+use Rattle.mos_edits.specs.declared.edit.Edit.{Edit}
+use Rattle.mos_edits.specs.declared.edit.Edit.TheVariants as edits
 use Rattle.mos_values.specs.declared.header.Header.{Header}
 use Rattle.mos_values.specs.declared.header.HeaderPatch.{HeaderPatch}
 use Rattle.mos_values.specs.declared.item.Item.{Item}

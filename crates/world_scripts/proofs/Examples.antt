@@ -9,7 +9,7 @@ use Rattle.world_laws.specs.Outcomes.{Outcome}
 use Rattle.world_scripts.specs.Listing.{state_lines}
 use Rattle.world_scripts.specs.Results.{listing, summary}
 use Rattle.mos_values.specs.declared.action.Action.TheVariants as actions
-use Rattle.mos_values.specs.declared.edit.Edit.TheVariants as edits
+use Rattle.mos_edits.specs.declared.edit.Edit.TheVariants as edits
 use Rattle.world_laws.specs.World.{PairingEvent, WorldEvent, Direction}
 use Rattle.script_edits.specs.Words.{is_name, is_number}
 use Rattle.script_edits.specs.Stories.{story_named, story_of, order_named, item_named}

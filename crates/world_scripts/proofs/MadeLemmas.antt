@@ -3,7 +3,7 @@ use Rattle.std.proofs.Common.{◌≡◌, ℕ, zero, suc, ◌+◌, ◌-◌, ◌*�
 use Rattle.std.proofs.Math.Nat.{mod-add-mod}
 use Rattle.mos_values.specs.Distinct.{AreDistinct, story_ids}
 use Rattle.mos_values.specs.StoryValue.{Story}
-use Rattle.mos_values.specs.declared.edit.Edit.{Edit}
+use Rattle.mos_edits.specs.declared.edit.Edit.{Edit}
 use Rattle.world_scripts.specs.declared.world_event.WorldEvent.{WorldEvent as Held}
 use Rattle.world_scripts.specs.WorldEvents.{event_of as seen}
 use Rattle.world_scripts.specs.declared.making.Making.{Making}

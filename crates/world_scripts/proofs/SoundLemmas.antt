@@ -6,8 +6,8 @@ use Rattle.mos_fields.specs.Characters.{Text}
 use Rattle.mos_machines.specs.Values.{edit_message}
 use Rattle.mos_values.specs.declared.action.Action.{Action}
 use Rattle.mos_values.specs.declared.action.Action.TheVariants as actions
-use Rattle.mos_values.specs.declared.edit.Edit.{Edit}
-use Rattle.mos_values.specs.declared.edit.Edit.TheVariants as edits
+use Rattle.mos_edits.specs.declared.edit.Edit.{Edit}
+use Rattle.mos_edits.specs.declared.edit.Edit.TheVariants as edits
 use Rattle.mos_values.specs.declared.item.Item.{Item}
 use Rattle.mos_values.specs.StoryValue.{Story}
 use Rattle.mos_values.specs.Parts.{must, maybe, maybe_as, maybe_raw, raws}

@@ -5,8 +5,8 @@ use Rattle.mos_edits.specs.Entries.{entry_of}
 use Rattle.mos_fields.specs.Characters.{Text}
 use Rattle.mos_fields.specs.declared.air.Air.TheVariants as airs
 use Rattle.mos_values.specs.declared.action.Action.TheVariants.{InsertStories, MoveStories, DeleteStories, SwapStories}
-use Rattle.mos_values.specs.declared.edit.Edit as values
-use Rattle.mos_values.specs.declared.edit.Edit.TheVariants as edits
+use Rattle.mos_edits.specs.declared.edit.Edit as values
+use Rattle.mos_edits.specs.declared.edit.Edit.TheVariants as edits
 use Rattle.mos_values.specs.StoryValue.{Story}
 use Rattle.world_laws.specs.World.{PairingEvent as rows, WorldEvent}
 use Rattle.world_laws.specs.World.WorldEvent.{Command, AtDevice, Restart}

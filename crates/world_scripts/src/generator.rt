@@ -9,8 +9,8 @@ use crate::made_edits::{create, drop_story, insert, move_story, ready, swap};
 use crate::made_verb::{MadeVerb, verb_at};
 use crate::making::{Lasts, Making, next_number, opened};
 use crate::{PairingEvent, WorldEvent};
+use mos_edits::Edit;
 use mos_fields::NoMemory;
-use mos_values::Edit;
 use std::alloc::Global;
 use std::marker::Model;
 

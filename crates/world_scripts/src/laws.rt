@@ -1,7 +1,7 @@
 //! Laws of lines.
 ghost use Rattle.std.specs.Prelude.{◌≡◌, ◌≤◌, Some, length};
 ghost use Rattle.mos_edits.specs.Entries.{entry_of};
-ghost use Rattle.mos_values.specs.declared.edit.Edit.{Edit};
+ghost use Rattle.mos_edits.specs.declared.edit.Edit.{Edit};
 ghost use Rattle.world_laws.specs.World.{WorldEvent};
 ghost use Rattle.world_scripts.specs.Events.{event_in};
 ghost use Rattle.world_scripts.specs.Printed.{IsSayable, line_of};

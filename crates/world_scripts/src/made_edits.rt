@@ -2,12 +2,13 @@
 ghost use Rattle.std.specs.Prelude.{◌≡◌, [], ◌∷◌, IfOk};
 ghost use Rattle.mos_fields.specs.declared.air.Air.TheVariants as airs;
 ghost use Rattle.mos_values.specs.declared.action.Action.TheVariants as actions;
-ghost use Rattle.mos_values.specs.declared.edit.Edit.TheVariants as edits;
+ghost use Rattle.mos_edits.specs.declared.edit.Edit.TheVariants as edits;
 ghost use Rattle.script_edits.specs.Stories.{order_named};
 ghost use Rattle.world_scripts.specs.Made.{made_id, made_order, made_story};
 
+use mos_edits::Edit;
 use mos_fields::{Air, Id, NoMemory, OptId, OptIds};
-use mos_values::{Action, Boxed, Edit, Stories, Story};
+use mos_values::{Action, Boxed, Stories, Story};
 use script_edits::{id_named, opt_id_named, order_with, story_named};
 use std::alloc::Global;
 

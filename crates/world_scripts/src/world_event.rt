@@ -3,8 +3,9 @@ ghost use Rattle.std.specs.Prelude.{◌≡◌, IfOk};
 
 use crate::direction::Direction;
 use crate::pairing_event::PairingEvent;
+use mos_edits::Edit;
 use mos_fields::NoMemory;
-use mos_values::{Edit, TryClone};
+use mos_values::TryClone;
 
 /// An event of a world of one server and its devices, which are numbered from 1.
 #[derive(Drop)]

@@ -13,7 +13,7 @@ use Rattle.mos_machines.specs.Steps.{ServerState, ServerEvent, server_says, serv
 use Rattle.mos_machines.specs.Values.{edit_message, message_of, reread, seen}
 use Rattle.mos_machines.specs.Views.{IsPeerWithin}
 use Rattle.mos_machines.proofs.Written.{answered-reread, heard-reread, heard-written, next-written, seen-written}
-use Rattle.mos_values.specs.declared.edit.Edit.TheVariants as edits
+use Rattle.mos_edits.specs.declared.edit.Edit.TheVariants as edits
 use Rattle.mos_values.specs.declared.message.Message.{Message as Carried}
 use Rattle.machine_answers.specs.Answers.{heard_of, step_of, stepped}
 use Rattle.machine_answers.specs.declared.answers.Heard.TheVariants as heards

@@ -12,8 +12,8 @@ ghost use Rattle.world_stage.specs.Commanding.{IsCommanded, IsToldFor, IsToldOf}
 ghost use Rattle.ncs_core.specs.Commands.{fault_status as fault_status_of};
 
 use machine_answers::Status;
+use mos_edits::Edit;
 use mos_fields::{NoMemory, let_go};
-use mos_values::Edit;
 use ncs_core::{CommandFault, Ncs};
 use rundown_log::MemKeeper;
 use std::alloc::Global;

@@ -9,8 +9,9 @@ ghost use Rattle.world_laws.specs.World.{WorldEvent as events};
 ghost use Rattle.written_laws.specs.Lengths.{HasShortIds, HasShortTarget, IsShort, IsSmallAction, IsSmallEdit, KeepsFieldLimits};
 ghost use Rattle.written_laws.specs.Worlds.{KeepsLimits};
 
+use mos_edits::Edit;
 use mos_fields::{Id, OptId, Samples};
-use mos_values::{Action, Edit, HeaderPatch, Item, OrderBody, Story};
+use mos_values::{Action, HeaderPatch, Item, OrderBody, Story};
 use world_scripts::PairingEvent;
 
 fn samples_are_small(count: &Option<Samples>)

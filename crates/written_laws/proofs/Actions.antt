@@ -12,7 +12,7 @@ use Rattle.mos_tables.specs.Canonical.{event_text}
 use Rattle.mos_tables.specs.Events.{Event, opens, closes}
 use Rattle.mos_values.specs.declared.action.Action as values
 use Rattle.mos_values.specs.declared.action.Action.TheVariants as actions
-use Rattle.mos_values.specs.declared.edit.Edit.TheVariants as edits
+use Rattle.mos_edits.specs.declared.edit.Edit.TheVariants as edits
 use Rattle.mos_values.specs.MessageViews.{operation_of_action, target_story, target_item, ids_events, source, action_events, message_events}
 use Rattle.mos_values.specs.Parts.{must, attribute}
 use Rattle.mos_values.specs.Units.{units_in}

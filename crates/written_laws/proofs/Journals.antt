@@ -10,7 +10,7 @@ use Rattle.mos_edits.specs.Orders.{Item, Story, Order, Header, HeaderPatch, Edit
 use Rattle.mos_edits.specs.Entries.{Entry, entries, edit_at, no_edit, result_or, order_from, order_after, order_now, listed, with_header, headers_of, headers}
 use Rattle.mos_values.specs.declared.action.Action as values
 use Rattle.mos_values.specs.declared.action.Action.TheVariants as actions
-use Rattle.mos_values.specs.declared.edit.Edit.TheVariants as edits
+use Rattle.mos_edits.specs.declared.edit.Edit.TheVariants as edits
 use Rattle.mos_values.specs.Sound.{IsSound, IsSoundItem, AreSoundItems, IsSoundStory, AreSoundStories, IsSoundAction, IsSoundBody, IsSoundPatch}
 use Rattle.mos_values.specs.Views.{story_head_events}
 use Rattle.written_laws.specs.Laws.{IsSoundEdit, HasSoundEdits, IsSoundOrder}

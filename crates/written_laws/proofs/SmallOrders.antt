@@ -9,7 +9,7 @@ use Rattle.mos_edits.specs.Orders.{Item, Story, Order, Header, HeaderPatch, Edit
 use Rattle.mos_edits.specs.Entries.{Entry, entries, order_now, listed, with_header, headers_of, headers}
 use Rattle.mos_values.specs.declared.action.Action as values
 use Rattle.mos_values.specs.declared.action.Action.TheVariants as actions
-use Rattle.mos_values.specs.declared.edit.Edit.TheVariants as edits
+use Rattle.mos_edits.specs.declared.edit.Edit.TheVariants as edits
 use Rattle.mos_machines.specs.Small.{IsSmallItem, AreSmallItems, AreSmallStories}
 use Rattle.written_laws.specs.Lengths.{IsShort, IsSmallAction, IsSmallEdit, IsSmallIfThere, KeepsFieldLimits}
 use Rattle.written_laws.proofs.Elements.{all-map, WhereDone}

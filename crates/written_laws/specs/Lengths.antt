@@ -5,7 +5,7 @@ use Rattle.mos_edits.specs.Orders.{Order, Edit, edit_ro}
 use Rattle.mos_edits.specs.Entries.{Entry}
 use Rattle.mos_values.specs.declared.action.Action.{Action}
 use Rattle.mos_values.specs.declared.action.Action.TheVariants.{InsertStories, ReplaceStory, InsertItems, ReplaceItem, MoveStories, MoveItems, DeleteStories, DeleteItems, SwapStories, SwapItems}
-use Rattle.mos_values.specs.declared.edit.Edit.TheVariants.{Create, Replace, Delete, Metadata, Act, Air}
+use Rattle.mos_edits.specs.declared.edit.Edit.TheVariants.{Create, Replace, Delete, Metadata, Act, Air}
 use Rattle.mos_values.specs.declared.message.Envelope.{Envelope}
 use Rattle.mos_values.specs.MessageViews.{envelope_events}
 use Rattle.mos_values.specs.Units.{units_in}

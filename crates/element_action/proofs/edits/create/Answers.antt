@@ -3,7 +3,7 @@ use Rattle.mos_edits.specs.KeyedLists.ActFault.{AlreadyThere}
 use Rattle.mos_edits.specs.KeyedLists.Applied.{Done}
 use Rattle.mos_edits.specs.Orders.{Order, apply}
 use Rattle.mos_edits.proofs.Applying.{apply-create, apply-created}
-use Rattle.mos_values.specs.declared.edit.Edit.TheVariants as edit
+use Rattle.mos_edits.specs.declared.edit.Edit.TheVariants as edit
 use Rattle.element_action.specs.Answers.{IsTold}
 use Rattle.element_action.proofs.FormLemmas.{told_cause}
 use Rattle.element_action.proofs.edits.create.Goals as goal

@@ -1,7 +1,7 @@
 use Rattle.std.proofs.Common.{false, refl, ap, ◌∙◌}
 use Rattle.mos_edits.specs.KeyedLists.ActFault.{Missing}
 use Rattle.mos_edits.specs.Orders.{apply}
-use Rattle.mos_values.specs.declared.edit.Edit.TheVariants as edit
+use Rattle.mos_edits.specs.declared.edit.Edit.TheVariants as edit
 use Rattle.element_action.proofs.FormLemmas.{told_cause}
 use Rattle.element_action.proofs.EditLemmas.{delete_none, delete_there}
 use Rattle.element_action.proofs.edits.delete.Goals as goal

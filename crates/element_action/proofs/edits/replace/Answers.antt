@@ -2,7 +2,7 @@ use Rattle.std.proofs.Common.{true, Some, refl, sym, ap, subst, ◌∙◌}
 use Rattle.mos_edits.specs.KeyedLists.ActFault.{Missing}
 use Rattle.mos_edits.specs.KeyedLists.Applied.{Done}
 use Rattle.mos_edits.specs.Orders.{Order, apply}
-use Rattle.mos_values.specs.declared.edit.Edit.TheVariants as edit
+use Rattle.mos_edits.specs.declared.edit.Edit.TheVariants as edit
 use Rattle.element_action.specs.Answers.{IsTold}
 use Rattle.element_action.proofs.FormLemmas.{told_cause}
 use Rattle.element_action.proofs.EditLemmas.{replace_none, replace_there}

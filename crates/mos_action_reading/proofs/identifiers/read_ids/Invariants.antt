@@ -1,5 +1,5 @@
 use Rattle.std.proofs.Common.{length}
-use Rattle.mos_story_reading.proofs.Read.{ReadSoFar}
+use Rattle.mos_cursor.proofs.Read.{ReadSoFar}
 use Rattle.mos_action_reading.specs.Identifiers.{HoldsId, text_of}
 use Rattle.mos_action_reading.proofs.identifiers.read_ids.Given as goal
 

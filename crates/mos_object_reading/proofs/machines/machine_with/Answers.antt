@@ -4,7 +4,7 @@ use Rattle.mos_fields.specs.declared.field.Field.TheVariants as fields
 use Rattle.mos_values.specs.Parts.{maybe, maybe_as, raws}
 use Rattle.mos_values.specs.Views.{supported_events}
 use Rattle.mos_object_reading.proofs.MachineLemmas.{machine_joined}
-use Rattle.mos_story_reading.proofs.Joined.{joined_append}
+use Rattle.mos_cursor.proofs.Joined.{joined_append}
 use Rattle.mos_object_reading.proofs.machines.machine_with.Goals as goal
 
 pub returns : goal.returns

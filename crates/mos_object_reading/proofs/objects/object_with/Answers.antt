@@ -3,7 +3,7 @@ use Rattle.mos_fields.specs.Values.{air_text, obj_type_text, rev_text, samples_t
 use Rattle.mos_fields.specs.declared.field.Field.TheVariants as fields
 use Rattle.mos_values.specs.Parts.{must, maybe, maybe_as, maybe_raw, raws}
 use Rattle.mos_values.specs.Views.{mos_obj_events}
-use Rattle.mos_story_reading.proofs.Joined.{joined_append}
+use Rattle.mos_cursor.proofs.Joined.{joined_append}
 use Rattle.mos_object_reading.proofs.objects.object_with.Goals as goal
 
 pub returns : goal.returns

@@ -6,7 +6,7 @@ use Rattle.mos_values.specs.Views.{profile_events}
 use Rattle.mos_cursor.specs.Accepted.{LeafFits}
 use Rattle.mos_cursor.specs.Parts.{leaf_event}
 use Rattle.mos_cursor.specs.Slots.{leaf_of}
-use Rattle.mos_story_reading.proofs.Read.{ReadSoFar}
+use Rattle.mos_cursor.proofs.Read.{ReadSoFar}
 use Rattle.mos_object_reading.proofs.profiles.read_profiles.Given as goal
 
 abbrev pub invariant-next : goal.invariant-next

@@ -3,7 +3,7 @@ use Rattle.mos_fields.specs.Values.{samples_text}
 use Rattle.mos_fields.specs.declared.field.Field.TheVariants as fields
 use Rattle.mos_values.specs.Parts.{must, maybe, maybe_as, maybe_raw, raws}
 use Rattle.mos_values.specs.Views.{item_events}
-use Rattle.mos_story_reading.proofs.Joined.{joined_append}
+use Rattle.mos_cursor.proofs.Joined.{joined_append}
 use Rattle.mos_story_reading.proofs.items.item_with.Goals as goal
 
 pub returns : goal.returns

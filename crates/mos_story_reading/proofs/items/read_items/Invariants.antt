@@ -1,8 +1,8 @@
 use Rattle.std.proofs.Common.{length}
 use Rattle.mos_tables.specs.declared.table.Table.TheVariants as tables
 use Rattle.mos_values.specs.Views.{item_events}
-use Rattle.mos_story_reading.specs.Inner.{inner_events, Holds}
-use Rattle.mos_story_reading.proofs.Read.{ReadSoFar}
+use Rattle.mos_cursor.specs.Inner.{inner_events, Holds}
+use Rattle.mos_cursor.proofs.Read.{ReadSoFar}
 use Rattle.mos_story_reading.proofs.items.read_items.Given as goal
 
 abbrev pub invariant-next : goal.invariant-next

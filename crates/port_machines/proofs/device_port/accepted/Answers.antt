@@ -1,6 +1,6 @@
 use Rattle.std.proofs.Common.{refl}
 use Rattle.mos_machines.specs.Steps.ServerEvent.{DeviceAccepted}
-use Rattle.port_events.specs.Ports.{said}
+use Rattle.port_replies.specs.Ports.{said}
 use Rattle.port_events.specs.declared.answer.PortAnswer.TheVariants as answers
 use Rattle.port_machines.proofs.ServerSaid.{comes}
 use Rattle.port_machines.proofs.device_port.accepted.Goals as goal

@@ -1,7 +1,7 @@
 use Rattle.std.proofs.Common.{refl}
 use Rattle.mos_machines.specs.Steps.ServerEvent.{UpperOpened}
 use Rattle.mos_values.specs.declared.message.Message.TheVariants as carried
-use Rattle.port_events.specs.Ports.{greets}
+use Rattle.port_replies.specs.Ports.{greets}
 use Rattle.port_events.specs.declared.answer.PortAnswer.TheVariants as answers
 use Rattle.port_machines.proofs.ServerSaid.{comes}
 use Rattle.port_machines.proofs.device_port.dialed.Goals as goal

@@ -1,5 +1,5 @@
 use Rattle.ncs_core.specs.State.{devices_of}
-use Rattle.port_events.specs.Ports.{server_editor, server_upper}
+use Rattle.port_replies.specs.Ports.{server_editor, server_upper}
 use Rattle.port_machines.proofs.PortSteps.{answers-event, editor-asked, upper-asked}
 use Rattle.port_machines.proofs.server.ServerMachine.take.Goals as goal
 

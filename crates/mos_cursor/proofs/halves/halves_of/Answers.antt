@@ -1,5 +1,5 @@
-use Rattle.mos_story_reading.proofs.Halves.{fit_front, fit_back, events_halves}
-use Rattle.mos_story_reading.proofs.slots.halves_of.Goals as goal
+use Rattle.mos_cursor.proofs.HalfLemmas.{fit_front, fit_back, events_halves}
+use Rattle.mos_cursor.proofs.halves.halves_of.Goals as goal
 
 pub returns-clause-front : goal.returns-clause-front
 returns-clause-front g c = fit_front _ _ _ _ _ c.in_ok-slots.ensures.fit c.in_ok-halves.ensures.front

@@ -1,11 +1,9 @@
-//! The IDs that messages have as fields of their own.
+//! What messages name: the order, and the object, as fields of their own.
 ghost use Rattle.std.specs.Prelude.{◌≡◌, [], IfOk};
-ghost use Rattle.mos_machines.specs.Messages.{message_ro as message_ro_of};
-ghost use Rattle.mos_machines.specs.Values.{seen};
-ghost use Rattle.port_replies.specs.Replies.{message_obj as message_obj_of, message_rev as message_rev_of, number_or_none, text_or_none};
+ghost use Rattle.mos_values.specs.Names.{message_obj as message_obj_of, message_rev as message_rev_of, message_ro as message_ro_of, number_or_none, text_or_none};
 
+use crate::message::Message;
 use mos_fields::{Id, NoMemory, OptId, Rev};
-use mos_values::Message;
 use std::alloc::Global;
 
 /// An ID, as one that may be empty, in memory of its own. The only error is that memory runs out.
@@ -35,9 +33,9 @@ fn named_or_none(alloc: Global, id: &Option<OptId>) -> Result<OptId, NoMemory>
     }
 }
 
-/// The roID that a message has, or an empty one. The only error is that memory runs out.
+/// The roID that a message has as a field of its own, or an empty one. The only error is that memory runs out.
 pub fn message_ro(alloc: Global, message: &Message) -> Result<OptId, NoMemory>
-    ensures { IfOk result (λ id. id ≡ message_ro_of (seen message.now)) }
+    ensures { IfOk result (λ id. id ≡ message_ro_of message.now) }
 {
     match message {
         Message::RoElementStat(status) => named(&status.as_ref().ro),
@@ -55,7 +53,7 @@ pub fn message_ro(alloc: Global, message: &Message) -> Result<OptId, NoMemory>
     }
 }
 
-/// The objID that a message has, or an empty one. The only error is that memory runs out.
+/// The objID that a message has as a field of its own, or an empty one. The only error is that memory runs out.
 pub fn message_obj(alloc: Global, message: &Message) -> Result<OptId, NoMemory>
     ensures { IfOk result (λ id. id ≡ message_obj_of message.now) }
 {
@@ -68,8 +66,8 @@ pub fn message_obj(alloc: Global, message: &Message) -> Result<OptId, NoMemory>
     }
 }
 
-// The first revision.
-fn first_revision() -> Result<Rev, NoMemory>
+/// The first revision, 0. The only error is that memory runs out.
+pub fn first_revision() -> Result<Rev, NoMemory>
     ensures { IfOk result (λ rev. rev ≡ 0) }
 {
     match Rev::try_new(&['0']) {
@@ -88,7 +86,7 @@ fn revision_or_first(rev: &Option<Rev>) -> Result<Rev, NoMemory>
     }
 }
 
-/// The objRev that a message has, or 0. The only error is that memory runs out.
+/// The objRev that a message has as a field of its own, or 0. The only error is that memory runs out.
 pub fn message_rev(message: &Message) -> Result<Rev, NoMemory>
     ensures { IfOk result (λ rev. rev ≡ message_rev_of message.now) }
 {

@@ -6,7 +6,9 @@ ghost use Rattle.mos_cursor.specs.Accepted.{AllFit, IsAccepted};
 ghost use Rattle.mos_cursor.specs.Parts.{parts_events, places};
 ghost use Rattle.mos_cursor.specs.Slots.{parts_of};
 
-use mos_cursor::{Cursor, Slot, record_slots};
+use crate::cursor::Cursor;
+use crate::record::record_slots;
+use crate::slot::Slot;
 use mos_fields::NoMemory;
 use mos_tables::Table;
 use std::alloc::Global;

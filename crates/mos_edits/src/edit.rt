@@ -1,11 +1,8 @@
 //! Edits of running orders.
 ghost use Rattle.std.specs.Prelude.{◌≡◌, IfOk};
 
-use crate::action::Action;
-use crate::boxed::Boxed;
-use crate::header::HeaderPatch;
-use crate::order_body::OrderBody;
 use mos_fields::{Air, Id, NoMemory};
+use mos_values::{Action, Boxed, HeaderPatch, OrderBody};
 
 /// An edit of a running order: what an editor commands, and what the server sends on to devices.
 #[derive(Drop)]
