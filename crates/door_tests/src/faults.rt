@@ -1,8 +1,8 @@
-//! Connections of a gateway, each of whose reads and each of whose writes fails in turn.
+//! Connections, each of whose reads and each of whose writes fails in turn.
 ghost use Rattle.shared_machine.specs.Passes.{IsPassOf};
 
-use crate::gateway::Noted;
 use crate::names::id;
+use crate::noting::Noting;
 use crate::texts::{bytes_of, end_number, end_word};
 use mos_fields::{FieldFault, NoMemory, let_go};
 use mos_io::{MemSink, MemSource};
@@ -60,8 +60,8 @@ fn source(alloc: Global, letters: &str, fails: Fails<'_>) -> Result<MemSource, N
 fn answered<R: Wait>(
     rt: &R,
     alloc: Global,
-    hub: &Hub<Noted>,
-    pass: &mut Pass<Noted>,
+    hub: &Hub<Noting>,
+    pass: &mut Pass<Noting>,
     letters: &str,
     fails: Fails<'_>,
 ) -> Result<End, Fail>
@@ -75,10 +75,10 @@ fn answered<R: Wait>(
     Ok(answer_port(rt, alloc, hub, pass, port, &mut from, &mut to, 1_000_000))
 }
 
-// Whether the last letter is `I`, and no other is.
+// Whether the last note is of an `I`, and no other is.
 fn ends_once(log: &[u8]) -> bool {
     match log {
-        [before @ .., b'I'] => !before.contains(&b'I'),
+        [before @ .., b'I', _, _, _, b' '] => !before.contains(&b'I'),
         _ => false,
     }
 }
@@ -90,7 +90,7 @@ fn seen<R: Wait>(
     letters: &str,
     fails: Fails<'_>,
 ) -> Result<(&'static str, u64), Fail> {
-    let Ok((hub, mut pass)) = Hub::new(alloc, (Noted::new(alloc), ())) else {
+    let Ok((hub, mut pass)) = Hub::new(alloc, (Noting::new(alloc), ())) else {
         return Ok(("no hub", 0));
     };
     let end = answered(rt, alloc, &hub, &mut pass, letters, fails);

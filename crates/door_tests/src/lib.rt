@@ -1,5 +1,5 @@
 //! Tests of doors over listeners, dialers and spawners in memory: which jobs they start, how they end, and what becomes of a
-//! connection; and of a gateway's machine whose connections fail at each read and at each write.
+//! connection; and of connections that fail at each read and at each write.
 #![tactic(auto)]
 
 #[cfg(test)]
@@ -8,8 +8,6 @@ mod doors;
 mod faults;
 #[cfg(test)]
 mod fresh;
-#[cfg(test)]
-mod gateway;
 #[cfg(test)]
 mod jobs;
 #[cfg(test)]

@@ -249,3 +249,25 @@ fn a_gateway_that_comes_late_asks_for_what_it_lacks(rt: HostRuntime) -> Result<(
     assert_eq!(rt; played(rt.alloc(), LATE)?, 0);
     Ok(())
 }
+
+/// A gateway reads on the connection that the server opened, and asks on its own until an answer comes that doesn't fit. At the
+/// editors' port it does nothing.
+const IDLE: &str = r#"a-u1 accept = done
+a-u1 hear * = *
+a-u1 hear <roCreate><roID>R1</roID><roSlug>News</roSlug></roCreate> = @R1 OK
+a-u2 dial = done
+a-u2 next = <roReqAll></roReqAll>
+a-u2 back * = unasked
+a-u2 next = nothing
+a-e0 accept = done
+a-e0 hear <roReq><roID>R1</roID></roReq> = @ NOT SUPPORTED
+a-e0 hear * = *
+a-e0 next = nothing
+a-e0 back * = unasked
+a-e0 leave = taken"#;
+
+#[test]
+fn a_gateway_reads_and_asks_at_its_own_port_alone(rt: HostRuntime) -> Result<(), Fail> {
+    assert_eq!(rt; played(rt.alloc(), IDLE)?, 0);
+    Ok(())
+}

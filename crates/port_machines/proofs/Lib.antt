@@ -1,5 +1,4 @@
 pub mod ServerSaid
-pub mod GateSaid
 pub mod Commanded
 pub mod EditorSaid
 pub mod MessageEdits

@@ -1,11 +1,10 @@
--- What the ports say to the answers of the two machines' calls.
+-- What the ports say to the answers of the server's calls.
 use Rattle.std.specs.Prelude.{◌≡◌, List, map, Bool, true, false, Option, Some, None, Result, Ok, Err}
 use Rattle.mos_edits.specs.Texts.{Text}
 use Rattle.mos_edits.specs.Orders.{Order}
 use Rattle.mos_edits.specs.Entries.{Entry, order_now}
 use Rattle.mos_machines.specs.Messages.{Status, status_text}
 use Rattle.mos_machines.specs.Values.{ack}
-use Rattle.mos_values.specs.declared.message.Message as values
 use Rattle.machine_answers.specs.declared.answers.Step.{Step}
 use Rattle.machine_answers.specs.declared.answers.Step.TheVariants as steps
 use Rattle.machine_answers.specs.declared.answers.Heard.{Heard}
@@ -15,11 +14,8 @@ use Rattle.machine_answers.specs.declared.answers.Sent.TheVariants as sent
 use Rattle.ncs_core.specs.Commands.{fault_status}
 use Rattle.ncs_core.specs.declared.fault.CommandFault.{CommandFault}
 use Rattle.ncs_core.specs.declared.fault.CommandFault.TheVariants.{StoreFault}
-use Rattle.port_replies.specs.Ports.{no_object, no_order}
 use Rattle.port_events.specs.declared.answer.PortAnswer.{PortAnswer}
 use Rattle.port_events.specs.declared.answer.PortAnswer.TheVariants as answers
-use Rattle.port_machines.specs.declared.idle.Refusal.{Refusal}
-use Rattle.port_machines.specs.declared.idle.Refusal.TheVariants.{NoObject, NoOrder}
 
 abbrev pub step_said : Step → PortAnswer
 step_said steps.Taken = answers.Taken
@@ -34,11 +30,6 @@ abbrev pub sent_said : Sent → PortAnswer
 sent_said sent.Stale = answers.Stale
 sent_said sent.Nothing = answers.Nothing
 sent_said (sent.Out message tag) = answers.Say message
-
--- the message by which a machine refuses others
-abbrev pub refusal_of : Refusal → values.Message
-refusal_of NoObject = no_object
-refusal_of NoOrder = no_order
 
 -- the roAck of an order, as an answer
 abbrev pub acked : Text → Status → PortAnswer

@@ -1,14 +1,13 @@
--- Steps of the machines at their ports, as a hub knows them.
+-- Steps of the server at its ports, as a hub knows them.
 use Rattle.std.specs.Prelude.{◌≡◌, List, ◌⊎◌, Option}
 use Rattle.mos_edits.specs.Entries.{Entry}
 use Rattle.mos_machines.specs.Messages.Status.{Okay, StoreFault}
 use Rattle.mos_machines.specs.Steps.{ServerEvent, ServerStep, StepAnswer}
 use Rattle.mos_machines.specs.Steps.ServerEvent.{Command}
 use Rattle.mos_machines.specs.Steps.StepAnswer.{Told}
-use Rattle.mos_machines.specs.Tables.{GateTables, gate_of}
 use Rattle.rundown_log.specs.Keeping.{Keeps}
 use Rattle.ncs_core.specs.State.{NcsTables, ncs_of, devices_of}
-use Rattle.port_replies.specs.Ports.{Asked, ComesTo, NcsPortStep, GatePortStep, server_asked}
+use Rattle.port_replies.specs.Ports.{Asked, ComesTo, NcsPortStep, server_asked}
 use Rattle.port_events.specs.declared.event.PortEvent.{PortEvent}
 use Rattle.port_events.specs.declared.answer.PortAnswer.{PortAnswer}
 
@@ -39,7 +38,3 @@ pub record IsServerRefusal {K : Type 0} (m n : NcsTables K) : Type 0 where
   pub state : ncs_of n ≡ ncs_of m
   pub kept : n.kept ≡ m.kept
   pub devices : devices_of n ≡ devices_of m
-
--- an event at the ports of a gateway
-abbrev pub IsGatewayStep : GateTables → PortEvent → PortAnswer → GateTables → Type 0
-IsGatewayStep g e a h = GatePortStep (gate_of g) e a (gate_of h)

@@ -1,24 +1,13 @@
-//! Ports at which a machine does nothing.
+//! The lower port, at which the machine does nothing.
 ghost use Rattle.std.specs.Prelude.{◌≡◌, IfOk};
 ghost use Rattle.port_replies.specs.Ports.{idle, no_object, refused as refused_of};
 ghost use Rattle.port_events.specs.declared.answer.PortAnswer.TheVariants as answers;
-ghost use Rattle.port_machines.specs.Saying.{refusal_of};
 
-use crate::replies::answer;
 use machine_answers::Status;
 use mos_fields::NoMemory;
 use mos_values::{AckStatus, Message, MosAck, first_revision, nameless};
 use port_events::{PortAnswer, What};
 use std::alloc::Global;
-
-/// The message by which a machine refuses others.
-#[derive(Clone, Copy)]
-pub enum Refusal {
-    /// The mosAck of no object.
-    NoObject,
-    /// The roAck of no order.
-    NoOrder,
-}
 
 // The mosAck of no object.
 fn refuse_object(alloc: Global) -> Result<PortAnswer, NoMemory>
@@ -35,33 +24,23 @@ fn refuse_object(alloc: Global) -> Result<PortAnswer, NoMemory>
     })))
 }
 
-// The refusal.
-fn refuse(alloc: Global, refusal: Refusal) -> Result<PortAnswer, NoMemory>
-    ensures { IfOk result (λ a. a ≡ answers.Say (refusal_of refusal)) }
-{
-    match refusal {
-        Refusal::NoObject => refuse_object(alloc),
-        Refusal::NoOrder => answer(alloc, nameless(alloc)?, &Status::NotSupported),
-    }
-}
-
-// What answers a message: a heartbeat itself, any other the refusal.
-fn refused(alloc: Global, refusal: Refusal, message: &Message) -> Result<PortAnswer, NoMemory>
-    ensures { IfOk result (λ a. a ≡ answers.Say (refused_of (refusal_of refusal) message.now)) }
+// What answers a message: a heartbeat itself, any other the mosAck of no object.
+fn refused(alloc: Global, message: &Message) -> Result<PortAnswer, NoMemory>
+    ensures { IfOk result (λ a. a ≡ answers.Say (refused_of no_object message.now)) }
 {
     match message {
         Message::Heartbeat(time) => Ok(PortAnswer::Say(Message::Heartbeat(*time))),
-        _ => refuse(alloc, refusal),
+        _ => refuse_object(alloc),
     }
 }
 
-// What happens at such a port is answered so.
-pub fn idle_answer(alloc: Global, refusal: Refusal, what: &What) -> Result<PortAnswer, NoMemory>
-    ensures { IfOk result (λ a. a ≡ idle (refusal_of refusal) what.now) }
+// What happens there is answered so.
+pub fn idle_answer(alloc: Global, what: &What) -> Result<PortAnswer, NoMemory>
+    ensures { IfOk result (λ a. a ≡ idle no_object what.now) }
 {
     match what {
         What::Accepted | What::Dialed(_) | What::Beat => Ok(PortAnswer::Done),
-        What::Heard(message) => refused(alloc, refusal, message.message()),
+        What::Heard(message) => refused(alloc, message.message()),
         What::EndedIn | What::EndedOut => Ok(PortAnswer::Taken),
         What::Next(_) => Ok(PortAnswer::Nothing),
         What::Answered(_) => Ok(PortAnswer::Unasked),

@@ -1,4 +1,4 @@
-//! The server's and the gateway's machine as machines that threads can share by a hub.
+//! The server's machine as a machine that threads can share by a hub.
 //!
 //! Each event at a port is one step of the machine, or is answered at once; `port_events` says which. A step that finds no
 //! memory leaves the state as it was, and may be tried again.
@@ -7,11 +7,9 @@
 mod device_port;
 mod editor_port;
 mod faults;
-mod gateway;
 mod idle;
 mod replies;
 mod saying;
 mod server;
 
-pub use gateway::GatewayMachine;
 pub use server::ServerMachine;

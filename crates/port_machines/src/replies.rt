@@ -17,7 +17,7 @@ use running_order::Order;
 use std::alloc::Global;
 
 // A roAck.
-pub fn answer(alloc: Global, ro: OptId, status: &Status) -> Result<PortAnswer, NoMemory>
+fn answer(alloc: Global, ro: OptId, status: &Status) -> Result<PortAnswer, NoMemory>
     ensures { IfOk result (λ a. a ≡ acked ro (status_of status.now)) }
 {
     Ok(PortAnswer::Say(Message::RoAck(acknowledgement(alloc, ro, status)?)))

@@ -1,4 +1,4 @@
-//! What the ports say to the answers of the machines.
+//! What the ports say to the answers of the server's calls.
 ghost use Rattle.std.specs.Prelude.{◌≡◌};
 ghost use Rattle.port_machines.specs.Saying.{heard_said, sent_said, step_said};
 

@@ -5,7 +5,7 @@ ghost use Rattle.port_machines.specs.Steps.{IsServerStep, IsServerRefusal};
 
 use crate::device_port::device_port;
 use crate::editor_port::editor_port;
-use crate::idle::{Refusal, idle_answer};
+use crate::idle::idle_answer;
 use mos_fields::NoMemory;
 use ncs_core::Ncs;
 use port_events::{PortAnswer, PortEvent, Side};
@@ -63,7 +63,7 @@ impl<K: Keeper> ServerMachine<K> {
                 device_port(&mut self.ncs, event.device, event.link, &event.what)
             }
             Side::Upper => Ok(PortAnswer::Stale),
-            Side::Lower => idle_answer(self.alloc, Refusal::NoObject, &event.what),
+            Side::Lower => idle_answer(self.alloc, &event.what),
             Side::Editor => editor_port(self.alloc, &mut self.ncs, &event.what),
         }
     }

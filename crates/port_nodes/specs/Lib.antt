@@ -1,2 +1,1 @@
 pub mod ServerNodes
-pub mod GatewayNodes

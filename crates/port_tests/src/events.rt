@@ -95,7 +95,7 @@ pub fn heartbeat() -> SoundMessage {
     SoundMessage::new(Message::Heartbeat(time()))
 }
 
-/// At the port of device 0, or to the server, on a connection.
+/// At the port of device 0, on a connection.
 pub fn at_upper(link: u64, what: What) -> PortEvent {
     PortEvent {
         side: Side::Upper,

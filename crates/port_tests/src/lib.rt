@@ -1,4 +1,4 @@
-//! Tests of machines that threads share, and of server and gateway at their ports.
+//! Tests of machines that threads share, and of the server at its ports.
 #![tactic(auto)]
 
 #[cfg(test)]

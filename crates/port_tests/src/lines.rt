@@ -57,7 +57,6 @@ fn push_message(alloc: Global, out: &mut String, message: &Message) -> Result<()
         Message::RoCreate(body) => push_list(alloc, out, "roCreate", body.as_ref()),
         Message::RoList(body) => push_list(alloc, out, "roList", body.as_ref()),
         Message::RoListAll(headers) => push_word(out, list_word(headers.len())),
-        Message::RoReqAll => push_word(out, "roReqAll"),
         Message::Heartbeat(_) => push_word(out, "heartbeat"),
         Message::MosAck(_) => push_word(out, "mosAck"),
         _ => push_word(out, "another message"),

@@ -1,15 +1,14 @@
-//! What no clause says: that hubs take both machines, and what is answered then.
+//! What no clause says: that a hub takes the server's machine, and what is answered then.
 ghost use Rattle.shared_machine.specs.Passes.{IsPassOf};
 
 use crate::events::{
     at_device, at_editor, at_lower, at_upper, create, heartbeat, insert, request, request_all, time,
 };
 use crate::lines::line;
-use gateway_core::Gate;
 use mos_fields::{FieldFault, Id, NoMemory, let_go};
 use ncs_core::Ncs;
 use port_events::{PortEvent, SoundMessage, What};
-use port_machines::{GatewayMachine, ServerMachine};
+use port_machines::ServerMachine;
 use rundown_log::MemKeeper;
 use shared_machine::{Hub, Pass};
 use std::alloc::Global;
@@ -22,24 +21,6 @@ fn server_says<R: Wait>(
     alloc: Global,
     hub: &Hub<ServerMachine<MemKeeper>>,
     pass: &mut Pass<ServerMachine<MemKeeper>>,
-    event: PortEvent,
-    wanted: &str,
-) -> bool
-    requires { IsPassOf hub.now pass.old }
-    ensures { IsPassOf hub.now pass.new }
-{
-    match hub.call(rt, pass, event) {
-        Ok(answer) => is(line(alloc, answer), wanted),
-        Err(_) => false,
-    }
-}
-
-// Whether an event of the gateway is answered so.
-fn gateway_says<R: Wait>(
-    rt: &R,
-    alloc: Global,
-    hub: &Hub<GatewayMachine>,
-    pass: &mut Pass<GatewayMachine>,
     event: PortEvent,
     wanted: &str,
 ) -> bool
@@ -206,29 +187,5 @@ fn a_device_is_served_at_its_port(rt: HostRuntime) -> Result<(), Fail> {
     let_go(machine);
     assert!(&rt; heard && refused);
     assert!(&rt; sent?);
-    Ok(())
-}
-
-#[test]
-fn a_gateway_reads_and_asks_at_its_port(rt: HostRuntime) -> Result<(), Fail> {
-    let alloc = rt.alloc();
-    let machine = GatewayMachine::new(alloc, Gate::new(alloc));
-    let (hub, mut pass) = Hub::new(alloc, (machine, ())).expect(&rt, "memory");
-    let event = at_upper(1, What::Accepted);
-    let accepted = gateway_says(&rt, alloc, &hub, &mut pass, event, "done");
-    let event = at_upper(1, What::Heard(create(alloc)?));
-    let read = gateway_says(&rt, alloc, &hub, &mut pass, event, "roAck R OK");
-    let event = at_upper(2, What::Dialed(time()));
-    let dialed = gateway_says(&rt, alloc, &hub, &mut pass, event, "done");
-    let event = at_upper(2, What::Next(time()));
-    let asked = gateway_says(&rt, alloc, &hub, &mut pass, event, "roReqAll");
-    let event = at_upper(2, What::Answered(heartbeat()));
-    let dropped = gateway_says(&rt, alloc, &hub, &mut pass, event, "unasked");
-    let event = at_editor(What::Heard(request(alloc)?));
-    let refused = gateway_says(&rt, alloc, &hub, &mut pass, event, "roAck  NOT SUPPORTED");
-    let (machine, ()) = hub.close(&rt, pass);
-    let_go(machine);
-    assert!(&rt; accepted && read && dialed && asked);
-    assert!(&rt; dropped && refused);
     Ok(())
 }

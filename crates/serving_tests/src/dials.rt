@@ -1,14 +1,13 @@
-//! Connections that a gateway opens.
+//! Connections that a server opens.
 ghost use Rattle.shared_machine.specs.Passes.{IsPassOf};
 
+use crate::server::{Server, new_server};
 use crate::sockets::{hear, listening, say};
 use crate::words::{end_word, port, text, time, wide};
-use gateway_core::Gate;
 use mos_fields::let_go;
 use mos_io::{FixedClock, MemPacer, Pace};
-use port_events::{PortEvent, Side, What};
+use port_events::Side;
 use port_links::{Dialer, Link, Place};
-use port_machines::GatewayMachine;
 use port_session::{End, drive_port};
 use port_tcp::{Common, TcpDialer, TcpSink, TcpSource};
 use shared_machine::{Hub, Pass};
@@ -18,12 +17,9 @@ use std::sync::{Arc, Wait};
 use std::test::Fail;
 use std::time::Clock;
 
-/// The gateway's first message and its answer, and its second one.
-const REQUEST: &str =
-    "<mos><mosID>dev1</mosID><ncsID>ncs1</ncsID><messageID>1</messageID><roReqAll></roReqAll></mos>";
-
-const ANSWER: &str =
-    "<mos><mosID>dev1</mosID><ncsID>ncs1</ncsID><messageID>1</messageID><roListAll></roListAll></mos>";
+/// The server's first message, which is answered by the same text, and its second one.
+const GREETING: &str =
+    "<mos><mosID>dev1</mosID><ncsID>ncs1</ncsID><messageID>1</messageID><heartbeat><time>2000-01-01T00:00:00</time></heartbeat></mos>";
 
 const BEAT: &str =
     "<mos><mosID>dev1</mosID><ncsID>ncs1</ncsID><messageID>2</messageID><heartbeat><time>2000-01-01T00:00:00</time></heartbeat></mos>";
@@ -43,32 +39,12 @@ fn dialer<R: Net<Stream = TcpStream> + Clock + Wait + Eprint + Copy + Drop>(
     Ok(TcpDialer::new(*rt, alloc, Side::Upper, common, None)?)
 }
 
-// The server opened a connection.
-fn accept<R: Wait>(rt: &R, hub: &Hub<GatewayMachine>, pass: &mut Pass<GatewayMachine>) -> bool
-    requires { IsPassOf hub.now pass.old }
-    ensures { IsPassOf hub.now pass.new }
-{
-    let event = PortEvent {
-        side: Side::Upper,
-        device: 0,
-        link: 1,
-        what: What::Accepted,
-    };
-    match hub.call(rt, pass, event) {
-        Ok(answer) => {
-            let_go(answer);
-            true
-        }
-        Err(_) => false,
-    }
-}
-
 // Drives a connection, with one pause, after which a heartbeat is asked for.
 fn driven<R: Wait>(
     rt: &R,
     alloc: Global,
-    hub: &Hub<GatewayMachine>,
-    pass: &mut Pass<GatewayMachine>,
+    hub: &Hub<Server>,
+    pass: &mut Pass<Server>,
     link: Link<TcpSource, TcpSink>,
 ) -> Result<End, Fail>
     requires { IsPassOf hub.now pass.old }
@@ -76,12 +52,12 @@ fn driven<R: Wait>(
 {
     let Link {
         number,
-        side: _,
+        side,
         mut source,
         mut sink,
     } = link;
     let paces = Vec::from_slice(alloc, &[Pace::Beat])?;
-    let port = port(alloc, number)?;
+    let port = port(alloc, side, number)?;
     let mut pacer = MemPacer::new(alloc, paces);
     let mut clock = FixedClock::new(time());
     Ok(drive_port(
@@ -98,26 +74,19 @@ fn driven<R: Wait>(
     ))
 }
 
-// The same by a gateway that holds no order, to which the server opened a connection.
+// The same by a new server.
 fn driven_anew<R: Wait>(
     rt: &R,
     alloc: Global,
     link: Link<TcpSource, TcpSink>,
 ) -> Result<End, Fail> {
-    let machine = GatewayMachine::new(alloc, Gate::new(alloc));
-    let Ok((hub, mut pass)) = Hub::new(alloc, (machine, ())) else {
+    let Ok((hub, mut pass)) = Hub::new(alloc, (new_server(alloc)?, ())) else {
         return Err(Fail::from("no hub"));
     };
-    let accepted = accept(rt, &hub, &mut pass);
     let end = driven(rt, alloc, &hub, &mut pass, link);
     let (machine, ()) = hub.close(rt, pass);
     let_go(machine);
-    let end = end?;
-    if accepted {
-        Ok(end)
-    } else {
-        Err(Fail::from("not accepted"))
-    }
+    end
 }
 
 // How a connection ends that is dialed, whose peer answers the first message, and whether these bytes are written on it.
@@ -131,7 +100,7 @@ fn comes_to<
         return Ok(("not dialed", false));
     };
     let (mut peer, _) = listener.accept()?;
-    say(&mut peer, wide(alloc, ANSWER)?.as_slice())?;
+    say(&mut peer, wide(alloc, GREETING)?.as_slice())?;
     let is_eighth = link.number == 8;
     let end = driven_anew(rt, alloc, link)?;
     let heard = hear(alloc, &mut peer)?;
@@ -139,9 +108,9 @@ fn comes_to<
 }
 
 #[test]
-fn a_request_is_sent_and_its_answer_is_read(rt: HostRuntime) -> Result<(), Fail> {
+fn a_greeting_is_sent_and_its_answer_is_read(rt: HostRuntime) -> Result<(), Fail> {
     let alloc = rt.alloc();
-    let mut wanted = wide(alloc, REQUEST)?;
+    let mut wanted = wide(alloc, GREETING)?;
     wanted.extend_from_slice(wide(alloc, BEAT)?.as_slice())?;
     let came = comes_to(&rt, alloc, wanted.as_slice())?;
     assert_eq!(rt; came, ("Closed", true));

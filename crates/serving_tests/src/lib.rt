@@ -17,6 +17,8 @@ mod pauses;
 #[cfg(test)]
 mod ports;
 #[cfg(test)]
+mod server;
+#[cfg(test)]
 mod serving;
 #[cfg(test)]
 mod signs;

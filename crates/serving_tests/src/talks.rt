@@ -1,13 +1,12 @@
-//! Connections that a gateway serves.
+//! Connections that a server accepts.
 ghost use Rattle.shared_machine.specs.Passes.{IsPassOf};
 
+use crate::server::{Server, new_server};
 use crate::sockets::{calling, hear, listening};
 use crate::words::{end_number, end_word, port, wide};
-use gateway_core::Gate;
 use mos_fields::let_go;
 use port_events::Side;
 use port_links::{Link, Listener};
-use port_machines::GatewayMachine;
 use port_session::{End, answer_port};
 use port_tcp::{Common, Few, TcpPort, TcpSink, TcpSource};
 use shared_machine::{Hub, Pass};
@@ -35,8 +34,8 @@ const CUT: &str = "<mos><mosID>dev1</mosID><ncsID>ncs1</ncsID><messageID>9</me";
 fn served<R: Wait>(
     rt: &R,
     alloc: Global,
-    hub: &Hub<GatewayMachine>,
-    pass: &mut Pass<GatewayMachine>,
+    hub: &Hub<Server>,
+    pass: &mut Pass<Server>,
     link: Link<TcpSource, TcpSink>,
 ) -> Result<End, Fail>
     requires { IsPassOf hub.now pass.old }
@@ -44,11 +43,11 @@ fn served<R: Wait>(
 {
     let Link {
         number,
-        side: _,
+        side,
         mut source,
         mut sink,
     } = link;
-    let port = port(alloc, number)?;
+    let port = port(alloc, side, number)?;
     Ok(answer_port(
         rt,
         alloc,
@@ -61,14 +60,13 @@ fn served<R: Wait>(
     ))
 }
 
-// The same by a gateway that holds no order.
+// The same by a new server.
 fn served_anew<R: Wait>(
     rt: &R,
     alloc: Global,
     link: Link<TcpSource, TcpSink>,
 ) -> Result<End, Fail> {
-    let machine = GatewayMachine::new(alloc, Gate::new(alloc));
-    let Ok((hub, mut pass)) = Hub::new(alloc, (machine, ())) else {
+    let Ok((hub, mut pass)) = Hub::new(alloc, (new_server(alloc)?, ())) else {
         return Err(Fail::from("no hub"));
     };
     let end = served(rt, alloc, &hub, &mut pass, link);
@@ -89,7 +87,7 @@ fn accepted<L: Listener>(listener: L) -> Result<Link<L::S, L::K>, Fail> {
     }
 }
 
-// What comes of a connection on which these bytes come: how it ends, with the number that its end tells; and whether these
+// What comes of an editor's connection on which these bytes come: how it ends, with the number that its end tells; and whether these
 // bytes are written.
 fn comes_to<
     R: Net<Listener = TcpListener, Stream = TcpStream>
@@ -104,7 +102,7 @@ fn comes_to<
     let (listener, number) = listening(rt)?;
     let mut client = calling(rt, number, bytes)?;
     let common = Arc::new(alloc, Common::new(5))?;
-    let link = accepted(TcpPort::new(*rt, listener, Side::Upper, common))?;
+    let link = accepted(TcpPort::new(*rt, listener, Side::Editor, common))?;
     let is_fifth = link.number == 5;
     let end = served_anew(rt, alloc, link)?;
     let heard = hear(alloc, &mut client)?;

@@ -28,12 +28,12 @@ pub fn text(alloc: Global, text: &str) -> Result<Text, FieldFault> {
     Text::try_new(alloc, &chars)
 }
 
-/// The port of the device dev1 to the server ncs1.
-pub fn port(alloc: Global, link: u64) -> Result<Port, FieldFault> {
+/// A port of the server ncs1, the device of which is dev1.
+pub fn port(alloc: Global, side: Side, link: u64) -> Result<Port, FieldFault> {
     let mos = id(alloc, "dev1")?;
     let ncs = id(alloc, "ncs1")?;
     Ok(Port {
-        side: Side::Upper,
+        side,
         device: None,
         link,
         mos,
