@@ -6,7 +6,8 @@ use Rattle.mos_tables.specs.Canonical.{canonical}
 use Rattle.mos_values.specs.declared.header.HeaderPatch.{HeaderPatch}
 use Rattle.mos_values.specs.OrderValue.{OrderBody}
 use Rattle.mos_values.specs.Parts.{element}
-use Rattle.mos_values.specs.Views.{body_events, headers_events}
+use Rattle.mos_values.specs.declared.story_send.StorySend.{StorySend}
+use Rattle.mos_values.specs.Views.{body_events, headers_events, story_send_events}
 
 -- the code units of the canonical encoding
 unfoldable pub canonical_units : List Event → List ℕ
@@ -27,3 +28,7 @@ list_events b = element (codes "roList") (body_events b)
 -- the element roListAll of headers
 abbrev pub list_all_events : List HeaderPatch → List Event
 list_all_events hs = element (codes "roListAll") (headers_events hs)
+
+-- the element roStorySend of a script
+abbrev pub send_events : StorySend → List Event
+send_events s = element (codes "roStorySend") (story_send_events s)

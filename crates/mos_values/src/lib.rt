@@ -58,7 +58,7 @@ pub use ro_ack::RoAck;
 pub use sequence::Sequence;
 pub use sizes::{
     header_units, item_units, items_units, list_all_units, list_units, object_list_units,
-    object_units, stories_units, story_units,
+    object_units, send_units, stories_units, story_units,
 };
 pub use story::Story;
 pub use story_send::StorySend;

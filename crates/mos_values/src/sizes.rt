@@ -1,18 +1,21 @@
-//! The code units of running orders, of lists of headers and of lists of objects.
+//! The code units of running orders, of scripts, of lists of headers and of lists of objects.
 ghost use Rattle.std.specs.Prelude.{◌≡◌, codes};
 ghost use Rattle.mos_fields.specs.Fields.{name_of};
 ghost use Rattle.mos_fields.specs.declared.field.Field.TheVariants as fields;
 ghost use Rattle.mos_values.specs.Parts.{element};
-ghost use Rattle.mos_values.specs.Units.{capped, list_all_events, list_events, units_in};
-ghost use Rattle.mos_values.specs.Views.{body_events, header_events, headers_events, item_events, items_events, mos_obj_events, objects_events, patch_events, stories_events, story_events};
+ghost use Rattle.mos_values.specs.Units.{capped, list_all_events, list_events, send_events, units_in};
+ghost use Rattle.mos_values.specs.Views.{body_events, header_events, headers_events, item_events, items_events, mos_obj_events, objects_events, patch_events, stories_events, story_events, story_send_events};
 
 use crate::header::{Header, HeaderPatch};
 use crate::item::Item;
 use crate::mos_obj::MosObj;
 use crate::object_pieces::mos_obj_pieces;
 use crate::order_body::OrderBody;
-use crate::order_pieces::{header_pieces, item_pieces, patch_pieces, story_head_pieces};
+use crate::order_pieces::{
+    header_pieces, item_pieces, patch_pieces, story_head_pieces, story_send_pieces,
+};
 use crate::story::Story;
+use crate::story_send::StorySend;
 use crate::units::{element_units, pieces_units, plus};
 use crate::{Headers, MosObjs};
 use mos_fields::Field;
@@ -80,6 +83,19 @@ pub fn list_units(b: &OrderBody) -> u64
     ensures { result ≡ capped (units_in (list_events b.now)) }
 {
     plus(17, body_units(b))
+}
+
+fn script_inside(script: &StorySend) -> u64
+    ensures { result ≡ capped (units_in (story_send_events script.now)) }
+{
+    pieces_units(&story_send_pieces(script))
+}
+
+/// The code units of the canonical roStorySend element of a script, 2^64 - 1 where that is smaller.
+pub fn send_units(script: &StorySend) -> u64
+    ensures { result ≡ capped (units_in (send_events script.now)) }
+{
+    plus(27, script_inside(script))
 }
 
 fn patch_units(header: &HeaderPatch) -> u64

@@ -3,8 +3,9 @@ ghost use Rattle.std.specs.Prelude.{◌≡◌, IfOk};
 ghost use Rattle.mos_decoder.specs.Bytes.{found_of};
 ghost use Rattle.stream_commands.specs.Lines.{count_line as count_line_of, refused_line as refused_line_of, shown_line as shown_line_of};
 
-use crate::lines::{count_line, refused_line, shown_line};
+use crate::lines::{count_line, shown_line};
 use crate::teller::Teller;
+use line_texts::refused_line;
 use mos_fields::NoMemory;
 use mos_lexer::Kind;
 use mos_reader::Found;
