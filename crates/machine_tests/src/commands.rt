@@ -160,6 +160,36 @@ fn fails_at(alloc: Global, ncs: &mut Ncs<MemKeeper>, number: u64) -> Result<bool
     Ok(failed && stopped && entries_in(alloc, ncs)? == number)
 }
 
+/// Whether the order is there, with a channel of one letter.
+fn has_order(alloc: Global, ncs: &Ncs<MemKeeper>) -> Result<bool, FieldFault> {
+    let ro = id(alloc, 'R')?;
+    match ncs.order(&ro) {
+        Some(order) => match &order.header().channel {
+            Some(channel) => Ok(channel.len() == 1),
+            None => Ok(false),
+        },
+        None => Ok(false),
+    }
+}
+
+/// Whether the READY behind a roCreate isn't kept, and the order is there still.
+fn keeps_order_without_ready(alloc: Global) -> Result<bool, FieldFault> {
+    let fails = Vec::from_slice(alloc, &[1])?;
+    let Some(mut ncs) = started(alloc, fails, false) else {
+        return Ok(false);
+    };
+    let failed = matches!(fails_at(alloc, &mut ncs, 1), Ok(true));
+    let there = matches!(has_order(alloc, &ncs), Ok(true));
+    let_go(ncs);
+    Ok(failed && there)
+}
+
+#[test]
+fn a_ready_that_is_not_kept_leaves_its_order(rt: HostRuntime) -> Result<(), Fail> {
+    assert!(rt; keeps_order_without_ready(rt.alloc())?);
+    Ok(())
+}
+
 /// Whether so many entries are there, and commands are taken again.
 fn goes_on(alloc: Global, ncs: &mut Ncs<MemKeeper>, entries: u64) -> Result<bool, FieldFault> {
     if entries_in(alloc, ncs)? != entries {

@@ -113,7 +113,7 @@ edited-rows rows known after back r o k a b = b ∙ (ap (put_row r o) a ∙ (put
 pub held-order : (rows known : List (Text × Option Order)) (r q : Text) (o : Option Order) → look None known ≡ look None rows → find_row r known ≡ Some o → r ≡ q → o ≡ look None rows q
 held-order rows known r q o same h n = sym (found-order known r o h) ∙ (ap (λ (l : Text → Option Order). l r) same ∙ ap (look None rows) n)
 
--- The table after an entry was added, or an edit was undone, where `a` is the entry `e`.
+-- The table after an entry was added, where `a` is the entry `e`.
 pub entry-is : (e : Entry) (d : Edit) → IsEntry e → d ≡ e.edit → entry_of d ≡ e
 entry-is e d h q = ap entry_of q ∙ (λ i. record { ro = sym h i; edit = e.edit })
 
@@ -126,11 +126,6 @@ orders-added journal new a e rows after h p q n =
 
 pub edited-there : (rows after : List (Text × Option Order)) (a : Entry) (r : Text) → after ≡ rows_after rows a → r ≡ a.ro → IsSome (find_row r after)
 edited-there rows after a r q p = subst (λ (x : Text). IsSome (find_row x after)) (sym p) (row-there rows after a.ro (result_or (look None rows a.ro) (applied_to rows a)) q)
-
-pub orders-undone : (journal new : List Entry) (a : Entry) (rows after back : List (Text × Option Order)) (r : Text) (o : Option Order) → AreOrders journal rows → after ≡ rows_after rows a → r ≡ a.ro → o ≡ look None rows a.ro → back ≡ put_row r o after → new ≡ journal → AreOrders new back
-orders-undone journal new a rows after back r o h q p l b n =
-    subst (λ (js : List Entry). AreOrders js back) (sym n)
-    (orders-same journal rows back h (look-back rows after back a.ro (result_or (look None rows a.ro) (applied_to rows a)) o q (b ∙ ap (λ (x : Text). put_row x o after) p) (sym l)))
 
 -- one more entry is accepted
 pub accepted-more : (before es : List Entry) (e : Entry) → IsAccepted before es → acceptance (before ++ es) e ≡ None → IsAccepted before (es ++ e ∷ [])

@@ -5,7 +5,7 @@ use Rattle.std.proofs.lemmas.List.{append-nil}
 use Rattle.std.proofs.lemmas.Bool.{ltb-false}
 use Rattle.std.proofs.lemmas.Bool.Decides.{leb_tells}
 use Rattle.std.specs.Prelude.{nat_lt}
-use Rattle.mos_edits.specs.Entries.{Entry, over_list, result_or}
+use Rattle.mos_edits.specs.Entries.{over_list}
 use Rattle.mos_edits.specs.Orders.{Order, HeaderPatch}
 use Rattle.mos_edits.specs.Sizes.{at_most_64_bits, list_limit, list_units, list_all_limit, list_all_units, ros_units}
 use Rattle.mos_edits.specs.Texts.{Text, same_id}
@@ -14,7 +14,7 @@ use Rattle.mos_machines.specs.Tables.{look, put_row, row_ids}
 use Rattle.order_table.specs.Rows.{IsAscending}
 use Rattle.order_table.proofs.AscendingRows.{before-all, find-none}
 use Rattle.order_table.proofs.Looked.{put-put}
-use Rattle.ncs_core.specs.Accepting.{applied_to, rows_after, rows_over}
+use Rattle.ncs_core.specs.Accepting.{rows_over}
 use Rattle.ncs_core.specs.State.{all_units, one_header, row_headers}
 use Rattle.ncs_core.proofs.AcceptedRows.{no-order}
 
@@ -60,11 +60,6 @@ back-units r u o rows h e =
     let w : weigh o ≡ weigh (look None rows r) = ap weigh e in
     let s : sum (put_row r o rows) ≡ sum rows = omega (arith, p, w) in
     ap (λ (z : List (Text × Option Order)). all_units z) (put-put r u o rows) ∙ ap (λ (n : ℕ). 23 + n) s
-
-pub undone-units : (rows after : List (Text × Option Order)) (e : Entry) (r : Text) (o : Option Order) → IsAscending (row_ids rows) → after ≡ rows_after rows e → r ≡ e.ro → o ≡ look None rows e.ro → all_units (put_row r o after) ≡ all_units rows
-undone-units rows after e r o asc q p l =
-    ap (λ (z : Text). all_units (put_row z o after)) p
-    ∙ (ap (λ (z : List (Text × Option Order)). all_units (put_row e.ro o z)) q ∙ back-units e.ro (result_or (look None rows e.ro) (applied_to rows e)) o rows asc l)
 
 -- a row for an order that has none
 pub known-units : {X Y : Type 0} (a : Result X Y) (r : Text) (old new : List (Text × Option Order)) → IsAscending (row_ids old) → OnOk a (new ≡ put_row r None old) → OnErr a (new ≡ old) → look None old r ≡ None → all_units new ≡ all_units old

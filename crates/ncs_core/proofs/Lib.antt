@@ -10,3 +10,4 @@ pub mod ListedIds
 pub mod KeptUnits
 pub mod KnownFronts
 pub mod LookedRows
+pub mod RestoredRows

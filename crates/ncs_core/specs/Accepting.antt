@@ -1,14 +1,18 @@
 -- Whether an edit is accepted, by the table of orders.
-use Rattle.std.specs.Prelude.{◌≡◌, ℕ, List, Option, Some, None}
+use Rattle.std.specs.Prelude.{◌≡◌, ℕ, List, Bool, true, false, Option, Some, None, if◌then◌else◌}
+use Rattle.std.specs.Option.{is_some}
 use Rattle.mos_edits.specs.Texts.{Text}
 use Rattle.mos_edits.specs.KeyedLists.{Applied, ActFault}
-use Rattle.mos_edits.specs.Orders.{Order, apply}
+use Rattle.mos_edits.specs.Orders.{Order, Edit, edit_ro, apply}
 use Rattle.mos_edits.specs.Entries.{Entry, Refusal, refusal, result_or, over_list, over}
 use Rattle.mos_edits.specs.Sizes.{list_all_limit}
 use Rattle.mos_machines.specs.Tables.{look, put_row}
+use Rattle.mos_values.specs.declared.edit.Edit.TheVariants.{Air}
 use Rattle.ncs_core.specs.State.{all_units}
 use Rattle.ncs_core.specs.declared.fault.CommandFault.{CommandFault}
 use Rattle.ncs_core.specs.declared.fault.CommandFault.TheVariants.{Stopped, Missing, AlreadyThere, Full, StoreFault, NoMemory}
+use Rattle.ncs_core.specs.declared.former.Former.{Former}
+use Rattle.ncs_core.specs.declared.former.Former.TheVariants.{Same, Was}
 
 -- the code units with which all orders pass their limit, and those of one order or else of all
 abbrev pub all_over : List (Text × Option Order) → Option ℕ
@@ -37,3 +41,17 @@ IsRefusal why (AlreadyThere id) = why ≡ Some (Refusal.Faulty (ActFault.Already
 IsRefusal why (Full units) = why ≡ Some (Refusal.Full units)
 IsRefusal why StoreFault = ⊥
 IsRefusal why NoMemory = Unit {0}
+
+-- whether an edit leaves all orders as they are: READY and NOT READY do, of an order that is there
+abbrev pub leaves_all : List (Text × Option Order) → Edit → Bool
+leaves_all rows (Air ro air) = is_some (look None rows ro)
+leaves_all rows e = false
+
+-- what is put back where an edit isn't kept that was accepted: nothing, or what was in its row
+abbrev pub former_of : List (Text × Option Order) → Edit → Former
+former_of rows e = if leaves_all rows e then Same else Was (look None rows (edit_ro e))
+
+-- the orders once that is put back
+abbrev pub restored : Former → Text → List (Text × Option Order) → List (Text × Option Order)
+restored Same r rows = rows
+restored (Was o) r rows = put_row r o rows

@@ -9,9 +9,11 @@ ghost use Rattle.mos_machines.specs.Tables.{look, put_row};
 ghost use Rattle.order_table.specs.Rows.{find_row};
 ghost use Rattle.mos_edits.specs.Sizes.{at_most_64_bits};
 ghost use Rattle.ncs_core.specs.State.{all_units};
-ghost use Rattle.ncs_core.specs.Accepting.{applied_to, rows_over, rows_after, rows_acceptance, IsRefusal};
+ghost use Rattle.ncs_core.specs.Accepting.{applied_to, rows_over, rows_after, rows_acceptance, IsRefusal, leaves_all as leaves_all_of, former_of, restored};
+ghost use Rattle.ncs_core.specs.declared.former.Former.TheVariants.{Same, Was};
 
 use crate::fault::CommandFault;
+use crate::former::{Former, put_back};
 use crate::limits::{exchanged_units, overrun, units_alone};
 use crate::orders::{NO_ORDERS, Orders, Table, order_in};
 use element_action::{ActFault, applied, apply};
@@ -105,15 +107,54 @@ fn exchange_within(
     }
 }
 
-/// Puts what an edit makes of its order in its row, where the edit is accepted, and gives what was there.
-///
-/// After each error all orders are as they were.
-pub fn accept_edit(
+// Whether an edit leaves all orders as they are: READY and NOT READY do, of an order that is there.
+fn leaves_all(orders: &Table, edit: &Edit) -> bool
+    ensures { result ≡ leaves_all_of orders.now edit.now }
+{
+    match edit {
+        Edit::Air { ro, air: _ } => order_in(orders, ro).is_some(),
+        _ => false,
+    }
+}
+
+// Whether the orders pass no limit as they are. Nothing is to be put back then.
+fn stay_within(orders: &Orders, ro: &Id) -> Result<Former, CommandFault>
+    ensures former { IfOk result (λ f. f ≡ Same) }
+    ensures within { OnOk result (rows_over orders.now ro.now ≡ None) }
+    ensures full { IfErr result (λ f. (order : Option Made) → IsRefusal (refusal (Done order) (rows_over orders.now ro.now)) f) }
+{
+    match within(&orders.table, ro, orders.units) {
+        Ok(()) => Ok(Former::Same),
+        Err(fault) => Err(fault),
+    }
+}
+
+// Puts an order in its row, where the orders then pass no limit, and gives what was there.
+fn put_within(
     alloc: Global,
     orders: &mut Orders,
-    edit: &Edit,
-) -> Result<Option<Order>, CommandFault>
-    ensures order { IfOk result (λ o. o ≡ look None orders.old (edit_ro_of edit.now)) }
+    ro: &Id,
+    order: Option<Order>,
+) -> Result<Former, CommandFault>
+    ensures former { IfOk result (λ f. f ≡ Was (look None orders.old ro.now)) }
+    ensures rows { OnOk result (orders.new ≡ put_row ro.now order orders.old) }
+    ensures within { OnOk result (rows_over (put_row ro.now order orders.old) ro.now ≡ None) }
+    ensures fault { IfErr result (λ f. IsRefusal (refusal (Done order) (rows_over (put_row ro.now order orders.old) ro.now)) f) }
+    ensures err { OnErr result (look None orders.new ≡ look None orders.old) }
+{
+    let mut held = order;
+    match exchange_in(alloc, orders, ro, &mut held) {
+        Ok(()) => Ok(Former::Was { order: held }),
+        Err(fault) => {
+            let_go(held);
+            Err(fault)
+        }
+    }
+}
+
+// Puts what an edit makes of its order in its row, where the edit is accepted, and gives what was there.
+fn put_edited(alloc: Global, orders: &mut Orders, edit: &Edit) -> Result<Former, CommandFault>
+    ensures former { IfOk result (λ f. f ≡ Was (look None orders.old (edit_ro_of edit.now))) }
     ensures rows { OnOk result (orders.new ≡ rows_after orders.old (entry_of edit.now)) }
     ensures accepted { OnOk result (rows_acceptance orders.old (entry_of edit.now) ≡ None) }
     ensures fault { IfErr result (λ f. IsRefusal (rows_acceptance orders.old (entry_of edit.now)) f) }
@@ -125,26 +166,21 @@ pub fn accept_edit(
     }
 }
 
-// Puts an order in its row, where the orders then pass no limit, and gives what was there.
-fn put_within(
-    alloc: Global,
-    orders: &mut Orders,
-    ro: &Id,
-    order: Option<Order>,
-) -> Result<Option<Order>, CommandFault>
-    ensures order { IfOk result (λ o. o ≡ look None orders.old ro.now) }
-    ensures rows { OnOk result (orders.new ≡ put_row ro.now order orders.old) }
-    ensures within { OnOk result (rows_over (put_row ro.now order orders.old) ro.now ≡ None) }
-    ensures fault { IfErr result (λ f. IsRefusal (refusal (Done order) (rows_over (put_row ro.now order orders.old) ro.now)) f) }
+/// Puts what an edit makes of its order in its row, where the edit is accepted, and gives what `undo` puts back.
+///
+/// READY and NOT READY of an order that is there copy nothing. After each error all orders are as they were.
+pub fn accept_edit(alloc: Global, orders: &mut Orders, edit: &Edit) -> Result<Former, CommandFault>
+    ensures former { IfOk result (λ f. f ≡ former_of orders.old edit.now) }
+    ensures rows { OnOk result (orders.new ≡ rows_after orders.old (entry_of edit.now)) }
+    ensures accepted { OnOk result (rows_acceptance orders.old (entry_of edit.now) ≡ None) }
+    ensures fault { IfErr result (λ f. IsRefusal (rows_acceptance orders.old (entry_of edit.now)) f) }
     ensures err { OnErr result (look None orders.new ≡ look None orders.old) }
 {
-    let mut held = order;
-    match exchange_in(alloc, orders, ro, &mut held) {
-        Ok(()) => Ok(held),
-        Err(fault) => {
-            let_go(held);
-            Err(fault)
-        }
+    orders.has_ascending_ids();
+    if leaves_all(&orders.table, edit) {
+        stay_within(orders, edit_ro(edit))
+    } else {
+        put_edited(alloc, orders, edit)
     }
 }
 
@@ -219,13 +255,11 @@ pub fn edit_order(alloc: Global, orders: &mut Orders, edit: &Edit) -> Result<(),
 }
 
 /// Puts back what was there before an edit, when the list of all orders had so many code units. It takes no memory.
-pub fn undo(orders: &mut Orders, ro: &Id, order: Option<Order>, units: u64)
+pub fn undo(orders: &mut Orders, ro: &Id, former: Former, units: u64)
     requires there { IsSome (find_row ro.now orders.old) }
-    requires units { units ≡ all_units (put_row ro.now order orders.old) }
-    ensures { orders.new ≡ put_row ro.now order orders.old }
+    requires units { units ≡ all_units (restored former ro.now orders.old) }
+    ensures { orders.new ≡ restored former ro.now orders.old }
 {
-    let mut held = order;
-    orders.table.exchange(ro, &mut held);
+    put_back(&mut orders.table, ro, former);
     orders.units = units;
-    let_go(held);
 }

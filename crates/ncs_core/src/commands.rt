@@ -76,17 +76,17 @@ impl<K: Keeper> Ncs<K> {
     {
         self.orders.has_ascending_ids();
         let units = self.orders.units();
-        let order = match accept_edit(self.journal.allocator(), &mut self.orders, edit) {
-            Ok(order) => order,
+        let former = match accept_edit(self.journal.allocator(), &mut self.orders, edit) {
+            Ok(former) => former,
             Err(fault) => return Err(fault),
         };
         match keep_and_give(&mut self.peers, &mut self.journal, &mut self.keeper, edit) {
             Ok(()) => {
-                let_go(order);
+                let_go(former);
                 Ok(())
             }
             Err(fault) => {
-                undo(&mut self.orders, edit_ro(edit), order, units);
+                undo(&mut self.orders, edit_ro(edit), former, units);
                 self.stopped = is_failed(fault);
                 Err(command_fault(fault))
             }

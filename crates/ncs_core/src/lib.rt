@@ -7,6 +7,7 @@ mod accepting;
 mod commands;
 mod connections;
 mod fault;
+mod former;
 mod giving;
 mod hearing;
 mod keeping;

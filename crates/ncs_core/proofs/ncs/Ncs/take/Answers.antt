@@ -6,11 +6,11 @@ use Rattle.mos_machines.specs.Server.{peer_given}
 use Rattle.ncs_core.specs.Accepting.{IsRefusal}
 use Rattle.ncs_core.specs.Commands.{LeavesKeeper}
 use Rattle.ncs_core.specs.State.{NcsTables, states}
-use Rattle.ncs_core.proofs.AcceptedRows.{orders-same, acceptance-here, orders-added, edited-there, orders-undone}
+use Rattle.ncs_core.proofs.AcceptedRows.{orders-same, acceptance-here, orders-added, edited-there}
 use Rattle.ncs_core.proofs.CommandSteps.{refused-keeper, refused-tables, taken-tables, unkept-keeper, unkept-tables}
-use Rattle.ncs_core.proofs.KeptUnits.{undone-units}
 use Rattle.ncs_core.proofs.KnownFronts.{known-kept, known-unkept}
 use Rattle.ncs_core.proofs.LookedRows.{looked-pushed, looked-same}
+use Rattle.ncs_core.proofs.RestoredRows.{orders-undone, undone-units}
 use Rattle.ncs_core.proofs.ncs.Ncs.take.Goals as goal
 
 pub invariant_of-self : goal.invariant_of-self
@@ -39,7 +39,7 @@ undo-requires-clause-there g c = edited-there c.self.inside.orders c.accept_edit
 pub undo-requires-clause-units : goal.undo-requires-clause-units
 undo-requires-clause-units g c =
     c.units-units.ensures
-    ∙ sym (undone-units c.self.inside.orders c.accept_edit.new.orders (entry_of c.args.edit.now) c.edit_ro.result.now c.in-Ok.order c.has_ascending_ids.ensures c.in-Ok.ensures.rows c.edit_ro.ensures c.in-Ok.ensures.order)
+    ∙ sym (undone-units c.self.inside.orders c.args.edit.now c.has_ascending_ids.ensures c.accept_edit.new.orders c.edit_ro.result.now c.in-Ok.former c.in-Ok.ensures.former c.in-Ok.ensures.rows c.edit_ro.ensures)
 
 pub invariant_of-self-in-Err-keep_and_give : goal.invariant_of-self-in-Err-keep_and_give
 invariant_of-self-in-Err-keep_and_give g c =
@@ -49,7 +49,7 @@ invariant_of-self-in-Err-keep_and_give g c =
     let one : 1 ≤ length (with_items c.self.inside.peers c.keep_and_give.new.peers).items = subst (λ (n : ℕ). 1 ≤ n) (sym count) c.self.invariant.2 in
     let begun : states c.deref_mut.result.now ≡ states c.self.inside.peers.items = ap states c.deref_mut.ensures.value in
     let running : c.self.inside.stopped ≡ false = ap (λ (n : NcsTables _). n.server.stopped) c.self.view_is ∙ c.requires.running in (
-      orders-undone c.self.inside.journal c.keep_and_give.new.journal (entry_of c.args.edit.now) c.self.inside.orders c.accept_edit.new.orders c.undo.new.orders c.edit_ro.result.now c.in-Ok.order c.self.invariant.0 c.in-Ok.ensures.rows c.edit_ro.ensures c.in-Ok.ensures.order
+      orders-undone c.self.inside.orders c.args.edit.now c.has_ascending_ids.ensures c.self.inside.journal c.keep_and_give.new.journal c.accept_edit.new.orders c.undo.new.orders c.edit_ro.result.now c.in-Ok.former c.self.invariant.0 c.in-Ok.ensures.former c.in-Ok.ensures.rows c.edit_ro.ensures
           c.undo.ensures c.in-Err-keep_and_give.ensures.journal_err,
       few,
       one,
