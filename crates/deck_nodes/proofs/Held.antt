@@ -1,7 +1,8 @@
 -- What is held of orders changes only where the decks are loaded.
 use Rattle.std.proofs.Common.{◌≡◌, ℕ, Bool, true, false, Option, Some, None, refl, sym, ap, ◌∙◌, subst, inl, inr, ◌⊎◌, if◌then◌else◌}
 use Rattle.mos_edits.specs.Texts.{Text, same_id, set_order}
-use Rattle.mos_edits.specs.Orders.{Order, Edit, apply}
+use Rattle.mos_edits.specs.Orders.{Order, apply}
+use Rattle.mos_edits.specs.declared.edit.Edit.{Edit}
 use Rattle.mos_edits.specs.KeyedLists.{Applied}
 use Rattle.mos_edits.specs.KeyedLists.Applied.{Done, Fault}
 use Rattle.mos_edits.specs.Entries.{Kind, kind, Entry}

@@ -5,7 +5,8 @@ use Rattle.mos_edits.specs.KeyedLists.ListAction.{Insert, Replace}
 use Rattle.mos_edits.specs.Actions.{Action}
 use Rattle.mos_edits.specs.Actions.Action.{OnStories, OnItems}
 use Rattle.mos_edits.specs.KeyedLists.Applied.{Done, Fault}
-use Rattle.mos_edits.specs.Orders.{Story, Order, Edit, form_of}
+use Rattle.mos_edits.specs.Orders.{Story, Order, form_of}
+use Rattle.mos_edits.specs.declared.edit.Edit.{Edit}
 use Rattle.mos_edits.specs.declared.edit.Edit.TheVariants as edit
 use Rattle.element_action.specs.declared.first_fault.FirstFault.{FirstFault}
 use Rattle.element_action.specs.declared.first_fault.FirstFault.TheVariants as first

@@ -4,7 +4,8 @@ use Rattle.mos_edits.specs.Texts.{Text}
 use Rattle.mos_edits.specs.KeyedLists.{Applied, ActFault as EditFault}
 use Rattle.mos_edits.specs.KeyedLists.Applied.{Done, Fault}
 use Rattle.mos_edits.specs.Actions.{act}
-use Rattle.mos_edits.specs.Orders.{Order, HeaderPatch, Story, Edit, apply, patched, shape, form_of, with_stories}
+use Rattle.mos_edits.specs.Orders.{Order, HeaderPatch, Story, apply, patched, shape, form_of, with_stories}
+use Rattle.mos_edits.specs.declared.edit.Edit.{Edit}
 use Rattle.mos_edits.specs.Entries.{kind, Entry}
 use Rattle.mos_edits.specs.declared.edit.Edit.TheVariants.{Metadata, Act, Air, Create, Replace, Delete}
 use Rattle.mos_values.specs.declared.action.Action.{Action}

@@ -3,7 +3,8 @@ use Rattle.std.proofs.Common.{◌≡◌, ℕ, Bool, true, false, List, [], ◌�
 use Rattle.mos_edits.specs.Texts.{Text, set_order}
 use Rattle.mos_edits.specs.KeyedLists.{Applied}
 use Rattle.mos_edits.specs.KeyedLists.Applied.{Done, Fault}
-use Rattle.mos_edits.specs.Orders.{Order, Edit, apply}
+use Rattle.mos_edits.specs.Orders.{Order, apply}
+use Rattle.mos_edits.specs.declared.edit.Edit.{Edit}
 use Rattle.mos_edits.specs.Entries.{Entry, Kind, kind, insert_id}
 use Rattle.mos_edits.specs.Entries.Kind.{IsWhole, IsAction, IsReady, IsNotReady}
 use Rattle.mos_machines.specs.Messages.{Message, is_link}

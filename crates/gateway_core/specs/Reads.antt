@@ -3,7 +3,8 @@ use Rattle.std.specs.Prelude.{◌≡◌, Result, IfOk, List, [], Bool, true, fal
 use Rattle.mos_edits.specs.Texts.{Text}
 use Rattle.mos_edits.specs.KeyedLists.{Applied, ActFault as EditFault}
 use Rattle.mos_edits.specs.KeyedLists.Applied.{Fault}
-use Rattle.mos_edits.specs.Orders.{Order, Edit}
+use Rattle.mos_edits.specs.Orders.{Order}
+use Rattle.mos_edits.specs.declared.edit.Edit.{Edit}
 use Rattle.mos_edits.specs.Entries.{Entry}
 use Rattle.mos_machines.specs.Messages.{Message, Status, status_text, message_ro}
 use Rattle.mos_machines.specs.Messages.Message.{RoEdit}

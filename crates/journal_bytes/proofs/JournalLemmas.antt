@@ -5,7 +5,7 @@ use Rattle.mos_codec.specs.declared.fault.DecodeFault.{DecodeFault}
 use Rattle.mos_codec.specs.declared.fault.DecodeFault.TheVariants.{Refused, NoMemory as OutOfMemory}
 use Rattle.mos_codec.specs.declared.whole.Placed.{Placed}
 use Rattle.mos_edits.specs.Entries.{Entry, entry_of}
-use Rattle.mos_edits.specs.Orders.{Edit}
+use Rattle.mos_edits.specs.declared.edit.Edit.{Edit}
 use Rattle.mos_lexer.specs.Units.{Found}
 use Rattle.mos_values.specs.MessageViews.{envelope_events}
 use Rattle.mos_values.specs.declared.message.Envelope.{Envelope}

@@ -6,7 +6,7 @@ use Rattle.mos_codec.specs.declared.fault.DecodeFault.{DecodeFault}
 use Rattle.mos_codec.specs.declared.fault.DecodeFault.TheVariants.{Refused, NoMemory as OutOfMemory}
 use Rattle.mos_decoder.specs.Bytes.{ByteStream}
 use Rattle.mos_edits.specs.Entries.{Entry, entry_of}
-use Rattle.mos_edits.specs.Orders.{Edit}
+use Rattle.mos_edits.specs.declared.edit.Edit.{Edit}
 use Rattle.mos_lexer.specs.Units.{Found}
 use Rattle.mos_lexer.specs.declared.kind.Kind.{Kind}
 use Rattle.mos_edits.specs.Carried.{edit_in, edit_message}

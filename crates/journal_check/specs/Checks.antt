@@ -3,7 +3,7 @@ use Rattle.std.specs.Prelude.{◌≡◌, ℕ, suc, ◌-◌, Bool, true, false, c
 use Rattle.std.specs.List.{AllByRecursion}
 use Rattle.journal_bytes.specs.Journals.{HasRead, ReaderState}
 use Rattle.mos_edits.specs.Entries.{Entry, IsAccepted}
-use Rattle.mos_edits.specs.Orders.{Edit}
+use Rattle.mos_edits.specs.declared.edit.Edit.{Edit}
 use Rattle.mos_edits.specs.declared.edit.Edit.TheVariants as edits
 use Rattle.journal_check.specs.declared.checking.JournalFound.{JournalFound}
 

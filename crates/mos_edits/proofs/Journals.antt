@@ -6,7 +6,8 @@ use Rattle.std.proofs.lemmas.Bool.{cases_lt}
 use Rattle.mos_edits.specs.Texts.{Text, same_id}
 use Rattle.mos_edits.specs.KeyedLists.{ActFault, Applied}
 use Rattle.mos_edits.specs.KeyedLists.Applied.{Done, Fault}
-use Rattle.mos_edits.specs.Orders.{Order, Edit, apply}
+use Rattle.mos_edits.specs.Orders.{Order, apply}
+use Rattle.mos_edits.specs.declared.edit.Edit.{Edit}
 use Rattle.mos_edits.specs.Entries.{Kind, kind, body_of, result_or, Entry, entries, entry_count, no_edit, edit_at, order_at, order_now, order_after, order_from, acceptance, refusal, over_limit, IsAccepted}
 use Rattle.mos_edits.specs.Entries.Refusal.{Faulty, Full}
 use Rattle.mos_edits.specs.Entries.Kind.{IsWhole, IsReady, IsNotReady}

@@ -7,7 +7,8 @@ use Rattle.mos_edits.specs.KeyedLists.Applied.{Done, Fault}
 use Rattle.mos_edits.specs.KeyedLists.ListAction.{Insert, Replace, Move, Delete, Swap}
 use Rattle.mos_edits.specs.Actions.{Action, act, act_in, put_items}
 use Rattle.mos_edits.specs.Actions.Action.{OnStories, OnItems}
-use Rattle.mos_edits.specs.Orders.{Item, Story, Order, Edit, shape, form_of, with_stories, apply}
+use Rattle.mos_edits.specs.Orders.{Item, Story, Order, shape, form_of, with_stories, apply}
+use Rattle.mos_edits.specs.declared.edit.Edit.{Edit}
 use Rattle.mos_edits.specs.declared.edit.Edit.TheVariants as Edits
 use Rattle.mos_edits.specs.declared.edit.Edit.TheVariants.{Create, Delete as DeleteOrder, Metadata, Act, Air}
 use Rattle.mos_values.specs.Distinct.{AreDistinct, story_ids, item_ids}

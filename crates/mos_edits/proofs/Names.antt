@@ -4,7 +4,8 @@ use Rattle.mos_edits.specs.Texts.{Text, same_id}
 use Rattle.mos_edits.specs.KeyedLists.{Applied}
 use Rattle.mos_edits.specs.KeyedLists.Applied.{Done, Fault}
 use Rattle.mos_edits.specs.Actions.{act}
-use Rattle.mos_edits.specs.Orders.{Order, Story, Edit, edit_ro, shape, form_of, with_stories, apply}
+use Rattle.mos_edits.specs.Orders.{Order, Story, edit_ro, shape, form_of, with_stories, apply}
+use Rattle.mos_edits.specs.declared.edit.Edit.{Edit}
 use Rattle.mos_edits.specs.declared.edit.Edit.TheVariants.{Create, Replace, Delete, Metadata, Act, Air}
 use Rattle.mos_edits.specs.Distinct.{Each}
 use Rattle.mos_edits.specs.Entries.{Entry, entries, entry_count, no_edit, edit_at, result_or, order_from, order_at, order_now, AreEntries, IsNamed}

@@ -5,7 +5,8 @@ use Rattle.mos_edits.specs.KeyedLists.{ListAction}
 use Rattle.mos_edits.specs.KeyedLists.ListAction.{Insert, Replace}
 use Rattle.mos_edits.specs.Actions.{Action}
 use Rattle.mos_edits.specs.Actions.Action.{OnStories}
-use Rattle.mos_edits.specs.Orders.{Item, Story, Order, Edit, form_of}
+use Rattle.mos_edits.specs.Orders.{Item, Story, Order, form_of}
+use Rattle.mos_edits.specs.declared.edit.Edit.{Edit}
 use Rattle.mos_edits.specs.declared.edit.Edit.TheVariants as Edits
 use Rattle.mos_edits.specs.declared.edit.Edit.TheVariants.{Create, Act}
 

@@ -11,7 +11,7 @@ use Rattle.mos_values.specs.declared.action.Action as values
 use Rattle.mos_values.specs.declared.action.Action.TheVariants.{InsertStories, ReplaceStory, InsertItems, ReplaceItem, MoveStories, MoveItems, DeleteStories, DeleteItems, SwapStories, SwapItems}
 use Rattle.mos_edits.specs.declared.edit.Edit.TheVariants as Edits
 use Rattle.mos_edits.specs.declared.edit.Edit.TheVariants.{Create, Metadata, Act, Air}
-pub use Rattle.mos_edits.specs.declared.edit.Edit.{Edit}
+use Rattle.mos_edits.specs.declared.edit.Edit.{Edit}
 pub use Rattle.mos_values.specs.declared.header.Header.{Header}
 pub use Rattle.mos_values.specs.declared.header.HeaderPatch.{HeaderPatch}
 pub use Rattle.mos_values.specs.declared.item.Item.{Item}

@@ -3,7 +3,8 @@
 ghost use Rattle.std.specs.Prelude.{◌≡◌, Option, Some, None};
 ghost use Rattle.mos_edits.specs.Texts.{Text};
 ghost use Rattle.mos_edits.specs.KeyedLists.{ActFault, Applied};
-ghost use Rattle.mos_edits.specs.Orders.{Order, Edit, apply};
+ghost use Rattle.mos_edits.specs.Orders.{Order, apply};
+ghost use Rattle.mos_edits.specs.declared.edit.Edit.{Edit};
 ghost use Rattle.mos_edits.specs.declared.edit.Edit.TheVariants.{Create};
 ghost use Rattle.mos_edits.specs.Entries.{Kind, kind, body_of};
 

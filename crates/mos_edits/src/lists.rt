@@ -4,7 +4,8 @@ ghost use Rattle.std.specs.Prelude.{◌≡◌, List, true, Option};
 ghost use Rattle.mos_edits.specs.Texts.{Text, same_id};
 ghost use Rattle.mos_edits.specs.KeyedLists.{ListAction, Applied, act_list};
 ghost use Rattle.mos_edits.specs.Actions.{Action, act};
-ghost use Rattle.mos_edits.specs.Orders.{Story, Item, Order, Edit, shape, apply};
+ghost use Rattle.mos_edits.specs.Orders.{Story, Item, Order, shape, apply};
+ghost use Rattle.mos_edits.specs.declared.edit.Edit.{Edit};
 ghost use Rattle.mos_edits.specs.Distinct.{HasDistinctItems, HasDistinctIdsIf, ActionOk, BringsDistinctIds};
 ghost use Rattle.mos_values.specs.Distinct.{AreDistinct, story_ids, item_ids};
 

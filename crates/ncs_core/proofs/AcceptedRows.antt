@@ -3,7 +3,8 @@ use Rattle.std.proofs.Common.{◌≡◌, ℕ, Bool, true, false, List, [], ◌�
 use Rattle.std.proofs.lemmas.List.{append_assoc}
 use Rattle.mos_edits.specs.Texts.{Text, same_id, set_order}
 use Rattle.mos_edits.specs.KeyedLists.Applied.{Done}
-use Rattle.mos_edits.specs.Orders.{Order, HeaderPatch, Edit, apply}
+use Rattle.mos_edits.specs.Orders.{Order, HeaderPatch, apply}
+use Rattle.mos_edits.specs.declared.edit.Edit.{Edit}
 use Rattle.mos_edits.specs.Entries.{Entry, entry_of, IsEntry, result_or, order_now, refusal, over_limit, over_list, over, acceptance, IsAccepted}
 use Rattle.mos_edits.specs.Sizes.{list_all_limit, list_all_units}
 use Rattle.mos_edits.proofs.Identifiers.{same-true}

@@ -4,7 +4,8 @@ use Rattle.std.specs.Option.{is_some}
 use Rattle.mos_edits.specs.Texts.{Text, same_id}
 use Rattle.mos_edits.specs.KeyedLists.{Applied}
 use Rattle.mos_edits.specs.KeyedLists.Applied.{Done}
-use Rattle.mos_edits.specs.Orders.{Order, Edit, edit_ro, apply}
+use Rattle.mos_edits.specs.Orders.{Order, edit_ro, apply}
+use Rattle.mos_edits.specs.declared.edit.Edit.{Edit}
 use Rattle.mos_edits.specs.Entries.{Entry, entry_of, is_before, result_or, refusal}
 use Rattle.mos_edits.proofs.Identifiers.{same-true}
 use Rattle.mos_machines.specs.Tables.{look, put_row, row_ids}

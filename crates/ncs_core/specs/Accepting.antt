@@ -3,7 +3,8 @@ use Rattle.std.specs.Prelude.{◌≡◌, ℕ, List, Bool, true, false, Option, S
 use Rattle.std.specs.Option.{is_some}
 use Rattle.mos_edits.specs.Texts.{Text}
 use Rattle.mos_edits.specs.KeyedLists.{Applied, ActFault}
-use Rattle.mos_edits.specs.Orders.{Order, Edit, edit_ro, apply}
+use Rattle.mos_edits.specs.Orders.{Order, edit_ro, apply}
+use Rattle.mos_edits.specs.declared.edit.Edit.{Edit}
 use Rattle.mos_edits.specs.Entries.{Entry, Refusal, refusal, result_or, over_list, over}
 use Rattle.mos_edits.specs.Sizes.{list_all_limit}
 use Rattle.mos_machines.specs.Tables.{look, put_row}

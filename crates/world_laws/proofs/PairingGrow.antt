@@ -1,7 +1,8 @@
 -- A pairing keeps its invariant while the journal grows, and takes the new entry.
 use Rattle.std.proofs.Common.{◌≡◌, ℕ, ◌-◌, ◌<◌, ◌≤◌, List, [], ◌∷◌, ◌++◌, length, map, slice_get, Bool, true, false, Option, Some, None, arith, refl, if◌then◌else◌, ◌&&◌, sym, ap, ◌∙◌, subst, inl, inr}
 use Rattle.mos_edits.specs.Texts.{Text, same_id}
-use Rattle.mos_edits.specs.Orders.{Order, Edit}
+use Rattle.mos_edits.specs.Orders.{Order}
+use Rattle.mos_edits.specs.declared.edit.Edit.{Edit}
 use Rattle.mos_edits.specs.Entries.{Kind, kind, Entry, entries, entry_count}
 use Rattle.mos_machines.specs.Messages.{Tag, Packet}
 use Rattle.mos_machines.specs.Server.{ServerOut, Upper, View, list_of, is_ready, view_given, is_open, is_whole, entry_packet, again_packet}

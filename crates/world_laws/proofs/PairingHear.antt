@@ -2,7 +2,8 @@
 use Rattle.std.proofs.Common.{◌≡◌, ℕ, zero, suc, ◌-◌, ◌≤◌, List, [], ◌∷◌, length, map, slice_get, Bool, true, false, Option, Some, None, arith, refl, if◌then◌else◌, sym, ap, ◌∙◌, subst, inl, inr}
 use Rattle.std.proofs.lemmas.Bool.Decides.{nat_tests}
 use Rattle.mos_edits.specs.Texts.{Text, same_id, set_order, set_number}
-use Rattle.mos_edits.specs.Orders.{Order, Edit}
+use Rattle.mos_edits.specs.Orders.{Order}
+use Rattle.mos_edits.specs.declared.edit.Edit.{Edit}
 use Rattle.mos_edits.specs.Entries.{Kind, kind, Entry, entries, entry_count, edit_at, order_at, order_now, headers, order_after}
 use Rattle.mos_machines.specs.Messages.{Message, Packet, untagged}
 use Rattle.mos_machines.specs.Server.{Upper, View, peer_hear, peer_settled, settled, ready_before, is_busy, list_of, is_ready}

@@ -1,7 +1,8 @@
 -- The device reads a packet.
 use Rattle.std.proofs.Common.{◌≡◌, ℕ, ◌+◌, ◌<◌, ◌≤◌, List, [], ◌∷◌, slice_get, Bool, true, false, Option, Some, None, arith, refl, if◌then◌else◌, not, ◌&&◌, ◌==◌, sym, subst}
 use Rattle.mos_edits.specs.Texts.{Text}
-use Rattle.mos_edits.specs.Orders.{Order, Edit}
+use Rattle.mos_edits.specs.Orders.{Order}
+use Rattle.mos_edits.specs.declared.edit.Edit.{Edit}
 use Rattle.mos_edits.specs.Entries.{Kind, kind, Entry, entry_count, edit_at, order_at}
 use Rattle.mos_machines.specs.Messages.{Status, Message, Packet, untagged}
 use Rattle.mos_edits.specs.KeyedLists.{Applied}

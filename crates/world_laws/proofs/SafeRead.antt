@@ -1,7 +1,8 @@
 -- What is safe of the event `read d`.
 use Rattle.std.proofs.Common.{◌⊎◌, inl, inr, ◌≡◌, ℕ, ◌+◌, ◌-◌, ◌<◌, ◌≤◌, List, Bool, Option, Some, None, arith, refl, sym, ap, ◌∙◌, subst}
 use Rattle.mos_edits.specs.Texts.{Text}
-use Rattle.mos_edits.specs.Orders.{Order, Edit, apply}
+use Rattle.mos_edits.specs.Orders.{Order, apply}
+use Rattle.mos_edits.specs.declared.edit.Edit.{Edit}
 use Rattle.mos_edits.specs.Entries.{Kind, kind, Entry, entry_count, edit_at, order_at}
 use Rattle.mos_machines.specs.Messages.{Status, Tag, Packet, untagged}
 use Rattle.mos_edits.specs.KeyedLists.{Applied}

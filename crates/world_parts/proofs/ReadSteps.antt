@@ -5,7 +5,7 @@ use Rattle.mos_fields.specs.Characters.{are_allowed, units_of}
 use Rattle.mos_fields.proofs.OrderLemmas.{same_by_units}
 use Rattle.mos_edits.specs.Texts.{Text, same_id, set_order}
 use Rattle.mos_edits.specs.KeyedLists.ActFault.{Missing, AlreadyThere}
-use Rattle.mos_edits.specs.Orders.{Edit}
+use Rattle.mos_edits.specs.declared.edit.Edit.{Edit}
 use Rattle.mos_edits.specs.Entries.{Kind, kind}
 use Rattle.mos_machines.specs.Device.{GateState, is_in}
 use Rattle.mos_machines.specs.Messages.{Status, status_text, Message, Packet as Said, Tag as kinds}

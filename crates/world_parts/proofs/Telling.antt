@@ -1,7 +1,7 @@
 -- What is told of a packet is what is told of the one that it stands for.
 use Rattle.std.proofs.Common.{◌≡◌, ℕ, Result, Ok, Err, IfOk, refl, ap, ◌∙◌}
 use Rattle.mos_edits.specs.Texts.{Text}
-use Rattle.mos_edits.specs.Orders.{Edit}
+use Rattle.mos_edits.specs.declared.edit.Edit.{Edit}
 use Rattle.mos_machines.specs.Messages.{Message, Packet as Said, Tag as kinds}
 use Rattle.mos_machines.specs.Messages.Message.{Heartbeat, RoEdit, RoAck, RoReq, RoReqAll, RoList, RoListAll, RoElementStat, OtherMessage}
 use Rattle.mos_machines.specs.Values.{edit_message, message_of, IsWritten}

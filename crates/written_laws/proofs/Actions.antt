@@ -23,7 +23,8 @@ use Rattle.mos_edits.specs.KeyedLists.{Applied, ListAction, find, put_for, act_l
 use Rattle.mos_edits.specs.KeyedLists.Applied.{Done, Fault}
 use Rattle.mos_edits.specs.KeyedLists.ListAction.{Insert, Replace, Move, Delete}
 use Rattle.mos_edits.specs.Actions.{act, act_in, put_items}
-use Rattle.mos_edits.specs.Orders.{Item, Story, Order, Edit, shape, form_of, with_stories, patched, apply}
+use Rattle.mos_edits.specs.Orders.{Item, Story, Order, shape, form_of, with_stories, patched, apply}
+use Rattle.mos_edits.specs.declared.edit.Edit.{Edit}
 use Rattle.written_laws.specs.Lengths.{IsShort, HasShortTarget, HasShortIds}
 use Rattle.written_laws.proofs.Sums.{total, total-find, total-put_for, Within, within-more, within-act_list}
 use Rattle.written_laws.proofs.Sizes.{short-must, units-with, id_units, item_weight, story_weight, ids-total, items-total, stories-total, item-id, story-id, story-items, patch-units}

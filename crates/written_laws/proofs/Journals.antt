@@ -6,7 +6,8 @@ use Rattle.mos_edits.specs.KeyedLists.{Applied, find, act_list}
 use Rattle.mos_edits.specs.KeyedLists.Applied.{Done, Fault}
 use Rattle.mos_edits.specs.Actions.{Action, act, act_in, put_items}
 use Rattle.mos_edits.specs.Actions.Action.{OnStories, OnItems}
-use Rattle.mos_edits.specs.Orders.{Item, Story, Order, Header, HeaderPatch, Edit, shape, form_of, with_stories, apply}
+use Rattle.mos_edits.specs.Orders.{Item, Story, Order, Header, HeaderPatch, shape, form_of, with_stories, apply}
+use Rattle.mos_edits.specs.declared.edit.Edit.{Edit}
 use Rattle.mos_edits.specs.Entries.{Entry, entries, edit_at, no_edit, result_or, order_from, order_after, order_now, listed, with_header, headers_of, headers}
 use Rattle.mos_values.specs.declared.action.Action as values
 use Rattle.mos_values.specs.declared.action.Action.TheVariants as actions

@@ -6,7 +6,8 @@ use Rattle.mos_fields.specs.declared.air.Air.TheVariants.{NotReady}
 use Rattle.mos_fields.specs.declared.field.Field.TheVariants as fields
 use Rattle.mos_edits.specs.Texts.{set_order}
 use Rattle.mos_edits.specs.KeyedLists.ActFault.{Missing, AlreadyThere}
-use Rattle.mos_edits.specs.Orders.{Order, Edit}
+use Rattle.mos_edits.specs.Orders.{Order}
+use Rattle.mos_edits.specs.declared.edit.Edit.{Edit}
 use Rattle.mos_edits.specs.Entries.{Entry, entries, edit_at, no_edit, order_now, entry_count, acceptance}
 use Rattle.mos_edits.specs.Sizes.{list_limit}
 use Rattle.mos_edits.proofs.Journals.{accepted_applies}

@@ -5,7 +5,8 @@ use Rattle.mos_edits.specs.Texts.{Text}
 use Rattle.mos_edits.specs.KeyedLists.{Applied}
 use Rattle.mos_edits.specs.KeyedLists.Applied.{Done, Fault}
 use Rattle.mos_edits.specs.Actions.{act}
-use Rattle.mos_edits.specs.Orders.{Item, Story, Order, Header, HeaderPatch, Edit, edit_ro, shape, form_of, with_stories, apply}
+use Rattle.mos_edits.specs.Orders.{Item, Story, Order, Header, HeaderPatch, edit_ro, shape, form_of, with_stories, apply}
+use Rattle.mos_edits.specs.declared.edit.Edit.{Edit}
 use Rattle.mos_edits.specs.Entries.{Entry, entries, order_now, listed, with_header, headers_of, headers}
 use Rattle.mos_values.specs.declared.action.Action as values
 use Rattle.mos_values.specs.declared.action.Action.TheVariants as actions

@@ -1,7 +1,8 @@
 -- Journals, orders and answers whose messages have an encoding.
 use Rattle.std.specs.Prelude.{List, Option, Some, None}
 use Rattle.std.specs.List.{AllByRecursion}
-use Rattle.mos_edits.specs.Orders.{Order, Edit}
+use Rattle.mos_edits.specs.Orders.{Order}
+use Rattle.mos_edits.specs.declared.edit.Edit.{Edit}
 use Rattle.mos_edits.specs.Entries.{Entry}
 use Rattle.mos_machines.specs.Messages.{Packet}
 use Rattle.mos_machines.specs.Steps.{ServerEvent, StepAnswer}

@@ -1,7 +1,8 @@
 -- Edits and envelopes with short IDs, and orders that a message can hold.
 use Rattle.std.specs.Prelude.{ℕ, ◌≤◌, length, Option, Some, None}
 use Rattle.mos_fields.specs.Characters.{Text}
-use Rattle.mos_edits.specs.Orders.{Order, Edit, edit_ro}
+use Rattle.mos_edits.specs.Orders.{Order, edit_ro}
+use Rattle.mos_edits.specs.declared.edit.Edit.{Edit}
 use Rattle.mos_edits.specs.Entries.{Entry}
 use Rattle.mos_values.specs.declared.action.Action.{Action}
 use Rattle.mos_values.specs.declared.action.Action.TheVariants.{InsertStories, ReplaceStory, InsertItems, ReplaceItem, MoveStories, MoveItems, DeleteStories, DeleteItems, SwapStories, SwapItems}

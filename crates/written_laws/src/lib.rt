@@ -6,7 +6,8 @@
 ghost use Rattle.std.specs.Prelude.{◌≡◌, ℕ, List, [], ◌∷◌, ◌++◌, Bool, Option, Some, None};
 ghost use Rattle.std.specs.List.{AllByRecursion};
 ghost use Rattle.mos_fields.specs.Characters.{Text};
-ghost use Rattle.mos_edits.specs.Orders.{Order, Edit};
+ghost use Rattle.mos_edits.specs.Orders.{Order};
+ghost use Rattle.mos_edits.specs.declared.edit.Edit.{Edit};
 ghost use Rattle.mos_edits.specs.Entries.{Entry, order_after, order_now, headers, acceptance, IsAccepted};
 ghost use Rattle.mos_machines.specs.Steps.{ServerState, ServerEvent, server_step, DeviceEvent, device_step};
 ghost use Rattle.mos_machines.specs.Device.{GateState};
