@@ -1,10 +1,11 @@
 //! Worked scripts, each with its listing.
+use crate::runs::words_of;
 use mos_fields::NoMemory;
 use mos_io::{MemSink, MemSource};
-use script_plays::Ending;
 use std::alloc::Global;
 use std::test::Fail;
-use world_commands::{make_in_memory, replay_in_memory};
+use stream_commands::Status;
+use world_commands::run_in_memory;
 
 /// Both ends are connected, and one order is in step.
 const OPENED: &str = "open 1: connection 1
@@ -435,9 +436,15 @@ fn sizes(alloc: Global, count: usize, piece: usize) -> Result<Vec<usize>, NoMemo
 }
 
 /// How a script ends on a new stage, in these pieces.
-fn replay_into(alloc: Global, bytes: Vec<u8>, pieces: Vec<usize>, sink: &mut MemSink) -> Ending {
+fn replay_into(
+    alloc: Global,
+    bytes: Vec<u8>,
+    pieces: Vec<usize>,
+    sink: &mut MemSink,
+) -> Result<Status, NoMemory> {
+    let words = words_of(alloc, "replay")?;
     let mut source = MemSource::new(bytes, pieces, Vec::new(alloc));
-    replay_in_memory(alloc, &mut source, sink)
+    Ok(run_in_memory(alloc, &words, &mut source, sink))
 }
 
 /// What was written.
@@ -447,11 +454,11 @@ fn text_in(alloc: Global, sink: &MemSink) -> Result<String, NoMemory> {
 }
 
 /// How replaying bytes ends, in pieces of one size, and what is written.
-fn replayed(alloc: Global, bytes: &[u8], piece: usize) -> Result<(Ending, String), NoMemory> {
+fn replayed(alloc: Global, bytes: &[u8], piece: usize) -> Result<(Status, String), NoMemory> {
     let pieces = sizes(alloc, bytes.len(), piece)?;
     let held = Vec::from_slice(alloc, bytes)?;
     let mut sink = MemSink::new(alloc, Vec::new(alloc));
-    let ending = replay_into(alloc, held, pieces, &mut sink);
+    let ending = replay_into(alloc, held, pieces, &mut sink)?;
     Ok((ending, text_in(alloc, &sink)?))
 }
 
@@ -510,7 +517,7 @@ fn worked_of(alloc: Global, world: &str) -> Result<Worked, NoMemory> {
 fn other_listing(alloc: Global, world: &str) -> Result<Option<String>, NoMemory> {
     let worked = worked_of(alloc, world)?;
     let (ending, text) = replayed(alloc, worked.script.as_bytes(), 0)?;
-    if worked.count > 0 && ending == Ending::Done && text.as_str() == worked.listing.as_str() {
+    if worked.count > 0 && ending == Status::Done && text.as_str() == worked.listing.as_str() {
         return Ok(None);
     }
     Ok(Some(text))
@@ -568,7 +575,7 @@ fn out_of_step(alloc: Global, front: &str, opened: usize) -> Result<Option<Strin
     push_tail(alloc, &mut script, opened)?;
     let (ending, listing) = replayed(alloc, script.as_bytes(), 0)?;
     let in_step = !front.contains("create") || ends_in_step(alloc, listing.as_str())?;
-    if ending == Ending::Done && in_step {
+    if ending == Status::Done && in_step {
         return Ok(None);
     }
     Ok(Some(listing))
@@ -628,7 +635,7 @@ fn with_line_feeds(alloc: Global, text: &str) -> Result<String, NoMemory> {
 }
 
 /// Whether a script ends so, in pieces of any size, and this is written.
-fn ends(alloc: Global, script: &str, ending: Ending, text: &str) -> Result<bool, NoMemory> {
+fn ends(alloc: Global, script: &str, ending: Status, text: &str) -> Result<bool, NoMemory> {
     for piece in [0, 1, 3] {
         let (ended, written) = replayed(alloc, script.as_bytes(), piece)?;
         if ended != ending || written.as_str() != text {
@@ -646,21 +653,23 @@ fn lines_that_are_none(rt: HostRuntime) -> Result<(), Fail> {
         if let Some((script, number)) = row.split_once(" = ") {
             let script = with_line_feeds(alloc, script)?;
             let line = format!(in alloc; "REFUSED line {number}\n")?;
-            let refused = ends(alloc, script.as_str(), Ending::Refused, line.as_str())?;
+            let refused = ends(alloc, script.as_str(), Status::Refused, line.as_str())?;
             assert!(rt; refused, "{row}");
             rows = rows.saturating_add(1);
         }
     }
     assert_eq!(rt; rows, 8);
     let state = "server 1 down\ndevice 1 upper - dial - idle\n";
-    assert!(rt; ends(alloc, "devices 1\n", Ending::Done, state)?);
+    assert!(rt; ends(alloc, "devices 1\n", Status::Done, state)?);
     Ok(())
 }
 
 /// What `make` of a count writes; nothing where it doesn't end well.
 fn made(alloc: Global, count: u32) -> Result<String, NoMemory> {
+    let words = words_of(alloc, format!(in alloc; "make {count}")?.as_str())?;
+    let mut source = MemSource::new(Vec::new(alloc), Vec::new(alloc), Vec::new(alloc));
     let mut sink = MemSink::new(alloc, Vec::new(alloc));
-    if make_in_memory(alloc, count, &mut sink) != Ending::Done {
+    if run_in_memory(alloc, &words, &mut source, &mut sink) != Status::Done {
         return Ok(String::new(alloc));
     }
     text_in(alloc, &sink)

@@ -53,7 +53,7 @@ fn meant(alloc: Global, text: &str, wide: bool) -> Result<Vec<u8>, NoMemory> {
 }
 
 /// The words of a command.
-fn words_of(alloc: Global, command: &str) -> Result<Vec<String>, NoMemory> {
+pub(crate) fn words_of(alloc: Global, command: &str) -> Result<Vec<String>, NoMemory> {
     let mut words = Vec::new(alloc);
     for word in command.split(' ') {
         words.push(String::from_str(alloc, word)?)?;
