@@ -100,3 +100,7 @@ stranger_line number side device = connection_text number side [] ++ codes " is"
 -- nothing came on a connection for so many seconds
 abbrev pub quiet_line : ℕ → Side → ℕ → List ℕ
 quiet_line number side seconds = connection_text number side [] ++ codes " sent nothing for " ++ decimal seconds ++ codes " s\n"
+
+-- what the first bytes of a connection look like that are no message
+abbrev pub hint_line : ℕ → Side → List ℕ → List ℕ
+hint_line number side hint = connection_text number side [] ++ codes ": " ++ hint ++ 10 ∷ []

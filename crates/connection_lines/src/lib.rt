@@ -9,6 +9,7 @@
 //! connection 5 lower from 127.0.0.1:40124
 //! connection 5 lower is dev9, which the settings don't have
 //! connection 5 lower sent nothing for 600 s
+//! connection 6 editor: the bytes look like UTF-8, ..
 //! dial upper dev1 to 127.0.0.1:10541 failed: ConnectionRefused
 //! upper dev1 hasn't answered for 30 s
 //! port upper can't take connections: Too many open files
@@ -27,8 +28,8 @@ mod saying;
 mod stamps;
 
 pub use lines::{
-    accepted_line, dialed_line, ended_line, failed_line, known_line, quiet_line, silent_line,
-    stranger_line,
+    accepted_line, dialed_line, ended_line, failed_line, hint_line, known_line, quiet_line,
+    silent_line, stranger_line,
 };
 pub use port_lines::{
     full_line, shut_line, stalled_line, threads_again_line, waits_line, works_line,

@@ -1,6 +1,6 @@
 //! The lines.
 ghost use Rattle.std.specs.Prelude.{◌≡◌, IfOk, string_bytes};
-ghost use Rattle.connection_lines.specs.Lines.{accepted_line as accepted_line_of, dialed_line as dialed_line_of, ended_line as ended_line_of, failed_line as failed_line_of, known_line as known_line_of, quiet_line as quiet_line_of, silent_line as silent_line_of, stranger_line as stranger_line_of};
+ghost use Rattle.connection_lines.specs.Lines.{accepted_line as accepted_line_of, dialed_line as dialed_line_of, ended_line as ended_line_of, failed_line as failed_line_of, hint_line as hint_line_of, known_line as known_line_of, quiet_line as quiet_line_of, silent_line as silent_line_of, stranger_line as stranger_line_of};
 
 use crate::parts::{push_connection, push_device, push_end, push_place, push_side};
 use line_texts::{push_number, push_word};
@@ -141,5 +141,18 @@ pub fn quiet_line(alloc: Global, number: u64, side: Side, seconds: u64) -> Resul
     push_word(&mut line, " sent nothing for ")?;
     push_number(alloc, &mut line, seconds)?;
     push_word(&mut line, " s\n")?;
+    Ok(line)
+}
+
+/// The line of a connection whose first bytes are no message, with what they look like.
+pub fn hint_line(alloc: Global, number: u64, side: Side, hint: &str) -> Result<String, NoMemory>
+    ensures { IfOk result (λ line. string_bytes line ≡ hint_line_of number side hint.now) }
+{
+    let mut line = String::new(alloc);
+    let nobody = Text::new(alloc);
+    push_connection(alloc, &mut line, number, side, &nobody)?;
+    push_word(&mut line, ": ")?;
+    push_word(&mut line, hint)?;
+    push_word(&mut line, "\n")?;
     Ok(line)
 }

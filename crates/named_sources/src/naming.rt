@@ -2,8 +2,9 @@
 ghost use Rattle.std.specs.Prelude.{◌≡◌};
 ghost use Rattle.port_looking.specs.Steps.{StandsAt};
 
+use crate::first::First;
 use crate::hearing::{Ear, Heard};
-use connection_lines::{known_line, quiet_line, say, stranger_line};
+use connection_lines::{hint_line, known_line, quiet_line, say, stranger_line};
 use mos_fields::{Id, Ids};
 use port_events::Side;
 use port_jobs::Names;
@@ -17,7 +18,7 @@ const QUIET: u64 = 600;
 /// What is known of a connection that others opened.
 ///
 /// Where the devices have names, the mosID of its first whole message says whose it is, and is said on standard error: also
-/// where it is none of them.
+/// where it is none of them. Where its first two bytes can't begin a message, it is said what they look like.
 #[derive(Drop)]
 pub struct Naming<R: Eprint + Clock + Copy + Drop> {
     rt: R,
@@ -25,6 +26,8 @@ pub struct Naming<R: Eprint + Clock + Copy + Drop> {
     number: u64,
     side: Side,
     names: Option<Arc<Names>>,
+    // the first bytes
+    first: First,
     // hears the first message, where its name is wanted and not known yet
     ear: Option<Ear>,
     // the place of its name among the names
@@ -58,6 +61,7 @@ impl<R: Eprint + Clock + Copy + Drop> Naming<R> {
             number,
             side,
             names,
+            first: First::Nothing,
             ear,
             device: None,
         }
@@ -84,8 +88,17 @@ impl<R: Eprint + Clock + Copy + Drop> Naming<R> {
         }
     }
 
+    // What the first bytes look like is said, once two came.
+    fn look(&mut self, piece: &[u8]) {
+        if let Some(look) = self.first.look(piece) {
+            let line = hint_line(self.alloc, self.number, self.side, look.hint());
+            say(&self.rt, self.alloc, true, line);
+        }
+    }
+
     /// This was read.
     pub(crate) fn hear(&mut self, piece: &[u8]) {
+        self.look(piece);
         let Some(ear) = self.ear.take() else {
             return;
         };

@@ -1,8 +1,8 @@
 //! Each form of a line.
 use crate::words::text;
 use connection_lines::{
-    accepted_line, dialed_line, ended_line, failed_line, full_line, known_line, quiet_line,
-    shut_line, silent_line, stalled_line, stamped, stranger_line, works_line,
+    accepted_line, dialed_line, ended_line, failed_line, full_line, hint_line, known_line,
+    quiet_line, shut_line, silent_line, stalled_line, stamped, stranger_line, works_line,
 };
 use moments::time_of;
 use port_events::Side;
@@ -67,6 +67,7 @@ fn port_lines(alloc: Global) -> Result<String, Fail> {
     all.push_str(known_line(alloc, 6, Side::Upper, &device)?.as_str())?;
     all.push_str(stranger_line(alloc, 7, Side::Lower, &device)?.as_str())?;
     all.push_str(quiet_line(alloc, 7, Side::Lower, 600)?.as_str())?;
+    all.push_str(hint_line(alloc, 8, Side::Editor, "it looks odd")?.as_str())?;
     all.push_str(silent_line(alloc, Side::Upper, &device, 30)?.as_str())?;
     all.push_str(stalled_line(alloc, Side::Upper, "Too many open files")?.as_str())?;
     all.push_str(works_line(alloc, Side::Upper)?.as_str())?;
@@ -83,6 +84,7 @@ fn each_line_of_a_port_has_its_form(rt: HostRuntime) -> Result<(), Fail> {
         "connection 6 upper is dev1
 connection 7 lower is dev1, which the settings don't have
 connection 7 lower sent nothing for 600 s
+connection 8 editor: it looks odd
 upper dev1 hasn't answered for 30 s
 port upper can't take connections: Too many open files
 port upper takes connections again
