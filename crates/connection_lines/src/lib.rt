@@ -1,4 +1,4 @@
-//! What a program says of its connections, a line each on standard error, with the time in front.
+//! What a program says of its connections, a line each on standard error.
 //!
 //! ```text
 //! connection 3 upper from 127.0.0.1:40122
@@ -21,12 +21,12 @@
 //! ```
 #![tactic(auto)]
 
+mod ends;
 mod lines;
 mod parts;
 mod port_lines;
-mod saying;
-mod stamps;
 
+pub use ends::warns_of;
 pub use lines::{
     accepted_line, dialed_line, ended_line, failed_line, hint_line, known_line, quiet_line,
     silent_line, stranger_line,
@@ -34,5 +34,3 @@ pub use lines::{
 pub use port_lines::{
     full_line, shut_line, stalled_line, threads_again_line, waits_line, works_line,
 };
-pub use saying::say;
-pub use stamps::{stamped, warns_of};

@@ -9,6 +9,7 @@ use journal_bytes::{JournalFault, JournalReader};
 use std::alloc::Global;
 use std::io;
 use std::io::{Read, Seek, SeekFrom};
+use std::time::Clock;
 
 /// How far a journal was read, and where its last whole message ends, in bytes.
 #[derive(Clone, Copy)]
@@ -96,7 +97,7 @@ fn find<F: Read + Seek>(alloc: Global, file: &mut F) -> Option<u64> {
 }
 
 /// Says why a load failed. Of a journal that is damaged it looks for the place.
-pub(crate) fn say_unloaded<R: AllocGlobal + Eprint, F: Read + Seek>(
+pub(crate) fn say_unloaded<R: AllocGlobal + Clock + Eprint, F: Read + Seek>(
     rt: &R,
     path: &str,
     file: &mut F,

@@ -10,7 +10,7 @@ ghost use Rattle.file_keeper.specs.Reading.{AreRead};
 use crate::cause::{Cause, keep_fault};
 use crate::damage::say_unloaded;
 use crate::file::{MOST, length_of, write_behind};
-use crate::lines::say_fault;
+use crate::lines::{say_fault, say_loaded};
 use crate::reading::load_file;
 use journal_bytes::entry_bytes;
 use mos_fields::{NoMemory, let_go, pair_ok};
@@ -20,6 +20,7 @@ use std::io;
 use std::io::Write;
 use std::mem::replace;
 use std::rt::Files;
+use std::time::Clock;
 
 /// Keeps entries in a file, as messages one after another. Which entries these are isn't observable.
 ///
@@ -41,7 +42,7 @@ use std::rt::Files;
 /// Each cut, each load that fails, and the first of appends that fail in a row, with the system's words, is said in a line on
 /// standard error.
 #[derive(Drop)]
-pub struct FileKeeper<R: Files + AllocGlobal + Eprint + Copy + Drop> {
+pub struct FileKeeper<R: Files + AllocGlobal + Clock + Eprint + Copy + Drop> {
     rt: R,
     path: String,
     file: R::File,
@@ -89,7 +90,7 @@ fn put<F: Write + OpenFile>(file: &mut F, torn: &mut Option<u64>, bytes: &[u8]) 
 }
 
 // The same, and whether they are on the disk. Why not is said where that is asked for.
-fn put_said<R: Files + AllocGlobal + Eprint>(
+fn put_said<R: Files + AllocGlobal + Clock + Eprint>(
     rt: &R,
     path: &str,
     file: &mut R::File,
@@ -119,7 +120,7 @@ fn set_doubt(doubt: &mut Option<Entry>, now: Option<Entry>)
 
 // Writes an entry at the end. None inside where it is on the disk, and else the entry; the first time since an append
 // succeeded or a load came, it is said why.
-fn put_entry<R: Files + AllocGlobal + Eprint>(
+fn put_entry<R: Files + AllocGlobal + Clock + Eprint>(
     rt: &R,
     path: &str,
     file: &mut R::File,
@@ -165,7 +166,7 @@ fn count(faults: &mut u64, fault: KeepFault) -> KeepFault
     }
 }
 
-impl<R: Files + AllocGlobal + Eprint + Copy + Drop> FileKeeper<R> {
+impl<R: Files + AllocGlobal + Clock + Eprint + Copy + Drop> FileKeeper<R> {
     /// The keeper of the file at this path, which is made where there is none, with no fault so far. It fails where the
     /// file can't be opened.
     pub fn open(rt: &R, path: &str) -> Result<Self, KeepFault>
@@ -208,6 +209,7 @@ impl<R: Files + AllocGlobal + Eprint + Copy + Drop> FileKeeper<R> {
         match load_file(&self.rt, self.path.as_str(), &mut self.file, known) {
             Ok(entries) => {
                 self.torn = None;
+                say_loaded(&self.rt, self.path.as_str(), entries.len());
                 Ok(entries)
             }
             Err(cause) => {
@@ -218,7 +220,7 @@ impl<R: Files + AllocGlobal + Eprint + Copy + Drop> FileKeeper<R> {
     }
 }
 
-impl<R: Files + AllocGlobal + Eprint + Copy + Drop> Keeper for FileKeeper<R> {
+impl<R: Files + AllocGlobal + Clock + Eprint + Copy + Drop> Keeper for FileKeeper<R> {
     ghost use Rattle.std.specs.Prelude.{None};
     ghost use Rattle.file_keeper.specs.Keepers.{certainty as certainty_of, faults as faults_of, IsAppended, IsLoaded};
 

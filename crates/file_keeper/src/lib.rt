@@ -1,9 +1,10 @@
 //! The journal of a newsroom's server in a file: messages one after another, each of which is an entry in its canonical
 //! encoding.
 //!
-//! On standard error it says, a line each:
+//! On standard error it says, a line each, with the time in front, and `<4>` before that where it warns:
 //!
 //! ```text
+//! log evening.journal: 1234 entries
 //! log evening.journal: 72 bytes of a message that isn't whole were cut off at byte 328 and saved as evening.journal.cut-1
 //! log evening.journal: 100 zero bytes behind the last message were cut off at byte 328 and saved as evening.journal.cut-1
 //! log evening.journal: damaged at byte 340: whole messages stand behind a message that isn't whole; nothing was changed; \

@@ -1,20 +1,15 @@
 //! What is said on standard error, a line each.
 use crate::cause::Cause;
 use mos_fields::NoMemory;
+use stamped_lines::say;
 use std::alloc::Global;
+use std::time::Clock;
 
 /// What a person is to do about a journal that is damaged.
 const MEND: &str = "restore a copy, or cut the file there by hand (docs/OPERATING.md)";
 
-/// Says a line, where there is memory for it.
-fn say<R: Eprint>(rt: &R, line: Result<String, NoMemory>) {
-    if let Ok(line) = line {
-        let _ = rt.eprint(line.as_str());
-    }
-}
-
 /// Says that so many bytes were cut off at this byte, all of them zeros or not, and saved in the file of this number.
-pub(crate) fn say_cut<R: AllocGlobal + Eprint>(
+pub(crate) fn say_cut<R: AllocGlobal + Clock + Eprint>(
     rt: &R,
     path: &str,
     at: u64,
@@ -27,7 +22,12 @@ pub(crate) fn say_cut<R: AllocGlobal + Eprint>(
     } else {
         "bytes of a message that isn't whole"
     };
-    say(rt, cut_line(rt.alloc(), path, at, count, what, number));
+    say(
+        rt,
+        rt.alloc(),
+        true,
+        cut_line(rt.alloc(), path, at, count, what, number),
+    );
 }
 
 fn cut_line(
@@ -74,11 +74,20 @@ fn refused_line(alloc: Global, path: &str, at: u64) -> Result<String, NoMemory> 
 }
 
 /// Says why a load or an append failed.
-pub(crate) fn say_fault<R: AllocGlobal + Eprint>(rt: &R, path: &str, cause: Cause) {
-    say(rt, fault_line(rt.alloc(), path, cause));
+pub(crate) fn say_fault<R: AllocGlobal + Clock + Eprint>(rt: &R, path: &str, cause: Cause) {
+    say(rt, rt.alloc(), true, fault_line(rt.alloc(), path, cause));
 }
 
 /// Says that a message is rejected, or is no entry, which begins at this byte or behind white space there.
-pub(crate) fn say_refused<R: AllocGlobal + Eprint>(rt: &R, path: &str, at: u64) {
-    say(rt, refused_line(rt.alloc(), path, at));
+pub(crate) fn say_refused<R: AllocGlobal + Clock + Eprint>(rt: &R, path: &str, at: u64) {
+    say(rt, rt.alloc(), true, refused_line(rt.alloc(), path, at));
+}
+
+fn loaded_line(alloc: Global, path: &str, count: usize) -> Result<String, NoMemory> {
+    Ok(format!(in alloc; "log {path}: {count} entries\n")?)
+}
+
+/// Says how many entries a load found.
+pub(crate) fn say_loaded<R: AllocGlobal + Clock + Eprint>(rt: &R, path: &str, count: usize) {
+    say(rt, rt.alloc(), false, loaded_line(rt.alloc(), path, count));
 }

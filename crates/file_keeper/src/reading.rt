@@ -14,6 +14,7 @@ use std::alloc::Global;
 use std::fs::OpenFile;
 use std::io::{ErrorKind, Read, Seek, SeekFrom};
 use std::rt::Files;
+use std::time::Clock;
 
 /// So many bytes are read at once.
 pub(crate) const PIECE: usize = 65_536;
@@ -97,7 +98,7 @@ fn read_all<F: Read>(
 
 /// Cuts off what stands behind the last whole message of a file of this size, of which so many bytes were read, and brings
 /// the file to the disk.
-fn settle<R: Files + AllocGlobal + Eprint>(
+fn settle<R: Files + AllocGlobal + Clock + Eprint>(
     rt: &R,
     path: &str,
     file: &mut R::File,
@@ -113,7 +114,7 @@ fn settle<R: Files + AllocGlobal + Eprint>(
 
 /// Reads a file up to the zeros at its end, with a reader to which nothing was fed, and cuts off what stands behind the last
 /// whole message.
-fn read_file<R: Files + AllocGlobal + Eprint>(
+fn read_file<R: Files + AllocGlobal + Clock + Eprint>(
     rt: &R,
     path: &str,
     file: &mut R::File,
@@ -148,7 +149,7 @@ fn behind(entries: Entries, known: usize) -> Option<Entries>
 
 /// The entries of a file's whole messages, behind the first so many; there have to be these. What stands behind the last
 /// whole message is saved beside the file and cut off, and what is left is on the disk.
-pub(crate) fn load_file<R: Files + AllocGlobal + Eprint>(
+pub(crate) fn load_file<R: Files + AllocGlobal + Clock + Eprint>(
     rt: &R,
     path: &str,
     file: &mut R::File,

@@ -9,6 +9,7 @@ use std::fs::{OpenFile, OpenOptions};
 use std::io;
 use std::io::{ErrorKind, Read, Seek, SeekFrom, Write};
 use std::rt::Files;
+use std::time::Clock;
 
 /// `</mos>` in UTF-16BE.
 const END: [u8; 12] = [0, 60, 0, 47, 0, 109, 0, 111, 0, 115, 0, 62];
@@ -124,7 +125,7 @@ fn save<R: Files + AllocGlobal>(rt: &R, path: &str, bytes: &[u8], size: u64) -> 
 /// Cuts off what stands behind the last whole message of a file of this size, of which so many bytes were read and the others
 /// are zeros. It is saved first, and said. `Broken` where an end tag stands in it; then nothing is changed, and neither where
 /// it can't be saved.
-pub(crate) fn cut_off<R: Files + AllocGlobal + Eprint>(
+pub(crate) fn cut_off<R: Files + AllocGlobal + Clock + Eprint>(
     rt: &R,
     path: &str,
     file: &mut R::File,

@@ -11,6 +11,7 @@ use gate_serving::gate_serve_by_threads;
 use port_tcp::{Common, SystemClock};
 use program_ends::{ProgramEnd, Why, dialer, pacer};
 use settings_help::gate_start_line;
+use stamped_lines::say;
 use std::net::{Net, TcpListener, TcpStream};
 use std::rt::Files;
 use std::sync::{Arc, Wait};
@@ -18,9 +19,11 @@ use std::thread::Threads;
 use std::time::Clock;
 
 // Says that the gateway starts to serve, with so many objects.
-fn say_start<R: AllocGlobal + Eprint>(rt: &R, given: &Given, objects: usize) {
-    if let Ok(line) = gate_start_line(rt.alloc(), &given.settings, given.listen, objects) {
-        let _ = eprintln!(rt; "{line}");
+fn say_start<R: AllocGlobal + Clock + Eprint>(rt: &R, given: &Given, objects: usize) {
+    if let Ok(mut line) = gate_start_line(rt.alloc(), &given.settings, given.listen, objects) {
+        if line.push('\n').is_ok() {
+            say(rt, rt.alloc(), false, Ok(line));
+        }
     }
 }
 

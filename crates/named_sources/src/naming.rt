@@ -4,10 +4,11 @@ ghost use Rattle.port_looking.specs.Steps.{StandsAt};
 
 use crate::first::First;
 use crate::hearing::{Ear, Heard};
-use connection_lines::{hint_line, known_line, quiet_line, say, stranger_line};
+use connection_lines::{hint_line, known_line, quiet_line, stranger_line};
 use mos_fields::{Id, Ids};
 use port_events::Side;
 use port_jobs::Names;
+use stamped_lines::say;
 use std::alloc::Global;
 use std::sync::Arc;
 use std::time::{Clock, Instant};

@@ -13,6 +13,7 @@ use port_tcp::SystemClock;
 use program_ends::{ProgramEnd, Why};
 use server_serving::ncs_serve_by_threads;
 use settings_help::server_start_line;
+use stamped_lines::say;
 use std::net::{Net, TcpListener, TcpStream};
 use std::sync::Wait;
 use std::thread::Threads;
@@ -20,8 +21,10 @@ use std::time::Clock;
 
 // Says that the server starts to serve.
 fn say_start(rt: &HostRuntime, given: &Given) {
-    if let Ok(line) = server_start_line(rt.alloc(), &given.settings, given.listen) {
-        let _ = eprintln!(rt; "{line}");
+    if let Ok(mut line) = server_start_line(rt.alloc(), &given.settings, given.listen) {
+        if line.push('\n').is_ok() {
+            say(rt, rt.alloc(), false, Ok(line));
+        }
     }
 }
 

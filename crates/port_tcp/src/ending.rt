@@ -1,7 +1,8 @@
 //! The end of a program one of whose ports ended.
 use crate::common::Common;
-use connection_lines::{say, shut_line};
+use connection_lines::shut_line;
 use port_events::Side;
+use stamped_lines::say;
 use std::alloc::Global;
 use std::net::{IpAddr, Ipv4Addr, Ipv6Addr, Net, TcpStream};
 use std::time::Clock;

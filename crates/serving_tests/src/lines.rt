@@ -2,11 +2,12 @@
 use crate::words::text;
 use connection_lines::{
     accepted_line, dialed_line, ended_line, failed_line, full_line, hint_line, known_line,
-    quiet_line, shut_line, silent_line, stalled_line, stamped, stranger_line, works_line,
+    quiet_line, shut_line, silent_line, stalled_line, stranger_line, works_line,
 };
 use moments::time_of;
 use port_events::Side;
 use port_session::End;
+use stamped_lines::stamped;
 use std::alloc::Global;
 use std::test::Fail;
 

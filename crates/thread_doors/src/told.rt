@@ -1,5 +1,5 @@
 //! Workers of whose connections something is said.
-use connection_lines::{ended_line, say, warns_of};
+use connection_lines::{ended_line, warns_of};
 use mos_fields::{Text, let_go};
 use mos_io::{Clock, Pacer, Sink, Source};
 use named_sources::{NamedSource, Naming};
@@ -8,6 +8,7 @@ use port_jobs::{Names, PortJob, Task, Work};
 use port_links::{Dialer, Job, Link};
 use port_session::{End, Port};
 use shared_machine::{Machine, StepRelation};
+use stamped_lines::say;
 use std::alloc::Global;
 use std::sync::{Arc, Wait};
 use std::time::Clock as SystemsClock;

@@ -1,7 +1,8 @@
 //! Starts of threads.
-use connection_lines::{say, threads_again_line, waits_line};
+use connection_lines::{threads_again_line, waits_line};
 use mos_io::Failed;
 use port_links::Job;
+use stamped_lines::say;
 use std::alloc::Global;
 use std::sync::Wait;
 use std::sync::atomic::{AtomicBool, AtomicU64, Ordering};

@@ -2,8 +2,6 @@
 use Rattle.std.specs.Prelude.{ℕ, Bool, true, false, List, [], ◌++◌, Option, Some, None, codes}
 use Rattle.mos_fields.specs.Values.{time_text}
 use Rattle.mos_fields.specs.declared.time.MosTime.{MosTime}
-use Rattle.port_session.specs.declared.end.End.{End}
-use Rattle.port_session.specs.declared.end.End.TheVariants.{Closed}
 use Rattle.line_texts.specs.Texts.{printed_text}
 
 -- the mark by which systemd's journal knows a line that warns
@@ -19,8 +17,3 @@ stamp_text (Some t) = printed_text (time_text t) ++ codes " "
 -- a line as it is said at a time
 abbrev pub said_text : Bool → Option MosTime → List ℕ → List ℕ
 said_text warns now line = mark_text warns ++ stamp_text now ++ line
-
--- whether a line that tells such an end warns
-abbrev pub end_warns : End → Bool
-end_warns Closed = false
-end_warns end = true

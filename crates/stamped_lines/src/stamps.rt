@@ -1,11 +1,10 @@
 //! What stands in front of a line.
 ghost use Rattle.std.specs.Prelude.{◌≡◌, ◌++◌, IfOk, OnOk, string_bytes};
 ghost use Rattle.mos_fields.specs.Values.{time_text};
-ghost use Rattle.connection_lines.specs.Stamps.{end_warns, mark_text, said_text, stamp_text};
+ghost use Rattle.stamped_lines.specs.Stamps.{mark_text, said_text, stamp_text};
 
 use line_texts::{push_chars, push_word};
 use mos_fields::{MosTime, NoMemory};
-use port_session::End;
 use std::alloc::Global;
 
 // Appends the mark of a line that warns.
@@ -55,14 +54,4 @@ pub fn stamped(
     push_stamp(alloc, &mut whole, now)?;
     push_word(&mut whole, line)?;
     Ok(whole)
-}
-
-/// Whether a line that tells of this end warns: unless it is `Closed`.
-pub fn warns_of(end: End) -> bool
-    ensures { result ≡ end_warns end }
-{
-    match end {
-        End::Closed => false,
-        _ => true,
-    }
 }
