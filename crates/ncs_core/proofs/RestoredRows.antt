@@ -9,7 +9,7 @@ use Rattle.mos_edits.specs.declared.edit.Edit.{Edit}
 use Rattle.mos_edits.specs.Entries.{Entry, entry_of, is_before, result_or, refusal}
 use Rattle.mos_edits.proofs.Identifiers.{same-true}
 use Rattle.mos_machines.specs.Tables.{look, put_row, row_ids}
-use Rattle.mos_values.specs.declared.edit.Edit.TheVariants.{Create, Replace, Delete, Metadata, Act, Air}
+use Rattle.mos_edits.specs.declared.edit.Edit.TheVariants.{Create, Replace, Delete, Metadata, Act, Air}
 use Rattle.order_table.specs.Rows.{IsAscending, find_row}
 use Rattle.order_table.proofs.AscendingRows.{before-all, find-none}
 use Rattle.ncs_core.specs.Accepting.{applied_to, rows_over, rows_after, rows_acceptance, leaves_all, former_of, restored}

@@ -8,7 +8,7 @@ use Rattle.mos_edits.specs.declared.edit.Edit.{Edit}
 use Rattle.mos_edits.specs.Entries.{Entry, Refusal, refusal, result_or, over_list, over}
 use Rattle.mos_edits.specs.Sizes.{list_all_limit}
 use Rattle.mos_machines.specs.Tables.{look, put_row}
-use Rattle.mos_values.specs.declared.edit.Edit.TheVariants.{Air}
+use Rattle.mos_edits.specs.declared.edit.Edit.TheVariants.{Air}
 use Rattle.ncs_core.specs.State.{all_units}
 use Rattle.ncs_core.specs.declared.fault.CommandFault.{CommandFault}
 use Rattle.ncs_core.specs.declared.fault.CommandFault.TheVariants.{Stopped, Missing, AlreadyThere, Full, StoreFault, NoMemory}
