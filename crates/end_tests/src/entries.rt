@@ -11,6 +11,7 @@ use std::alloc::Global;
 use std::fs;
 use std::rt::Files;
 use std::test::Fail;
+use std::time::Clock;
 
 /// The entry of a roDelete.
 #[tactic(auto, unfolding(mos_values::specs::Sound::IsSound))]
@@ -55,7 +56,7 @@ fn names_loaded(
 }
 
 /// The letters of what is loaded.
-pub fn load<R: Files + AllocGlobal + Eprint + Copy + Drop>(
+pub fn load<R: Files + AllocGlobal + Clock + Eprint + Copy + Drop>(
     alloc: Global,
     keeper: &mut FileKeeper<R>,
 ) -> Result<Vec<char>, FieldFault> {
@@ -63,7 +64,7 @@ pub fn load<R: Files + AllocGlobal + Eprint + Copy + Drop>(
 }
 
 /// The letters of what is loaded behind so many.
-pub fn load_behind<R: Files + AllocGlobal + Eprint + Copy + Drop>(
+pub fn load_behind<R: Files + AllocGlobal + Clock + Eprint + Copy + Drop>(
     alloc: Global,
     keeper: &mut FileKeeper<R>,
     known: usize,
@@ -72,7 +73,7 @@ pub fn load_behind<R: Files + AllocGlobal + Eprint + Copy + Drop>(
 }
 
 /// Appends the entry of a roDelete.
-pub fn append<R: Files + AllocGlobal + Eprint + Copy + Drop>(
+pub fn append<R: Files + AllocGlobal + Clock + Eprint + Copy + Drop>(
     alloc: Global,
     keeper: &mut FileKeeper<R>,
     name: char,
@@ -84,7 +85,7 @@ pub fn append<R: Files + AllocGlobal + Eprint + Copy + Drop>(
 }
 
 /// Whether the entries of these orders are all appended.
-pub fn append_all<R: Files + AllocGlobal + Eprint + Copy + Drop>(
+pub fn append_all<R: Files + AllocGlobal + Clock + Eprint + Copy + Drop>(
     alloc: Global,
     keeper: &mut FileKeeper<R>,
     names: &str,

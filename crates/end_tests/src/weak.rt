@@ -6,6 +6,7 @@ use std::fs::{File, Metadata, OpenFile, OpenOptions};
 use std::io;
 use std::io::{Read, Seek, SeekFrom, Write};
 use std::rt::Files;
+use std::time::{Clock, Duration};
 
 /// Which calls of a file fail: the write of this number, counted from 1, of which the first half is written; the sync of
 /// this number; and the first so many cuts.
@@ -111,6 +112,20 @@ impl Eprint for Weak {
 
     fn eprintln<D: Display + Drop>(&self, value: D) -> io::Result<()> {
         self.rt.eprintln(value)
+    }
+}
+
+impl Clock for Weak {
+    fn monotonic(&self) -> io::Result<Duration> {
+        self.rt.monotonic()
+    }
+
+    fn since_1970(&self) -> io::Result<Duration> {
+        self.rt.since_1970()
+    }
+
+    fn sleep(&self, duration: Duration) {
+        self.rt.sleep(duration)
     }
 }
 
