@@ -8,7 +8,7 @@ use Rattle.mos_edits.specs.KeyedLists.{ActFault, Applied}
 use Rattle.mos_edits.specs.KeyedLists.Applied.{Done, Fault}
 use Rattle.mos_edits.specs.Orders.{Order, apply}
 use Rattle.mos_edits.specs.declared.edit.Edit.{Edit}
-use Rattle.mos_edits.specs.Entries.{Kind, kind, body_of, result_or, Entry, entries, entry_count, no_edit, edit_at, order_at, order_now, order_after, order_from, acceptance, refusal, over_limit, IsAccepted}
+use Rattle.mos_edits.specs.Entries.{Kind, kind, body_of, result_or, Entry, entries, entry_count, no_edit, edit_at, order_at, order_now, order_after, order_from, acceptance, refusal, over_limit, IsAccepted, in_force, in_force_after}
 use Rattle.mos_edits.specs.Entries.Refusal.{Faulty, Full}
 use Rattle.mos_edits.specs.Entries.Kind.{IsWhole, IsReady, IsNotReady}
 use Rattle.mos_edits.proofs.Identifiers.{same-true, same-self}
@@ -106,6 +106,7 @@ pub record Grown (journal new : List Entry) : Type 0 where
   pub edit : (r : Text) (k : ℕ) → k < entry_count journal r → edit_at new r k ≡ edit_at journal r k
   pub order : (r : Text) (m : ℕ) → m ≤ entry_count journal r → order_at new r m ≡ order_at journal r m
   pub kinds : (r : Text) → Grows (map kind (entries r journal)) (map kind (entries r new))
+  pub taken : (r : Text) (m : ℕ) → m ≤ entry_count journal r → take m (entries r new) ≡ take m (entries r journal)
 
 grows_more : (cs ds : List Edit) → Grows (map kind cs) (map kind (cs ++ ds))
 grows_more cs ds = record { longer = let a = length-map cs kind in let b = length-map (cs ++ ds) kind in let c = length-append cs ds in omega arith; same_id = kept cs }
@@ -115,13 +116,21 @@ grows_more cs ds = record { longer = let a = length-map cs kind in let b = lengt
     kept (x ∷ xs) zero y h = h
     kept (x ∷ xs) (suc k) y h = kept xs k y h
 
+taken_push : (journal : List Entry) (e : Entry) (r : Text) (m : ℕ) → m ≤ entry_count journal r → take m (entries r (journal ++ e ∷ [])) ≡ take m (entries r journal)
+taken_push journal e r m h = rw (entries_push journal e r) (take-left (entries r journal) (last_if (same_id r e.ro) e.edit) m h)
+
 pub grown_push : (journal : List Entry) (e : Entry) → Grown journal (journal ++ e ∷ [])
 grown_push journal e = record {
   longer = λ r. let p = entries_push journal e r in let n = length-append (entries r journal) (last_if (same_id r e.ro) e.edit) in let q = ap (λ (cs : List Edit). length cs) p in omega arith;
   edit = λ r k h. rw (entries_push journal e r) (edit-left (entries r journal) (last_if (same_id r e.ro) e.edit) k h);
-  order = λ r m h. let t : take m (entries r (journal ++ e ∷ [])) ≡ take m (entries r journal) = rw (entries_push journal e r) (take-left (entries r journal) (last_if (same_id r e.ro) e.edit) m h) in ap (λ (cs : List Edit). order_after r cs) t;
+  order = λ r m h. ap (λ (cs : List Edit). order_after r cs) (taken_push journal e r m h);
   kinds = λ r. rw (entries_push journal e r) (grows_more (entries r journal) (last_if (same_id r e.ro) e.edit));
+  taken = taken_push journal e;
 }
+
+-- the scripts in force after a number of entries stay so
+pub grown_force : (journal new : List Entry) → Grown journal new → (r : Text) (m : ℕ) → m ≤ entry_count journal r → in_force new r m ≡ in_force journal r m
+grown_force journal new g r m h = ap (λ (cs : List Edit). in_force_after r cs) (g.taken r m h)
 
 pub entry_count_push : (journal : List Entry) (e : Entry) → entry_count (journal ++ e ∷ []) e.ro ≡ entry_count journal e.ro + 1
 entry_count_push journal e = let p = entries_push journal e e.ro in rw (p, same-self e.ro) (length-append (entries e.ro journal) (e.edit ∷ []))
@@ -133,7 +142,7 @@ pub edit_push : (journal : List Entry) (e : Entry) → edit_at (journal ++ e ∷
 edit_push journal e = let p = entries_push journal e e.ro in rw (p, same-self e.ro) (edit-last (entries e.ro journal) e.edit)
 
 accepted_done : (journal : List Entry) (e : Entry) → acceptance journal e ≡ None → (o : Option Order) × (apply e.ro (order_now journal e.ro) e.edit ≡ Done o)
-accepted_done journal e h = go (apply e.ro (order_now journal e.ro) e.edit) (over_limit (journal ++ e ∷ []) e.ro) refl h
+accepted_done journal e h = go (apply e.ro (order_now journal e.ro) e.edit) (over_limit (journal ++ e ∷ []) e) refl h
   where
     go : (a : Applied (Option Order)) (u : Option ℕ) → apply e.ro (order_now journal e.ro) e.edit ≡ a → refusal a u ≡ None → (o : Option Order) × (apply e.ro (order_now journal e.ro) e.edit ≡ Done o)
     go (Done o) u e h = (o, e)
@@ -193,8 +202,8 @@ accepted_applies journal e a = let d = accepted_done journal e a in rw (order_no
 pub refused_fault : (journal : List Entry) (e : Entry) (f : ActFault) → apply e.ro (order_now journal e.ro) e.edit ≡ Fault f → acceptance journal e ≡ Some (Faulty f)
 refused_fault journal e f h = rw h refl
 
-pub refused_over : (journal : List Entry) (e : Entry) (p : Option Order) (units : ℕ) → apply e.ro (order_now journal e.ro) e.edit ≡ Done p → over_limit (journal ++ e ∷ []) e.ro ≡ Some units → acceptance journal e ≡ Some (Full units)
+pub refused_over : (journal : List Entry) (e : Entry) (p : Option Order) (units : ℕ) → apply e.ro (order_now journal e.ro) e.edit ≡ Done p → over_limit (journal ++ e ∷ []) e ≡ Some units → acceptance journal e ≡ Some (Full units)
 refused_over journal e p units h o = rw (h, o) refl
 
-pub accepted_within : (journal : List Entry) (e : Entry) (p : Option Order) → apply e.ro (order_now journal e.ro) e.edit ≡ Done p → over_limit (journal ++ e ∷ []) e.ro ≡ None → acceptance journal e ≡ None
+pub accepted_within : (journal : List Entry) (e : Entry) (p : Option Order) → apply e.ro (order_now journal e.ro) e.edit ≡ Done p → over_limit (journal ++ e ∷ []) e ≡ None → acceptance journal e ≡ None
 accepted_within journal e p h o = rw (h, o) refl

@@ -5,12 +5,13 @@ use Rattle.mos_edits.specs.KeyedLists.{ActFault, Applied, ListAction, ids, find,
 use Rattle.mos_edits.specs.KeyedLists.ActFault.{Missing, AlreadyThere}
 use Rattle.mos_edits.specs.KeyedLists.Applied.{Done, Fault}
 use Rattle.mos_edits.specs.KeyedLists.ListAction.{Insert, Replace, Move, Delete, Swap}
+use Rattle.mos_edits.specs.Rows.{put_row}
 use Rattle.mos_edits.specs.Actions.{Action, act, act_in, put_items}
 use Rattle.mos_edits.specs.Actions.Action.{OnStories, OnItems}
-use Rattle.mos_edits.specs.Orders.{Item, Story, Order, shape, form_of, with_stories, apply}
+use Rattle.mos_edits.specs.Orders.{Item, Story, Order, order_of, shape, form_of, scripts_after, with_stories, with_script, apply}
 use Rattle.mos_edits.specs.declared.edit.Edit.{Edit}
 use Rattle.mos_edits.specs.declared.edit.Edit.TheVariants as Edits
-use Rattle.mos_edits.specs.declared.edit.Edit.TheVariants.{Create, Delete as DeleteOrder, Metadata, Act, Air}
+use Rattle.mos_edits.specs.declared.edit.Edit.TheVariants.{Create, Delete as DeleteOrder, Metadata, Act, Air, Script}
 use Rattle.mos_values.specs.Distinct.{AreDistinct, story_ids, item_ids}
 use Rattle.mos_edits.specs.Distinct.{Each, HasDistinctItems, HasDistinctIdsIf, SourcesOk, ActionOk, BringsDistinctIds}
 use Rattle.mos_edits.proofs.Identifiers.{same-true, same-self, has-without}
@@ -112,7 +113,7 @@ each-put_for P key t new (x ∷ xs) a b = go (same_id t (key x)) (each-put_for P
     go true i = each-append P new xs a b.1
     go false i = (b.0, i)
 
-each-without : {X : Type 0} (P : X → Type 0) (key : X → Text) (gone : List Text) (xs : List X) → Each P xs → Each P (without key gone xs)
+pub each-without : {X : Type 0} (P : X → Type 0) (key : X → Text) (gone : List Text) (xs : List X) → Each P xs → Each P (without key gone xs)
 each-without P key gone [] a = a
 each-without P key gone (x ∷ xs) a = go (has_id (key x) gone) (each-without P key gone xs a.1)
   where
@@ -196,19 +197,25 @@ distinct-act (OnItems story action) stories ys o a h = ok-items story action sto
 -- an edit
 pub distinct-apply : (r : Text) (o p : Option Order) (e : Edit) → HasDistinctIdsIf o → BringsDistinctIds e → apply r o e ≡ Done p → HasDistinctIdsIf p
 unfolding apply
-distinct-apply r None p (Create body) a b h = let p_is : Some body ≡ p = cc in subst (λ (q : Option Order). HasDistinctIdsIf q) p_is b
+distinct-apply r None p (Create body) a b h = let p_is : Some (order_of body) ≡ p = cc in subst (λ (q : Option Order). HasDistinctIdsIf q) p_is b
 distinct-apply r None p (Edits.Replace body) a b h = absurd (cc)
 distinct-apply r None p (DeleteOrder ro) a b h = absurd (cc)
 distinct-apply r None p (Metadata patch) a b h = absurd (cc)
 distinct-apply r None p (Act ro action) a b h = absurd (cc)
 distinct-apply r None p (Air ro air) a b h = absurd (cc)
+distinct-apply r None p (Script script) a b h = absurd (cc)
 distinct-apply r (Some o) p (Create body) a b h = absurd (cc)
-distinct-apply r (Some o) p (Edits.Replace body) a b h = let p_is : Some body ≡ p = cc in subst (λ (q : Option Order). HasDistinctIdsIf q) p_is b
+distinct-apply r (Some o) p (Edits.Replace body) a b h = let p_is : Some (order_of body) ≡ p = cc in subst (λ (q : Option Order). HasDistinctIdsIf q) p_is b
 distinct-apply r (Some o) p (DeleteOrder ro) a b h = let p_is : None ≡ p = cc in subst (λ (q : Option Order). HasDistinctIdsIf q) p_is tt
 distinct-apply r (Some o) p (Metadata patch) a b h = grind arith
 distinct-apply r (Some o) p (Act ro action) a b h = go (act shape (form_of action) o.stories) refl h
   where
-    go : (x : Applied (List Story)) → act shape (form_of action) o.stories ≡ x → with_stories o.header x ≡ Done p → HasDistinctIdsIf p
+    go : (x : Applied (List Story)) → act shape (form_of action) o.stories ≡ x → with_stories o.header (scripts_after (λ script. script) (Act ro action) o.scripts) x ≡ Done p → HasDistinctIdsIf p
     go (Fault f) e h = absurd (cc)
-    go (Done ys) e h = let p_is : Some (record { header = o.header; stories = ys }) ≡ p = cc in subst (λ (q : Option Order). HasDistinctIdsIf q) p_is (distinct-act (form_of action) o.stories ys b a e)
+    go (Done ys) e h = let p_is : Some (record { header = o.header; stories = ys; scripts = scripts_after (λ script. script) (Act ro action) o.scripts }) ≡ p = cc in subst (λ (q : Option Order). HasDistinctIdsIf q) p_is (distinct-act (form_of action) o.stories ys b a e)
 distinct-apply r (Some o) p (Air ro air) a b h = let p_is : Some o ≡ p = cc in subst (λ (q : Option Order). HasDistinctIdsIf q) p_is a
+distinct-apply r (Some o) p (Script script) a b h = go (has_id script.story (story_ids o.stories)) h
+  where
+    go : (c : Bool) → with_script o script c ≡ Done p → HasDistinctIdsIf p
+    go true h = let p_is : Some (record { header = o.header; stories = o.stories; scripts = put_row script.story script o.scripts }) ≡ p = cc in subst (λ (q : Option Order). HasDistinctIdsIf q) p_is a
+    go false h = absurd (cc)

@@ -5,4 +5,8 @@ pub mod Swaps
 pub mod KeepsDistinct
 pub mod Journals
 pub mod Names
+pub mod Before
+pub mod Rows
+pub mod Standing
+pub mod Lacking
 mod Examples

@@ -1,12 +1,13 @@
 -- An order has the roID of its entries.
 use Rattle.std.proofs.Common.{◌≡◌, ℕ, zero, suc, ◌<◌, length, get_or, arith, List, [], ◌∷◌, take, Bool, true, false, Option, Some, None, refl, if◌then◌else◌, sym, ◌∙◌}
-use Rattle.mos_edits.specs.Texts.{Text, same_id}
+use Rattle.mos_edits.specs.Texts.{Text, same_id, has_id}
 use Rattle.mos_edits.specs.KeyedLists.{Applied}
 use Rattle.mos_edits.specs.KeyedLists.Applied.{Done, Fault}
 use Rattle.mos_edits.specs.Actions.{act}
-use Rattle.mos_edits.specs.Orders.{Order, Story, edit_ro, shape, form_of, with_stories, apply}
+use Rattle.mos_edits.specs.Orders.{Order, Story, edit_ro, shape, form_of, scripts_after, with_stories, with_script, apply}
 use Rattle.mos_edits.specs.declared.edit.Edit.{Edit}
-use Rattle.mos_edits.specs.declared.edit.Edit.TheVariants.{Create, Replace, Delete, Metadata, Act, Air}
+use Rattle.mos_edits.specs.declared.edit.Edit.TheVariants.{Create, Replace, Delete, Metadata, Act, Air, Script}
+use Rattle.mos_values.specs.Distinct.{story_ids}
 use Rattle.mos_edits.specs.Distinct.{Each}
 use Rattle.mos_edits.specs.Entries.{Entry, entries, entry_count, no_edit, edit_at, result_or, order_from, order_at, order_now, AreEntries, IsNamed}
 use Rattle.mos_edits.proofs.Identifiers.{same-true}
@@ -19,16 +20,22 @@ named-apply r None (Delete ro) h n = tt
 named-apply r None (Metadata patch) h n = tt
 named-apply r None (Act ro action) h n = tt
 named-apply r None (Air ro air) h n = tt
+named-apply r None (Script script) h n = tt
 named-apply r (Some o) (Create body) h n = n
 named-apply r (Some o) (Replace body) h n = h
 named-apply r (Some o) (Delete ro) h n = tt
 named-apply r (Some o) (Metadata patch) h n = n
 named-apply r (Some o) (Act ro action) h n = go (act shape (form_of action) o.stories)
   where
-    go : (x : Applied (List Story)) → IsNamed r (result_or (Some o) (with_stories o.header x))
+    go : (x : Applied (List Story)) → IsNamed r (result_or (Some o) (with_stories o.header (scripts_after (λ script. script) (Act ro action) o.scripts) x))
     go (Done ys) = n
     go (Fault f) = n
 named-apply r (Some o) (Air ro air) h n = n
+named-apply r (Some o) (Script script) h n = go (has_id script.story (story_ids o.stories))
+  where
+    go : (b : Bool) → IsNamed r (result_or (Some o) (with_script o script b))
+    go true = n
+    go false = n
 
 named-from : (r : Text) (o : Option Order) (es : List Edit) → Each (λ e. edit_ro e ≡ r) es → IsNamed r o → IsNamed r (order_from r o es)
 named-from r o [] a n = n

@@ -13,6 +13,7 @@ edit_message (edits.Delete ro) = carried.RoDelete ro
 edit_message (edits.Metadata patch) = carried.RoMetadataReplace patch
 edit_message (edits.Act ro action) = carried.RoElementAction ro action
 edit_message (edits.Air ro air) = carried.RoReadyToAir ro air
+edit_message (edits.Script script) = carried.RoStorySend script
 
 -- the edit that a message carries
 abbrev pub edit_in : Message → Option Edit
@@ -22,4 +23,5 @@ edit_in (carried.RoDelete ro) = Some (edits.Delete ro)
 edit_in (carried.RoMetadataReplace patch) = Some (edits.Metadata patch)
 edit_in (carried.RoElementAction ro action) = Some (edits.Act ro action)
 edit_in (carried.RoReadyToAir ro air) = Some (edits.Air ro air)
+edit_in (carried.RoStorySend script) = Some (edits.Script script)
 edit_in message = None

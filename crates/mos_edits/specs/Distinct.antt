@@ -19,12 +19,12 @@ Each P (x ∷ xs) = P x × Each P xs
 abbrev pub HasDistinctItems : List Story → Type 0
 HasDistinctItems stories = Each (λ s. AreDistinct (item_ids s.items)) stories
 
-abbrev pub HasDistinctIds : Order → Type 0
-HasDistinctIds o = AreDistinct (story_ids o.stories) × HasDistinctItems o.stories
+abbrev pub HasDistinctIds : List Story → Type 0
+HasDistinctIds stories = AreDistinct (story_ids stories) × HasDistinctItems stories
 
 abbrev pub HasDistinctIdsIf : Option Order → Type 0
 HasDistinctIdsIf None = Unit {0}
-HasDistinctIdsIf (Some o) = HasDistinctIds o
+HasDistinctIdsIf (Some o) = HasDistinctIds o.stories
 
 -- the stories that an edit brings have items with distinct identifiers; a body's stories have distinct ones too
 abbrev pub SourcesOk : ListAction Story → Type 0
@@ -37,7 +37,7 @@ ActionOk (OnStories action) = SourcesOk action
 ActionOk action = Unit {0}
 
 abbrev pub BringsDistinctIds : Edit → Type 0
-BringsDistinctIds (Create body) = HasDistinctIds body
-BringsDistinctIds (Edits.Replace body) = HasDistinctIds body
+BringsDistinctIds (Create body) = HasDistinctIds body.stories
+BringsDistinctIds (Edits.Replace body) = HasDistinctIds body.stories
 BringsDistinctIds (Act ro action) = ActionOk (form_of action)
 BringsDistinctIds e = Unit {0}

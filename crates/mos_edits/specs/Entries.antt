@@ -1,15 +1,18 @@
 -- The server's journal as one list of entries, the order after the entries of one roID, and which edits are accepted.
-use Rattle.std.specs.Prelude.{◌≡◌, ℕ, List, [], ◌∷◌, ◌++◌, length, take, get_or, Bool, true, false, Option, Some, None, if◌then◌else◌, nat_lt, ◌==◌}
+use Rattle.std.specs.Prelude.{◌≡◌, ℕ, List, [], ◌∷◌, ◌++◌, length, take, get_or, Option, Some, None, if◌then◌else◌, nat_lt}
 use Rattle.mos_edits.specs.Texts.{Text, same_id}
 use Rattle.mos_edits.specs.KeyedLists.{ActFault, Applied}
 use Rattle.mos_edits.specs.KeyedLists.Applied.{Done, Fault}
-use Rattle.mos_edits.specs.Orders.{Order, edit_ro, HeaderPatch, apply}
+use Rattle.mos_edits.specs.Orders.{Order, order_of, bare, edit_ro, HeaderPatch, apply}
 use Rattle.mos_edits.specs.declared.edit.Edit.{Edit}
-use Rattle.mos_edits.specs.declared.edit.Edit.TheVariants.{Create, Replace, Delete, Metadata, Act, Air}
+pub use Rattle.mos_edits.specs.Rows.{is_before, insert_id}
+pub use Rattle.mos_edits.specs.Scripts.{result_or}
+use Rattle.mos_edits.specs.Scripts.{story_ids_of, numbers_after, numbers_of}
+use Rattle.mos_edits.specs.declared.edit.Edit.TheVariants.{Create, Replace, Delete, Metadata, Act, Air, Script}
 use Rattle.mos_fields.specs.declared.air.Air.TheVariants.{Ready, NotReady}
 use Rattle.mos_values.specs.Headers.{patch_of}
 use Rattle.mos_edits.specs.Distinct.{Each}
-use Rattle.mos_edits.specs.Sizes.{list_units, list_all_units, list_limit, list_all_limit, at_most_64_bits}
+use Rattle.mos_edits.specs.Sizes.{list_units, list_all_units, send_units, list_limit, list_all_limit, send_limit, at_most_64_bits}
 
 -- What the machines tell apart: an edit that says what the whole order is, one that changes the order that is
 -- there, and the two of roReadyToAir.
@@ -27,11 +30,12 @@ kind (Metadata patch) = IsAction
 kind (Act ro action) = IsAction
 kind (Air ro Ready) = IsReady
 kind (Air ro NotReady) = IsNotReady
+kind (Script script) = IsAction
 
 -- what stands after a whole-order edit, whatever stood before
 abbrev pub body_of : Edit → Option Order
-body_of (Create body) = Some body
-body_of (Replace body) = Some body
+body_of (Create body) = Some (order_of body)
+body_of (Replace body) = Some (order_of body)
 body_of e = None
 
 -- an entry of the journal: an edit, and the roID that it names
@@ -64,11 +68,6 @@ no_edit = Air [] NotReady
 abbrev pub edit_at : List Entry → Text → ℕ → Edit
 edit_at journal r k = get_or (entries r journal) k no_edit
 
--- the result of an edit, or what was there where the edit has a fault
-abbrev pub result_or : Option Order → Applied (Option Order) → Option Order
-result_or o (Done p) = p
-result_or o (Fault f) = o
-
 abbrev pub order_from : Text → Option Order → List Edit → Option Order
 order_from r o [] = o
 order_from r o (e ∷ es) = order_from r (result_or o (apply r o e)) es
@@ -84,18 +83,15 @@ order_at journal r m = order_after r (take m (entries r journal))
 abbrev pub order_now : List Entry → Text → Option Order
 order_now journal r = order_after r (entries r journal)
 
--- The roIDs of the orders that are there, ascending. They go character by character.
+-- The numbers of the entries of `r` whose scripts stand in the order after the first `m` of them, in the order of its
+-- stories.
+abbrev pub in_force_after : Text → List Edit → List ℕ
+in_force_after r es = numbers_of (story_ids_of (order_after r es)) (numbers_after r es)
 
-abbrev pub is_before : Text → Text → Bool
-is_before [] [] = false
-is_before [] (y ∷ ys) = true
-is_before (x ∷ xs) [] = false
-is_before (x ∷ xs) (y ∷ ys) = if nat_lt x y then true else (if x == y then is_before xs ys else false)
+abbrev pub in_force : List Entry → Text → ℕ → List ℕ
+in_force journal r m = in_force_after r (take m (entries r journal))
 
--- a roID put at its place in an ascending list
-abbrev pub insert_id : Text → List Text → List Text
-insert_id r [] = r ∷ []
-insert_id r (x ∷ xs) = if same_id r x then x ∷ xs else (if is_before r x then r ∷ (x ∷ xs) else x ∷ insert_id r xs)
+-- The roIDs of the orders that are there, ascending.
 
 abbrev pub insert_if : Option Order → Text → List Text → List Text
 insert_if None r ros = ros
@@ -132,12 +128,16 @@ over limit units next = if nat_lt limit units then Some (at_most_64_bits units) 
 
 abbrev pub over_list : Option Order → Option ℕ → Option ℕ
 over_list None next = next
-over_list (Some o) next = over list_limit (list_units o) next
+over_list (Some o) next = over list_limit (list_units (bare o)) next
 
--- The code units with which the journal passes a limit: those of the roList of the order `r`, or else those of the
--- roListAll of all orders.
-unfoldable pub over_limit : List Entry → Text → Option ℕ
-over_limit journal r = over_list (order_now journal r) (over list_all_limit (list_all_units (headers journal)) None)
+abbrev pub over_send : Edit → Option ℕ
+over_send (Script script) = over send_limit (send_units script) None
+over_send e = None
+
+-- The code units with which the journal, whose last entry is `e`, passes a limit: those of the roList of its order, or else
+-- those of the roListAll of all orders, or else those of the roStorySend that `e` is.
+unfoldable pub over_limit : List Entry → Entry → Option ℕ
+over_limit journal e = over_list (order_now journal e.ro) (over list_all_limit (list_all_units (headers journal)) (over_send e.edit))
 
 abbrev pub refusal : Applied (Option Order) → Option ℕ → Option Refusal
 refusal (Fault f) units = Some (Faulty f)
@@ -147,7 +147,7 @@ refusal (Done o) None = None
 -- Why the journal doesn't take the entry, or None where it does: a fault of the edit on the order that is there, or
 -- a limit that the result would pass.
 abbrev pub acceptance : List Entry → Entry → Option Refusal
-acceptance journal e = refusal (apply e.ro (order_now journal e.ro) e.edit) (over_limit (journal ++ e ∷ []) e.ro)
+acceptance journal e = refusal (apply e.ro (order_now journal e.ro) e.edit) (over_limit (journal ++ e ∷ []) e)
 
 -- each entry of the second list is accepted after those before it
 abbrev pub IsAccepted : List Entry → List Entry → Type 0

@@ -1,7 +1,9 @@
 pub mod Texts
 pub mod KeyedLists
+pub mod Rows
 pub mod Actions
 pub mod Orders
+pub mod Scripts
 pub mod Distinct
 pub mod Sizes
 pub mod Entries

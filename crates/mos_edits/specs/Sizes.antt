@@ -1,7 +1,7 @@
--- How many code units (UTF-16) the canonical roList element of an order and the canonical roListAll element have.
+-- How many code units (UTF-16) the canonical elements roList of an order, roListAll, and roStorySend have.
 use Rattle.std.specs.Prelude.{ℕ, ◌+◌, ◌-◌, ◌*◌, ◌^◌, List, [], ◌∷◌, Option, Some, None, if◌then◌else◌, ◌==◌, nat_lt, min}
 use Rattle.mos_edits.specs.Texts.{Text}
-use Rattle.mos_edits.specs.Orders.{Item, Story, Header, HeaderPatch, Order}
+use Rattle.mos_edits.specs.Orders.{Item, Story, Header, HeaderPatch, OrderBody, StorySend}
 
 -- a character past U+FFFF is a pair of code units
 abbrev pub char_units : ℕ → ℕ
@@ -85,7 +85,7 @@ patch_units h =
     field_units 4 h.ro + optional_units 6 h.slug + header_rest_units h.channel h.ed_start h.ed_dur h.trigger h.macro_in h.macro_out + raws_units h.metadata + raws_units h.others
 
 -- the element roList
-abbrev pub list_units : Order → ℕ
+abbrev pub list_units : OrderBody → ℕ
 list_units o = tags_units 6 + header_units o.header + stories_units o.stories
 
 -- each header in an element `ro`
@@ -97,12 +97,20 @@ ros_units (h ∷ more) = tags_units 2 + patch_units h + ros_units more
 abbrev pub list_all_units : List HeaderPatch → ℕ
 list_all_units headers = tags_units 9 + ros_units headers
 
+-- the element roStorySend: roID, storyID, storySlug, storyNum, storyBody, mosExternalMetadata and elements of other names
+abbrev pub send_units : StorySend → ℕ
+send_units s =
+    tags_units 11 + field_units 4 s.ro + field_units 7 s.story + optional_units 9 s.slug + optional_units 8 s.num + raw_units s.body + raws_units s.metadata + raws_units s.others
+
 -- the limits of a server
 abbrev pub list_limit : ℕ
 list_limit = 8000000
 
 abbrev pub list_all_limit : ℕ
 list_all_limit = 8100000
+
+abbrev pub send_limit : ℕ
+send_limit = 8000000
 
 -- a number of code units as a call tells it
 abbrev pub at_most_64_bits : ℕ → ℕ

@@ -24,6 +24,7 @@ pub fn edit_message(edit: &Edit) -> Result<Message, NoMemory>
             ro: ro.try_clone()?,
             air: *air,
         },
+        Edit::Script(script) => Message::RoStorySend(script.try_clone()?),
     })
 }
 
@@ -38,6 +39,7 @@ pub fn message_of_edit(edit: Edit) -> Message
         Edit::Metadata(patch) => Message::RoMetadataReplace(patch),
         Edit::Act { ro, action } => Message::RoElementAction { ro, action },
         Edit::Air { ro, air } => Message::RoReadyToAir { ro, air },
+        Edit::Script(script) => Message::RoStorySend(script),
     }
 }
 
@@ -59,6 +61,7 @@ pub fn edit_in(message: &Message) -> Result<Option<Edit>, NoMemory>
             ro: ro.try_clone()?,
             air: *air,
         }),
+        Message::RoStorySend(script) => Some(Edit::Script(script.try_clone()?)),
         _ => None,
     })
 }
@@ -74,6 +77,7 @@ pub fn edit_of_message(message: Message) -> Option<Edit>
         Message::RoMetadataReplace(patch) => Some(Edit::Metadata(patch)),
         Message::RoElementAction { ro, action } => Some(Edit::Act { ro, action }),
         Message::RoReadyToAir { ro, air } => Some(Edit::Air { ro, air }),
+        Message::RoStorySend(script) => Some(Edit::Script(script)),
         other => {
             let_go(other);
             None

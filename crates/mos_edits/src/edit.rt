@@ -2,7 +2,7 @@
 ghost use Rattle.std.specs.Prelude.{◌≡◌, IfOk};
 
 use mos_fields::{Air, Id, NoMemory};
-use mos_values::{Action, Boxed, HeaderPatch, OrderBody};
+use mos_values::{Action, Boxed, HeaderPatch, OrderBody, StorySend};
 
 /// An edit of a running order: what an editor commands, and what the server sends on to devices.
 #[derive(Drop)]
@@ -19,6 +19,8 @@ pub enum Edit {
     Act { ro: Id, action: Action },
     /// roReadyToAir: the order is released, or no longer.
     Air { ro: Id, air: Air },
+    /// roStorySend: the script joins its story, in place of a former one.
+    Script(Boxed<StorySend>),
 }
 
 impl Edit {
@@ -39,6 +41,7 @@ impl Edit {
                 ro: ro.try_clone()?,
                 air: *air,
             },
+            Edit::Script(script) => Edit::Script(script.try_clone()?),
         })
     }
 }

@@ -1,9 +1,9 @@
-//! Laws of the six kinds of edit: all that the machines need to know of what edits do.
+//! Laws of the seven kinds of edit: all that the machines need to know of what edits do.
 
 ghost use Rattle.std.specs.Prelude.{◌≡◌, Option, Some, None};
 ghost use Rattle.mos_edits.specs.Texts.{Text};
 ghost use Rattle.mos_edits.specs.KeyedLists.{ActFault, Applied};
-ghost use Rattle.mos_edits.specs.Orders.{Order, apply};
+ghost use Rattle.mos_edits.specs.Orders.{Order, OrderBody, order_of, apply};
 ghost use Rattle.mos_edits.specs.declared.edit.Edit.{Edit};
 ghost use Rattle.mos_edits.specs.declared.edit.Edit.TheVariants.{Create};
 ghost use Rattle.mos_edits.specs.Entries.{Kind, kind, body_of};
@@ -21,11 +21,11 @@ pub fn ready_changes_nothing()
 
 /// roCreate makes an order where none is there. Where one is there, the roID is already there.
 pub fn create_makes_an_order()
-    ensures none { (r : Text) (body : Order) → apply r None (Create body) ≡ Applied.Done (Some body) }
-    ensures there { (r : Text) (o body : Order) → apply r (Some o) (Create body) ≡ Applied.Fault (ActFault.AlreadyThere r) }
+    ensures none { (r : Text) (body : OrderBody) → apply r None (Create body) ≡ Applied.Done (Some (order_of body)) }
+    ensures there { (r : Text) (o : Order) (body : OrderBody) → apply r (Some o) (Create body) ≡ Applied.Fault (ActFault.AlreadyThere r) }
 {}
 
 /// Every other edit of an order that isn't there misses it.
 pub fn other_edits_need_an_order()
-    ensures { (r : Text) (e : Edit) → ((body : Order) → e ≡ Create body → ⊥) → apply r None e ≡ Applied.Fault (ActFault.Missing r) }
+    ensures { (r : Text) (e : Edit) → ((body : OrderBody) → e ≡ Create body → ⊥) → apply r None e ≡ Applied.Fault (ActFault.Missing r) }
 {}

@@ -10,8 +10,8 @@ ghost use Rattle.mos_edits.specs.Entries.{Entry, Refusal, entry_count, edit_at, 
 /// would pass, and else it is accepted.
 pub fn refusals_have_their_cause()
     ensures faulty { (journal : List Entry) (e : Entry) (f : ActFault) → apply e.ro (order_now journal e.ro) e.edit ≡ Applied.Fault f → acceptance journal e ≡ Some (Refusal.Faulty f) }
-    ensures full { (journal : List Entry) (e : Entry) (p : Option Order) (units : ℕ) → apply e.ro (order_now journal e.ro) e.edit ≡ Applied.Done p → over_limit (journal ++ e ∷ []) e.ro ≡ Some units → acceptance journal e ≡ Some (Refusal.Full units) }
-    ensures accepted { (journal : List Entry) (e : Entry) (p : Option Order) → apply e.ro (order_now journal e.ro) e.edit ≡ Applied.Done p → over_limit (journal ++ e ∷ []) e.ro ≡ None → acceptance journal e ≡ None }
+    ensures full { (journal : List Entry) (e : Entry) (p : Option Order) (units : ℕ) → apply e.ro (order_now journal e.ro) e.edit ≡ Applied.Done p → over_limit (journal ++ e ∷ []) e ≡ Some units → acceptance journal e ≡ Some (Refusal.Full units) }
+    ensures accepted { (journal : List Entry) (e : Entry) (p : Option Order) → apply e.ro (order_now journal e.ro) e.edit ≡ Applied.Done p → over_limit (journal ++ e ∷ []) e ≡ None → acceptance journal e ≡ None }
 {}
 
 /// An accepted entry makes its order the result of its edit, and is the next of that order's entries. It leaves every other

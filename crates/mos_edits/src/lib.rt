@@ -10,6 +10,7 @@ mod edit;
 mod edits;
 mod journal;
 mod lists;
+mod scripts;
 
 pub use carried::{edit_in, edit_message, edit_of_message, message_of_edit};
 pub use edit::Edit;
@@ -25,3 +26,4 @@ pub use lists::{
     actions_keep_identifiers_distinct, edits_keep_identifiers_distinct, one_identifier_is_equal,
     orders_keep_identifiers_distinct, swap_twice_changes_nothing,
 };
+pub use scripts::{scripts_in_force_stand, scripts_join_their_stories, scripts_stand_on_stories};

@@ -1,32 +1,36 @@
 -- The journal grows by an entry: the server's views stay within it. Then the law of every event of the server.
-use Rattle.std.proofs.Common.{◌≡◌, ◌⊎◌, inl, inr, ℕ, ◌-◌, ◌≤◌, List, [], ◌∷◌, ◌++◌, Bool, true, false, ◌&&◌, ◌==◌, Some, None, arith, refl, if◌then◌else◌, sym, subst}
+use Rattle.std.proofs.Common.{◌≡◌, ◌⊎◌, inl, inr, ℕ, ◌-◌, ◌≤◌, List, [], ◌∷◌, ◌++◌, Bool, true, false, ◌&&◌, ◌==◌, Some, None, arith, refl, if◌then◌else◌, sym, subst, ◌∙◌}
 use Rattle.std.proofs.lemmas.Bool.Decides.{nat_tests}
 use Rattle.mos_edits.specs.Texts.{Text, same_id, set_order}
 use Rattle.mos_edits.specs.Entries.{Entry, Kind, kind, entry_count, acceptance}
+use Rattle.mos_edits.specs.Scripts.{has_number}
 use Rattle.mos_edits.specs.Entries.Kind.{IsWhole}
 use Rattle.mos_edits.proofs.Identifiers.{same-true}
-use Rattle.mos_edits.proofs.Journals.{Grown, grown_push, entry_count_push, edit_push}
+use Rattle.mos_edits.proofs.Journals.{Grown, grown_push, grown_force, entry_count_push, edit_push}
 use Rattle.mos_machines.specs.Server.{Upper, View, PeerState, peer_opened, peer_cut, peer_answered, peer_next, peer_beat, peer_linked, peer_hear, view_given, peer_given, is_open, is_whole, Verdict, verdict}
-use Rattle.mos_machines.specs.Server.ServerOut.{Idle, SendsEdit, SendsAgain, SendsBeat}
+use Rattle.mos_machines.specs.Server.ServerOut.{Idle, SendsEdit, SendsAgain, SendsScript, SendsBeat}
 use Rattle.mos_machines.specs.Server.Upper.{Down, Greeting, Open}
 use Rattle.mos_machines.specs.Server.View.{Out, Listed, In, From}
 use Rattle.mos_machines.specs.Server.Verdict.{Takes, Fails, Refuses}
 use Rattle.mos_machines.specs.Steps.{ServerState, started, ServerEvent, StepAnswer, with_peer, server_stepped, server_sent, server_says, server_told, unless_stale, is_upper, is_lower, server_step}
 use Rattle.mos_machines.specs.Steps.ServerEvent.{Command, UpperOpened, UpperCut, UpperAnswer, Beat, DeviceAccepted, DeviceDropped, NextSend, Hear}
-use Rattle.mos_machines.specs.Views.{IsViewWithin, IsOutWithin, IsPeerWithin, IsServerWithin, entry_by, next_entry}
+use Rattle.mos_machines.specs.Views.{IsReadyIf, IsViewWithin, IsOutWithin, IsPeerWithin, IsServerWithin, entry_by, next_entry}
 use Rattle.mos_machines.proofs.Views.{Keeps, after-mono, keeps-opened, keeps-cut, keeps-beat, keeps-answered, keeps-next, keeps-linked, keeps-hear}
 
 grown-view : (journal new : List Entry) → Grown journal new → (r : Text) (v : View) → IsViewWithin journal r v → IsViewWithin new r v
 grown-view journal new g r Out h = tt
-grown-view journal new g r (Listed m) h = let l = g.longer r in omega (arith, h, l)
-grown-view journal new g r (In n false) h = let l = g.longer r in omega (arith, h, l)
-grown-view journal new g r (In n true) h = let l = g.longer r in (h.0, omega (arith, h.1, l), rw (g.edit r (n - 1) (omega (arith, h))) h.2)
+grown-view journal new g r (Listed m ks) h = let l = g.longer r in (omega (arith, h.0, l), h.1 ∙ sym (grown_force journal new g r m h.0))
+grown-view journal new g r (In n a ks) h = let l = g.longer r in (omega (arith, h.0, l), ready a h.1, λ j y. subst (λ (fs : List ℕ). has_number j fs ≡ true) (sym (grown_force journal new g r n h.0)) (h.2 j y))
+  where
+    ready : (b : Bool) → IsReadyIf journal r n b → IsReadyIf new r n b
+    ready false i = tt
+    ready true i = (i.0, rw (g.edit r (n - 1) (omega (arith, i.0, h.0))) i.1)
 grown-view journal new g r (From k) h = let l = g.longer r in (omega (arith, h.0, l), rw (g.edit r k h.0) h.1)
 
 grown-by : (journal new : List Entry) → Grown journal new → (r : Text) (v : View) → IsViewWithin journal r v → entry_by (entry_count journal r) v ≤ entry_by (entry_count new r) v
 grown-by journal new g r Out h = g.longer r
-grown-by journal new g r (Listed m) h = omega arith
-grown-by journal new g r (In n a) h = omega arith
+grown-by journal new g r (Listed m ks) h = omega arith
+grown-by journal new g r (In n a ks) h = omega arith
 grown-by journal new g r (From k) h = omega arith
 
 -- the view of the order that got the entry
@@ -34,10 +38,10 @@ given-view : (journal : List Entry) (e : Entry) (b : Bool) (v : View) → (b ≡
     → IsViewWithin (journal ++ e ∷ []) e.ro (view_given b (entry_count journal e.ro) v) × (entry_by (entry_count journal e.ro) v ≤ entry_by (entry_count (journal ++ e ∷ []) e.ro) (view_given b (entry_count journal e.ro) v))
 given-view journal e true Out w h = let n = entry_count_push journal e in ((omega (arith, n), rw (edit_push journal e) (w refl)), omega arith)
 given-view journal e false Out w h = let n = entry_count_push journal e in (tt, omega (arith, n))
-given-view journal e true (Listed m) w h = let g = grown_push journal e in (grown-view journal (journal ++ e ∷ []) g e.ro (Listed m) h, omega arith)
-given-view journal e false (Listed m) w h = let g = grown_push journal e in (grown-view journal (journal ++ e ∷ []) g e.ro (Listed m) h, omega arith)
-given-view journal e true (In n a) w h = let g = grown_push journal e in (grown-view journal (journal ++ e ∷ []) g e.ro (In n a) h, omega arith)
-given-view journal e false (In n a) w h = let g = grown_push journal e in (grown-view journal (journal ++ e ∷ []) g e.ro (In n a) h, omega arith)
+given-view journal e true (Listed m ks) w h = let g = grown_push journal e in (grown-view journal (journal ++ e ∷ []) g e.ro (Listed m ks) h, omega arith)
+given-view journal e false (Listed m ks) w h = let g = grown_push journal e in (grown-view journal (journal ++ e ∷ []) g e.ro (Listed m ks) h, omega arith)
+given-view journal e true (In n a ks) w h = let g = grown_push journal e in (grown-view journal (journal ++ e ∷ []) g e.ro (In n a ks) h, omega arith)
+given-view journal e false (In n a ks) w h = let g = grown_push journal e in (grown-view journal (journal ++ e ∷ []) g e.ro (In n a ks) h, omega arith)
 given-view journal e true (From k) w h = let g = grown_push journal e in (grown-view journal (journal ++ e ∷ []) g e.ro (From k) h, omega arith)
 given-view journal e false (From k) w h = let g = grown_push journal e in (grown-view journal (journal ++ e ∷ []) g e.ro (From k) h, omega arith)
 
@@ -52,19 +56,31 @@ given-out journal e b views (Open c Idle) o = tt
 given-out journal e b views (Open c SendsBeat) o = tt
 given-out journal e b views (Open c (SendsAgain r m)) o = by (same_id r e.ro) refl
   where
-    stays : (v : View) → v ≡ In m true → view_given b (entry_count journal e.ro) v ≡ In m true
+    stays : (v : View) → v ≡ In m true [] → view_given b (entry_count journal e.ro) v ≡ In m true []
     stays v h = rw h (by_given b)
       where
-        by_given : (b : Bool) → view_given b (entry_count journal e.ro) (In m true) ≡ In m true
+        by_given : (b : Bool) → view_given b (entry_count journal e.ro) (In m true []) ≡ In m true []
         by_given true = refl
         by_given false = refl
 
-    by : (c : Bool) → same_id r e.ro ≡ c → (if c then view_given b (entry_count journal e.ro) (views e.ro) else views r) ≡ In m true
+    by : (c : Bool) → same_id r e.ro ≡ c → (if c then view_given b (entry_count journal e.ro) (views e.ro) else views r) ≡ In m true []
     by false y = o
-    by true y = stays (views e.ro) (subst (λ (z : Text). views z ≡ In m true) (same-true r e.ro y) o)
+    by true y = stays (views e.ro) (subst (λ (z : Text). views z ≡ In m true []) (same-true r e.ro y) o)
+given-out journal e b views (Open c (SendsScript r k m)) o = (o.0, o.1, by (same_id r e.ro) refl)
+  where
+    stays : (v : View) → v ≡ In m o.0 (k ∷ o.1) → view_given b (entry_count journal e.ro) v ≡ In m o.0 (k ∷ o.1)
+    stays v h = rw h (by_given b)
+      where
+        by_given : (b : Bool) → view_given b (entry_count journal e.ro) (In m o.0 (k ∷ o.1)) ≡ In m o.0 (k ∷ o.1)
+        by_given true = refl
+        by_given false = refl
+
+    by : (c : Bool) → same_id r e.ro ≡ c → (if c then view_given b (entry_count journal e.ro) (views e.ro) else views r) ≡ In m o.0 (k ∷ o.1)
+    by false y = o.2
+    by true y = stays (views e.ro) (subst (λ (z : Text). views z ≡ In m o.0 (k ∷ o.1)) (same-true r e.ro y) o.2)
 given-out journal e b views (Open c (SendsEdit r k)) o = (let l = (grown_push journal e).longer r in omega (arith, l, o.0), by (same_id r e.ro) refl o.1)
   where
-    stays_in : (b : Bool) → view_given b (entry_count journal e.ro) (In k false) ≡ In k false
+    stays_in : (b : Bool) → view_given b (entry_count journal e.ro) (In k false []) ≡ In k false []
     stays_in true = refl
     stays_in false = refl
 
@@ -72,14 +88,14 @@ given-out journal e b views (Open c (SendsEdit r k)) o = (let l = (grown_push jo
     stays_from true = refl
     stays_from false = refl
 
-    stays : (v : View) → (v ≡ In k false) ⊎ (v ≡ From k) → (view_given b (entry_count journal e.ro) v ≡ In k false) ⊎ (view_given b (entry_count journal e.ro) v ≡ From k)
+    stays : (v : View) → (v ≡ In k false []) ⊎ (v ≡ From k) → (view_given b (entry_count journal e.ro) v ≡ In k false []) ⊎ (view_given b (entry_count journal e.ro) v ≡ From k)
     stays v (inl h) = inl (rw h (stays_in b))
     stays v (inr h) = inr (rw h (stays_from b))
 
-    by : (c : Bool) → same_id r e.ro ≡ c → (views r ≡ In k false) ⊎ (views r ≡ From k)
-        → ((if c then view_given b (entry_count journal e.ro) (views e.ro) else views r) ≡ In k false) ⊎ ((if c then view_given b (entry_count journal e.ro) (views e.ro) else views r) ≡ From k)
+    by : (c : Bool) → same_id r e.ro ≡ c → (views r ≡ In k false []) ⊎ (views r ≡ From k)
+        → ((if c then view_given b (entry_count journal e.ro) (views e.ro) else views r) ≡ In k false []) ⊎ ((if c then view_given b (entry_count journal e.ro) (views e.ro) else views r) ≡ From k)
     by false y h = h
-    by true y h = stays (views e.ro) (subst (λ (z : Text). (views z ≡ In k false) ⊎ (views z ≡ From k)) (same-true r e.ro y) h)
+    by true y h = stays (views e.ro) (subst (λ (z : Text). (views z ≡ In k false []) ⊎ (views z ≡ From k)) (same-true r e.ro y) h)
 
 -- a step over a grown journal
 pub record Grows (journal new : List Entry) (s t : PeerState) : Type 0 where

@@ -4,7 +4,7 @@ use Rattle.mos_edits.specs.Texts.{Text, same_id, set_order}
 use Rattle.mos_edits.specs.Entries.{Entry, entry_count, entries}
 use Rattle.mos_machines.specs.Server.{ServerOut, View, due_at, due_in, first_due, first_of_two}
 use Rattle.mos_machines.specs.Server.View.{In, From}
-use Rattle.mos_machines.specs.Server.ServerOut.{Idle, SendsEdit, SendsAgain, SendsBeat}
+use Rattle.mos_machines.specs.Server.ServerOut.{Idle, SendsEdit, SendsAgain, SendsScript, SendsBeat}
 use Rattle.std.proofs.lemmas.Bool.Decides.{nat_tests}
 use Rattle.mos_edits.proofs.Identifiers.{same-true, same-self, same-false}
 
@@ -15,6 +15,7 @@ first_some : (a b : ServerOut) → (a ≡ Idle → ⊥) → first_of_two a b ≡
 first_some Idle b n = absurd (n refl)
 first_some (SendsEdit r k) b n = refl
 first_some (SendsAgain r k) b n = refl
+first_some (SendsScript r k m) b n = refl
 first_some SendsBeat b n = refl
 
 pub first_due-least : (views : Text → View) (before : Text → ℕ) (xs : List Entry) (n : ℕ) → ((m : ℕ) → m < n → due_in views before xs m ≡ Idle) → (due_in views before xs n ≡ Idle → ⊥) → first_due views before xs ≡ due_in views before xs n
@@ -45,8 +46,9 @@ due_in-entry views before (x ∷ xs) (suc n) y e =
 abbrev pub DueOk : (Text → View) → (Text → ℕ) → List Entry → ServerOut → Type 0
 DueOk views before xs Idle = Unit {0}
 DueOk views before xs SendsBeat = ⊥
-DueOk views before xs (SendsEdit r k) = (k < before r + entry_count xs r) × ((views r ≡ In k false) ⊎ (views r ≡ From k))
-DueOk views before xs (SendsAgain r m) = views r ≡ In m true
+DueOk views before xs (SendsEdit r k) = (k < before r + entry_count xs r) × ((views r ≡ In k false []) ⊎ (views r ≡ From k))
+DueOk views before xs (SendsAgain r m) = views r ≡ In m true []
+DueOk views before xs (SendsScript r k m) = (again : Bool) × (scripts : List ℕ) × (views r ≡ In m again (k ∷ scripts))
 
 due_here : (views : Text → View) (before : Text → ℕ) (x : Entry) (xs : List Entry) (v : View) → views x.ro ≡ v → DueOk views before (x ∷ xs) (due_at x.ro v (before x.ro))
 due_here views before x xs v e = grind (arith, nat_tests, same-self)

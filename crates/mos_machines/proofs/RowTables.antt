@@ -6,7 +6,7 @@ use Rattle.mos_edits.proofs.Identifiers.{same-true}
 use Rattle.mos_machines.specs.Server.{View, peer_opened, peer_cut, unlisted, peer_linked, settled, peer_settled}
 use Rattle.mos_machines.specs.Server.Upper.{Down, Greeting}
 use Rattle.mos_machines.specs.Server.View.{Out}
-use Rattle.mos_machines.specs.Device.{GateOut, Confirmation, crossed, gate_accepted, is_for, is_confirmed, is_in, is_all, dropped_phase, gate_dropped}
+use Rattle.mos_machines.specs.Device.{GateOut, Confirmation, gate_accepted, is_for, is_confirmed, is_all, dropped_phase, gate_dropped}
 use Rattle.mos_machines.specs.Device.GateOut.{NotAsking}
 use Rattle.mos_machines.specs.Device.Confirmation.{NotDue}
 use Rattle.mos_machines.specs.Device.Phase.{OutOfStep}

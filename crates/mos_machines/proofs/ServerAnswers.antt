@@ -6,9 +6,9 @@ use Rattle.mos_edits.proofs.Identifiers.{same-self}
 use Rattle.mos_machines.specs.Messages.{Tag, Packet, untagged}
 use Rattle.mos_machines.specs.Messages.Status.{NotNow}
 use Rattle.mos_machines.specs.Messages.Message.{RoAck, RoReq}
-use Rattle.mos_machines.specs.Messages.Tag.{Untagged, OfEntry, OfAgain}
+use Rattle.mos_machines.specs.Messages.Tag.{Untagged, OfEntry, OfAgain, OfScript}
 use Rattle.mos_machines.specs.Server.{ServerOut, Upper, PeerState, is_busy, list_of, sent, next_by, peer_next, beat_or_due, first_due}
-use Rattle.mos_machines.specs.Server.ServerOut.{Idle, SendsEdit, SendsAgain, SendsBeat}
+use Rattle.mos_machines.specs.Server.ServerOut.{Idle, SendsEdit, SendsAgain, SendsScript, SendsBeat}
 use Rattle.mos_machines.specs.Server.Upper.{Down, Greeting, Open}
 use Rattle.mos_machines.specs.Steps.{ServerState, server_sent, sent_answer, unless_stale, is_upper, is_lower, server_step}
 use Rattle.mos_machines.specs.Steps.ServerEvent.{NextSend, Hear}
@@ -46,6 +46,11 @@ sent-raises journal now s c (SendsAgain q m) r k e d p h t = absurd (let i : OfA
     tag_in : Option Packet → Tag
     tag_in None = Untagged
     tag_in (Some x) = x.tag
+sent-raises journal now s c (SendsScript q j m) r k e d p h t = absurd (let i : OfScript q j m ≡ OfEntry r k = ap (λ (x : Option Packet). tag_in x) h ∙ t in cc)
+  where
+    tag_in : Option Packet → Tag
+    tag_in None = Untagged
+    tag_in (Some x) = x.tag
 sent-raises journal now s c (SendsEdit q j) r k e d p h t =
     let i : OfEntry q j ≡ OfEntry r k = ap (λ (x : Option Packet). tag_in x) h ∙ t in
     let n = tag-entry r q k j i in
@@ -65,6 +70,7 @@ next-raises journal now s (Open c Idle) r k e p h t =
 next-raises journal now s (Open c SendsBeat) r k e p h t = absurd (cc)
 next-raises journal now s (Open c (SendsEdit q j)) r k e p h t = absurd (cc)
 next-raises journal now s (Open c (SendsAgain q m)) r k e p h t = absurd (cc)
+next-raises journal now s (Open c (SendsScript q j m)) r k e p h t = absurd (cc)
 
 -- the same of the server
 pub entry-sent : (fails : Bool) (s : ServerState) (d c : ℕ) (now : MosTime) (p : Packet) (r : Text) (k : ℕ) → (server_step fails s (NextSend d c now)).0 ≡ Sent p → p.tag ≡ OfEntry r k

@@ -1,6 +1,5 @@
 -- The sizes of lists, field by field.
-use Rattle.std.proofs.Common.{◌≡◌, ℕ, zero, suc, ◌+◌, ◌-◌, ◌*◌, ◌/◌, ◌%◌, ◌<◌, ◌≤◌, Bool, true, false, cond, List, [], ◌∷◌, ◌++◌, length, codes, Option, Some, None, refl, sym, ap, ◌∙◌, subst, if◌then◌else◌, ◌==◌, nat_lt, arith, length-append}
-use Rattle.std.specs.List.{flat_map}
+use Rattle.std.proofs.Common.{◌≡◌, ℕ, zero, suc, ◌+◌, ◌-◌, ◌/◌, ◌%◌, ◌<◌, ◌≤◌, Bool, true, false, cond, List, [], ◌∷◌, ◌++◌, length, codes, Option, Some, None, refl, sym, ap, ◌∙◌, if◌then◌else◌, nat_lt, arith, length-append}
 use Rattle.std.specs.Fmt.{decimal}
 use Rattle.std.specs.Char.Escape.{encode_utf16}
 use Rattle.std.proofs.lemmas.Bool.Decides.{nat_tests}
@@ -13,13 +12,13 @@ use Rattle.mos_fields.specs.declared.field.Field.TheVariants as fields
 use Rattle.mos_fields.specs.Fields.{name_of}
 use Rattle.mos_tables.specs.Events.{Event, raw}
 use Rattle.mos_values.specs.Parts.{must, maybe, maybe_as, must_raw, maybe_raw, raws, joined, element}
-use Rattle.mos_values.specs.Units.{units_in, list_events, list_all_events}
-use Rattle.mos_values.specs.Views.{header_events, body_events, item_events, items_events, story_head_events, story_events, stories_events, patch_events, headers_events}
+use Rattle.mos_values.specs.Units.{units_in, list_events, list_all_events, send_events}
+use Rattle.mos_values.specs.Views.{header_events, body_events, item_events, items_events, story_head_events, story_events, stories_events, patch_events, headers_events, story_send_events}
 use Rattle.mos_values.proofs.Encoding.{units_in-append, units_in-nil, units_in_element, units_in_raw, units_of_name}
 use Rattle.mos_values.proofs.Simple.{simple_decimal}
 use Rattle.mos_values.proofs.Counts.{units_in_must, units_in_must_raw, units_in_simple, length_one, length_step}
-use Rattle.mos_edits.specs.Orders.{Item, Story, Header, HeaderPatch, Order}
-use Rattle.mos_edits.specs.Sizes.{char_units, escaped_units, text_units, raw_units, raws_units, tags_units, field_units, optional_units, optional_raw_units, digits, number_units, item_units, items_units, story_units, stories_units, header_units, patch_units, list_units, ros_units, list_all_units}
+use Rattle.mos_edits.specs.Orders.{Item, Story, Header, HeaderPatch, OrderBody, StorySend}
+use Rattle.mos_edits.specs.Sizes.{char_units, escaped_units, text_units, raw_units, raws_units, field_units, optional_units, optional_raw_units, digits, number_units, item_units, items_units, story_units, stories_units, header_units, patch_units, list_units, ros_units, list_all_units, send_units}
 use Rattle.mos_machines.specs.Small.{IsSmall, IsSmallItem, AreSmallItems, AreSmallStories, IsSmallOrder}
 
 -- a character
@@ -240,7 +239,7 @@ stories-units (s ∷ ss) h =
     ap units_in (flat_map-cons (λ (y : Story). element (name_of fields.StoryTag) (story_events y)) s ss) ∙ units_in-append (element (name_of fields.StoryTag) (story_events s)) (stories_events ss) in
     omega (arith, a, i, e)
 
-pub order-units : (o : Order) → IsSmallOrder o → list_units o ≡ units_in (list_events o)
+pub order-units : (o : OrderBody) → IsSmallOrder o → list_units o ≡ units_in (list_events o)
 unfolding body_events
 order-units o h =
     let t = units_in_element (codes "roList") (body_events o) refl in
@@ -265,3 +264,20 @@ orders-units hs =
     let t = units_in_element (codes "roListAll") (headers_events hs) refl in
     let i = ros-units hs in
     omega (arith, t, i)
+
+must-raw-units : (f : Field) (t : Text) → raw_units t ≡ units_in (must_raw f t)
+must-raw-units f t = raw-units t ∙ sym (units_in_must_raw f t)
+
+pub script-units : (s : StorySend) → send_units s ≡ units_in (send_events s)
+unfolding story_send_events
+script-units s =
+    let j = joined-units (must fields.RoID s.ro ∷ must fields.StoryID s.story ∷ maybe fields.StorySlug s.slug ∷ maybe fields.StoryNum s.num ∷ must_raw fields.StoryBody s.body ∷ raws fields.Metadata s.metadata ∷ raws fields.Kept s.others ∷ []) in
+    let t = units_in_element (codes "roStorySend") (story_send_events s) refl in
+    let a = must-units fields.RoID 4 s.ro refl in
+    let b = must-units fields.StoryID 7 s.story refl in
+    let c = maybe-units fields.StorySlug 9 s.slug refl in
+    let d = maybe-units fields.StoryNum 8 s.num refl in
+    let e = must-raw-units fields.StoryBody s.body in
+    let f = raws-units fields.Metadata s.metadata in
+    let g = raws-units fields.Kept s.others in
+    omega (arith, j, t, a, b, c, d, e, f, g)

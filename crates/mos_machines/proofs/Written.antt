@@ -1,23 +1,26 @@
 -- What one machine writes is what the other reads.
-use Rattle.std.proofs.Common.{◌≡◌, ℕ, ◌+◌, ◌-◌, ◌<◌, ◌≤◌, ◌&&◌, ◌==◌, arith, List, Bool, true, false, Option, Some, None, refl, if◌then◌else◌, sym, ap, ◌∙◌, subst}
+use Rattle.std.proofs.Common.{◌≡◌, ℕ, ◌+◌, ◌-◌, ◌&&◌, ◌==◌, arith, List, [], ◌∷◌, Bool, true, false, Option, Some, None, refl, if◌then◌else◌, sym, ap, ◌∙◌, subst}
 use Rattle.mos_edits.specs.Texts.{Text, same_id, set_order}
 use Rattle.mos_edits.specs.KeyedLists.{Applied}
 use Rattle.mos_edits.specs.KeyedLists.Applied.{Done, Fault}
 use Rattle.mos_edits.specs.KeyedLists.ActFault.{Missing, AlreadyThere}
 use Rattle.mos_edits.specs.Orders.{Order, apply}
 use Rattle.mos_edits.specs.declared.edit.Edit.{Edit}
-use Rattle.mos_edits.specs.Entries.{Kind, kind, Entry, entry_of, entry_count, edit_at, order_now, AreEntries, IsNamed}
+use Rattle.mos_edits.specs.Entries.{Kind, kind, Entry, entry_of, entry_count, edit_at, order_now, AreEntries, IsNamed, in_force}
 use Rattle.mos_edits.specs.Entries.Kind.{IsWhole, IsAction, IsReady, IsNotReady}
+use Rattle.mos_edits.specs.Scripts.{has_number}
 use Rattle.mos_edits.proofs.Names.{named-now, edit-named}
+use Rattle.mos_edits.proofs.Lacking.{force-below}
+use Rattle.std.proofs.lemmas.Bool.Decides.{nat_tests}
 use Rattle.mos_fields.specs.declared.time.MosTime.{MosTime}
 use Rattle.mos_edits.specs.declared.edit.Edit.TheVariants as edits
 use Rattle.mos_machines.specs.Messages.{Status, status_text, read_status, Message, Packet, untagged}
 use Rattle.mos_machines.specs.Messages.Status.{Okay, NoDeck, NotInStep, Faulty, Full, StoreFault, Stopped, NotNow, NoRunningOrder, NotSupported, OtherStatus}
 use Rattle.mos_machines.specs.Messages.Message.{Heartbeat, RoEdit, RoAck, RoReq, RoReqAll, RoList, RoListAll, RoElementStat, OtherMessage}
-use Rattle.mos_machines.specs.Server.{ServerOut, Upper, View, PeerState, is_busy, list_of, settled, peer_settled, entry_packet, again_packet, beat_or_due, first_due, sent, next_by, peer_next, is_ready, is_success, view_if, back_to, unasked, answered_by, peer_answered, peer_hear}
+use Rattle.mos_machines.specs.Server.{ServerOut, Upper, View, PeerState, is_busy, list_of, settled, peer_settled, entry_packet, again_packet, script_packet, beat_or_due, first_due, sent, next_by, peer_next, is_ready, is_success, view_if, view_without, back_to, unasked, answered_by, peer_answered, peer_hear}
 use Rattle.mos_machines.specs.Server.Upper.{Down, Greeting, Open}
-use Rattle.mos_machines.specs.Server.ServerOut.{Idle, SendsEdit, SendsAgain, SendsBeat}
-use Rattle.mos_machines.specs.Server.View.{Listed}
+use Rattle.mos_machines.specs.Server.ServerOut.{Idle, SendsEdit, SendsAgain, SendsScript, SendsBeat}
+use Rattle.mos_machines.specs.Server.View.{Listed, In}
 use Rattle.mos_machines.specs.Views.{IsViewWithin, IsPeerWithin}
 use Rattle.mos_machines.proofs.Least.{due_ok}
 use Rattle.mos_machines.proofs.Views.{IsDue, due-next}
@@ -35,6 +38,7 @@ seen-edit (edits.Delete ro) = refl
 seen-edit (edits.Metadata patch) = refl
 seen-edit (edits.Act ro action) = refl
 seen-edit (edits.Air ro air) = refl
+seen-edit (edits.Script script) = refl
 
 pub seen-written : (m : Message) → IsWritten m → seen (message_of m) ≡ reread m
 seen-written (Heartbeat time) h = refl
@@ -85,6 +89,7 @@ ack-answered journal s (Open c Idle) q a b h = refl
 ack-answered journal s (Open c SendsBeat) q a b h = refl
 ack-answered journal s (Open c (SendsEdit r k)) q a b h = ap (λ (g : Bool). if same_id q r then back_to s c r (view_if g (k + 1)) else unasked s) (h (is_ready (kind (edit_at journal r k))))
 ack-answered journal s (Open c (SendsAgain r m)) q a b h = ap (λ (g : Bool). if same_id q r then back_to s c r (view_if g m) else unasked s) (h true)
+ack-answered journal s (Open c (SendsScript r k m)) q a b h = ap (λ (g : Bool). if same_id q r then back_to s c r (view_without g k (s.views r)) else unasked s) (h false)
 
 pub answered-reread : (journal : List Entry) (s : PeerState) (m : Message) → IsWritten m → peer_answered journal s (reread m) ≡ peer_answered journal s m
 answered-reread journal s (RoAck q t) h = ack-answered journal s s.upper q (read_status (status_text t)) t (λ ready. success-reread ready t h)
@@ -147,7 +152,7 @@ heard-written journal s (Heartbeat time) a = tt
 heard-written journal s RoReqAll a = tt
 heard-written journal s (RoReq r) a = go (is_busy r s.upper)
   where
-    go : (b : Bool) → IsWritten (let x : PeerState × Packet = if b then (peer_settled journal false s, untagged (RoAck r NotNow)) else (record { upper = s.upper; note = s.note; link = s.link; views = set_order (λ q. settled journal false q (s.views q)) r (Listed (entry_count journal r)) }, list_of r (entry_count journal r) (order_now journal r)) in x.1.message)
+    go : (b : Bool) → IsWritten (let x : PeerState × Packet = if b then (peer_settled journal false s, untagged (RoAck r NotNow)) else (record { upper = s.upper; note = s.note; link = s.link; views = set_order (λ q. settled journal false q (s.views q)) r (Listed (entry_count journal r) (in_force journal r (entry_count journal r))) }, list_of r (entry_count journal r) (order_now journal r)) in x.1.message)
     go true = tt
     go false = list-written r (entry_count journal r) (order_now journal r) (named-now journal r a)
 heard-written journal s (RoElementStat r) a = tt
@@ -164,11 +169,21 @@ sent-written journal now s c (SendsEdit r k) p a i d h = subst (λ (x : Packet).
     some_is : (x y : Packet) → Some x ≡ Some y → x ≡ y
     some_is x y h = cc
 sent-written journal now s c (SendsAgain r m) p a i d h =
-    let w : (0 < m) × (m ≤ entry_count journal r) × (kind (edit_at journal r (m - 1)) ≡ IsReady) = subst (λ (v : View). IsViewWithin journal r v) d (i.views r) in
-    subst (λ (x : Packet). IsWritten x.message) (some_is (again_packet journal r m) p h) (sym (edit-named journal r (m - 1) a (omega (arith, w.0, w.1))))
+    let w : IsViewWithin journal r (In m true []) = subst (λ (v : View). IsViewWithin journal r v) d (i.views r) in
+    subst (λ (x : Packet). IsWritten x.message) (some_is (again_packet journal r m) p h) (sym (edit-named journal r (m - 1) a (omega (arith, w.0, w.1.0))))
   where
     some_is : (x y : Packet) → Some x ≡ Some y → x ≡ y
     some_is x y h = cc
+sent-written journal now s c (SendsScript r k m) p a i d h =
+    let w : IsViewWithin journal r (In m d.0 (k ∷ d.1)) = subst (λ (v : View). IsViewWithin journal r v) d.2 (i.views r) in
+    let f = force-below journal r m k (w.2 k (first k d.1)) in
+    subst (λ (x : Packet). IsWritten x.message) (some_is (script_packet journal r k m) p h) (sym (edit-named journal r k a (omega (arith, w.0, f))))
+  where
+    some_is : (x y : Packet) → Some x ≡ Some y → x ≡ y
+    some_is x y h = cc
+
+    first : (k : ℕ) (ks : List ℕ) → has_number k (k ∷ ks) ≡ true
+    first k ks = grind (arith, nat_tests)
 
 next-written-by : (journal : List Entry) (now : MosTime) (s : PeerState) (u : Upper) (p : Packet) → AreEntries journal → IsPeerWithin journal s → (next_by journal now s u).1 ≡ Some p → IsWritten p.message
 next-written-by journal now s Down p a i h = absurd (cc)
@@ -177,6 +192,7 @@ next-written-by journal now s (Open c Idle) p a i h = sent-written journal now s
 next-written-by journal now s (Open c SendsBeat) p a i h = absurd (cc)
 next-written-by journal now s (Open c (SendsEdit r k)) p a i h = absurd (cc)
 next-written-by journal now s (Open c (SendsAgain r m)) p a i h = absurd (cc)
+next-written-by journal now s (Open c (SendsScript r k m)) p a i h = absurd (cc)
 
 pub next-written : (journal : List Entry) (now : MosTime) (s : PeerState) (p : Packet) → AreEntries journal → IsPeerWithin journal s → (peer_next journal now s).1 ≡ Some p → IsWritten p.message
 next-written journal now s p a i h = next-written-by journal now s s.upper p a i h

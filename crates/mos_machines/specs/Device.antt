@@ -3,7 +3,7 @@ use Rattle.std.specs.Prelude.{ℕ, List, [], ◌∷◌, map, Bool, true, false, 
 use Rattle.mos_edits.specs.Texts.{Text, same_id, set_order}
 use Rattle.mos_edits.specs.KeyedLists.{Applied}
 use Rattle.mos_edits.specs.KeyedLists.Applied.{Done, Fault}
-use Rattle.mos_edits.specs.Orders.{Order, HeaderPatch, apply}
+use Rattle.mos_edits.specs.Orders.{Order, order_of, HeaderPatch, apply}
 use Rattle.mos_edits.specs.declared.edit.Edit.{Edit}
 use Rattle.mos_edits.specs.Entries.{Kind, kind, body_of, Entry, insert_id}
 use Rattle.mos_edits.specs.Entries.Kind.{IsWhole, IsReady, IsNotReady}
@@ -266,7 +266,7 @@ abbrev pub got_by : GateState → GateOut → Message → GateState × Step
 got_by g AsksBeat (Heartbeat time) = (record g { out = NotAsking; confirm = confirmed g.confirm }, Taken)
 got_by g AsksAll (RoListAll hs) = (record g { out = NotAsking; known = all_known (ros hs) g.known; wanted = λ r. g.wanted r || ((is_known r (ros hs) && not (is_in (g.phase r))) || (is_known r g.known && wants_out (g.phase r))) }, Taken)
 got_by g AsksAll (RoAck q t) = (record g { out = NotAsking; wanted = λ r. g.wanted r || (is_known r g.known && wants_out (g.phase r)) }, Taken)
-got_by g (AsksFor r) (RoList q o) = if same_id q r then (got_order g r (Some o), Taken) else gate_unasked g
+got_by g (AsksFor r) (RoList q o) = if same_id q r then (got_order g r (Some (order_of o)), Taken) else gate_unasked g
 got_by g (AsksFor r) (RoAck q t) =
     if same_id q r then (if is_no_order t then (got_order g r None, Taken) else (got_refusal g r, Taken)) else gate_unasked g
 got_by g a m = gate_unasked g

@@ -3,7 +3,7 @@ use Rattle.std.specs.Prelude.{codes, ℕ, List, [], ◌++◌, take, Bool, false,
 use Rattle.mos_edits.specs.Texts.{Text, same_id}
 use Rattle.mos_edits.specs.KeyedLists.{ActFault}
 use Rattle.mos_edits.specs.KeyedLists.ActFault.{Missing, AlreadyThere}
-use Rattle.mos_edits.specs.Orders.{Order, HeaderPatch}
+use Rattle.mos_edits.specs.Orders.{OrderBody, HeaderPatch}
 use Rattle.mos_edits.specs.Entries.{Entry}
 use Rattle.mos_fields.specs.declared.time.MosTime.{MosTime}
 
@@ -52,7 +52,7 @@ read_status text =
     then Okay
     else (if same_id text (status_text NoDeck) then NoDeck else (if same_id text (status_text NoRunningOrder) then NoRunningOrder else OtherStatus text))
 
--- A message. `RoEdit` is any of the six kinds of edit. `OtherMessage` is any
+-- A message. `RoEdit` is any of the seven kinds of edit. `OtherMessage` is any
 -- message that the machines don't act on, with its roID, or an empty one where it has none.
 pub data Message : Type 0 where
   Heartbeat : (time : MosTime) → Message
@@ -60,7 +60,7 @@ pub data Message : Type 0 where
   RoAck : (ro : Text) (status : Status) → Message
   RoReq : (ro : Text) → Message
   RoReqAll : Message
-  RoList : (ro : Text) (order : Order) → Message
+  RoList : (ro : Text) (order : OrderBody) → Message
   RoListAll : (headers : List HeaderPatch) → Message
   RoElementStat : (ro : Text) → Message
   OtherMessage : (ro : Text) → Message
@@ -81,12 +81,13 @@ message_ro (OtherMessage r) = r
 abbrev pub not_supported : Message → Message
 not_supported m = RoAck (message_ro m) Status.NotSupported
 
--- What no byte carries: entry `k` of an order, the READY before entry `m` sent again, or a list of an order after `m`
--- entries (also where there is none).
+-- What no byte carries: entry `k` of an order, the READY before entry `m` sent again, the script of entry `k` sent again after
+-- a list of `m` entries, or a list of an order after `m` entries (also where there is none).
 pub data Tag : Type 0 where
   Untagged : Tag
   OfEntry : (ro : Text) (k : ℕ) → Tag
   OfAgain : (ro : Text) (m : ℕ) → Tag
+  OfScript : (ro : Text) (k m : ℕ) → Tag
   OfList : (ro : Text) (m : ℕ) → Tag
 
 -- a message as the world carries it

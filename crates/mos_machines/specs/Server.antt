@@ -1,21 +1,24 @@
 -- The server: what it keeps for one device, and its steps there.
 use Rattle.std.specs.Prelude.{ℕ, zero, suc, ◌+◌, ◌-◌, List, [], ◌∷◌, Bool, true, false, Option, Some, None, if◌then◌else◌, ◌==◌, ◌&&◌, ◌||◌}
 use Rattle.mos_edits.specs.Texts.{Text, same_id, set_order}
-use Rattle.mos_edits.specs.Orders.{Order}
-use Rattle.mos_edits.specs.Entries.{Kind, kind, Entry, Refusal, entry_count, edit_at, order_now, headers}
+use Rattle.mos_edits.specs.Orders.{Order, bare}
+use Rattle.mos_edits.specs.Scripts.{without_number}
+use Rattle.mos_edits.specs.Entries.{Kind, kind, Entry, Refusal, entry_count, edit_at, order_now, in_force, headers}
 use Rattle.mos_edits.specs.Entries.Kind.{IsWhole, IsReady}
 use Rattle.mos_machines.specs.Messages.{Status, Message, Packet, untagged, not_supported, Step}
 use Rattle.mos_machines.specs.Messages.Status.{Okay, NoDeck, NotNow, NoRunningOrder, Stopped}
 use Rattle.mos_machines.specs.Messages.Message.{Heartbeat, RoEdit, RoAck, RoReq, RoReqAll, RoList, RoListAll, RoElementStat}
-use Rattle.mos_machines.specs.Messages.Tag.{OfEntry, OfAgain, OfList}
+use Rattle.mos_machines.specs.Messages.Tag.{OfEntry, OfAgain, OfScript, OfList}
 use Rattle.mos_machines.specs.Messages.Step.{Taken, Unasked}
 use Rattle.mos_fields.specs.declared.time.MosTime.{MosTime}
 
--- What is in flight to the device: entry `k` of an order, the READY before its entry `m` sent again, a heartbeat.
+-- What is in flight to the device: entry `k` of an order, the READY before its entry `m` sent again, the script of its entry
+-- `k` sent again after a list of `m` entries, a heartbeat.
 pub data ServerOut : Type 0 where
   Idle : ServerOut
   SendsEdit : (ro : Text) (k : ℕ) → ServerOut
   SendsAgain : (ro : Text) (m : ℕ) → ServerOut
+  SendsScript : (ro : Text) (k m : ℕ) → ServerOut
   SendsBeat : ServerOut
 
 -- The connection that the server opened to the device. It greets with a heartbeat, and is open once that was answered.
@@ -25,12 +28,12 @@ pub data Upper : Type 0 where
   Open : (link : ℕ) (out : ServerOut) → Upper
 
 -- What the server takes a device to hold of an order: nothing that it knows of; a list of `m` entries that is on its
--- way; the order after `n` entries, where `again` says that the READY before entry `n` is sent again; nothing before
--- the whole-order edit `k`.
+-- way, behind which the scripts of the entries `scripts` are due; the order after `n` entries, of which the scripts of the entries `scripts` are first sent again, in that order, and
+-- then the READY before entry `n` where `again` says so; nothing before the whole-order edit `k`.
 pub data View : Type 0 where
   Out : View
-  Listed : (m : ℕ) → View
-  In : (n : ℕ) (again : Bool) → View
+  Listed : (m : ℕ) (scripts : List ℕ) → View
+  In : (n : ℕ) (again : Bool) (scripts : List ℕ) → View
   From : (k : ℕ) → View
 
 -- `note`: a heartbeat was asked for. `link`: the connection that the device opened.
@@ -81,8 +84,13 @@ is_success ready t = false
 -- upper_answer
 
 abbrev pub view_if : Bool → ℕ → View
-view_if true n = In n false
+view_if true n = In n false []
 view_if false n = Out
+
+-- a script that was taken is no longer due
+abbrev pub view_without : Bool → ℕ → View → View
+view_without true k (In n again scripts) = In n again (without_number k scripts)
+view_without b k v = Out
 
 abbrev pub back_to : PeerState → ℕ → Text → View → PeerState × Step
 back_to s c r v = (record { upper = Open c Idle; note = s.note; link = s.link; views = set_order s.views r v }, Taken)
@@ -96,6 +104,7 @@ answered_by journal s (Open c SendsBeat) (Heartbeat time) = (record { upper = Op
 answered_by journal s (Open c (SendsEdit r k)) (RoAck q t) =
     if same_id q r then back_to s c r (view_if (is_success (is_ready (kind (edit_at journal r k))) t) (k + 1)) else unasked s
 answered_by journal s (Open c (SendsAgain r m)) (RoAck q t) = if same_id q r then back_to s c r (view_if (is_success true t) m) else unasked s
+answered_by journal s (Open c (SendsScript r k m)) (RoAck q t) = if same_id q r then back_to s c r (view_without (is_success false t) k (s.views r)) else unasked s
 answered_by journal s u m = unasked s
 
 abbrev pub peer_answered : List Entry → PeerState → Message → PeerState × Step
@@ -103,18 +112,20 @@ peer_answered journal s m = answered_by journal s s.upper m
 
 -- next_send
 
--- whether a view makes entry `k` of its order due
+-- What a view makes due at entry `k` of its order. What is sent again has the place of the last entry of the list.
 abbrev pub due_at : Text → View → ℕ → ServerOut
 due_at r Out k = Idle
-due_at r (Listed m) k = Idle
-due_at r (In n true) k = if n == k + 1 then SendsAgain r n else Idle
-due_at r (In n false) k = if n == k then SendsEdit r k else Idle
+due_at r (Listed m ks) k = Idle
+due_at r (In n again (j ∷ js)) k = if n == k + 1 then SendsScript r j n else Idle
+due_at r (In n true []) k = if n == k + 1 then SendsAgain r n else Idle
+due_at r (In n false []) k = if n == k then SendsEdit r k else Idle
 due_at r (From j) k = if j == k then SendsEdit r k else Idle
 
 abbrev pub first_of_two : ServerOut → ServerOut → ServerOut
 first_of_two Idle o = o
 first_of_two (SendsEdit r k) o = SendsEdit r k
 first_of_two (SendsAgain r m) o = SendsAgain r m
+first_of_two (SendsScript r k m) o = SendsScript r k m
 first_of_two SendsBeat o = SendsBeat
 
 -- The due one that stands first in the journal; `before r` entries of r stand before this part of it.
@@ -135,6 +146,9 @@ entry_packet journal r k = record { message = RoEdit (record { ro = r; edit = ed
 abbrev pub again_packet : List Entry → Text → ℕ → Packet
 again_packet journal r m = record { message = RoEdit (record { ro = r; edit = edit_at journal r (m - 1) }); tag = OfAgain r m }
 
+abbrev pub script_packet : List Entry → Text → ℕ → ℕ → Packet
+script_packet journal r k m = record { message = RoEdit (record { ro = r; edit = edit_at journal r k }); tag = OfScript r k m }
+
 abbrev pub beat_or_due : Bool → ServerOut → ServerOut
 beat_or_due note Idle = if note then SendsBeat else Idle
 beat_or_due note o = o
@@ -144,6 +158,7 @@ sent journal now s c Idle = (s, None)
 sent journal now s c SendsBeat = (record { upper = Open c SendsBeat; note = false; link = s.link; views = s.views }, Some (untagged (Heartbeat now)))
 sent journal now s c (SendsEdit r k) = (record { upper = Open c (SendsEdit r k); note = s.note; link = s.link; views = s.views }, Some (entry_packet journal r k))
 sent journal now s c (SendsAgain r m) = (record { upper = Open c (SendsAgain r m); note = s.note; link = s.link; views = s.views }, Some (again_packet journal r m))
+sent journal now s c (SendsScript r k m) = (record { upper = Open c (SendsScript r k m); note = s.note; link = s.link; views = s.views }, Some (script_packet journal r k m))
 
 abbrev pub next_by : List Entry → MosTime → PeerState → Upper → PeerState × Option Packet
 next_by journal now s (Open c Idle) = sent journal now s c (beat_or_due s.note (first_due s.views (λ r. 0) journal))
@@ -158,7 +173,7 @@ peer_beat s = record s { note = is_open s.upper || s.note }
 
 -- device_accepted and device_dropped
 abbrev pub unlisted : View → View
-unlisted (Listed m) = Out
+unlisted (Listed m ks) = Out
 unlisted v = v
 
 abbrev pub peer_linked : Option ℕ → PeerState → PeerState
@@ -166,9 +181,9 @@ peer_linked c s = record { upper = s.upper; note = s.note; link = c; views = λ 
 
 -- hear
 
--- A heartbeat says that the device took the list; any other message says that it may not have.
+-- A heartbeat says that the device took the list, which has no scripts; any other message says that it may not have.
 abbrev pub settled : List Entry → Bool → Text → View → View
-settled journal beat r (Listed m) = if beat then In m (ready_before journal r m) else Out
+settled journal beat r (Listed m scripts) = if beat then In m (ready_before journal r m) scripts else Out
 settled journal beat r v = v
 
 abbrev pub peer_settled : List Entry → Bool → PeerState → PeerState
@@ -182,10 +197,11 @@ is_busy r (Open c Idle) = false
 is_busy r (Open c SendsBeat) = false
 is_busy r (Open c (SendsEdit q k)) = same_id r q
 is_busy r (Open c (SendsAgain q m)) = same_id r q
+is_busy r (Open c (SendsScript q k m)) = same_id r q
 
 abbrev pub list_of : Text → ℕ → Option Order → Packet
 list_of r m None = record { message = RoAck r NoRunningOrder; tag = OfList r m }
-list_of r m (Some o) = record { message = RoList r o; tag = OfList r m }
+list_of r m (Some o) = record { message = RoList r (bare o); tag = OfList r m }
 
 abbrev pub peer_hear : List Entry → PeerState → Message → PeerState × Packet
 peer_hear journal s (Heartbeat time) = (peer_settled journal true s, untagged (Heartbeat time))
@@ -194,7 +210,7 @@ peer_hear journal s (RoReq r) =
     if is_busy r s.upper
     then (peer_settled journal false s, untagged (RoAck r NotNow))
     else (
-      record { upper = s.upper; note = s.note; link = s.link; views = set_order (λ q. settled journal false q (s.views q)) r (Listed (entry_count journal r)) },
+      record { upper = s.upper; note = s.note; link = s.link; views = set_order (λ q. settled journal false q (s.views q)) r (Listed (entry_count journal r) (in_force journal r (entry_count journal r))) },
       list_of r (entry_count journal r) (order_now journal r),
     )
 peer_hear journal s (RoElementStat r) = (peer_settled journal false s, untagged (RoAck r Okay))

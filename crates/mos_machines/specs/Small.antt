@@ -1,6 +1,6 @@
 -- Orders whose numbers of samples are those that a field may have.
 use Rattle.std.specs.Prelude.{ℕ, ◌<◌, List, [], ◌∷◌, Option, Some, None}
-use Rattle.mos_edits.specs.Orders.{Item, Story, Order}
+use Rattle.mos_edits.specs.Orders.{Item, Story, OrderBody}
 
 -- a number of samples, where it is there, fits into 32 bits
 abbrev pub IsSmall : Option ℕ → Type 0
@@ -18,5 +18,5 @@ abbrev pub AreSmallStories : List Story → Type 0
 AreSmallStories [] = Unit {0}
 AreSmallStories (s ∷ ss) = AreSmallItems s.items × AreSmallStories ss
 
-abbrev pub IsSmallOrder : Order → Type 0
+abbrev pub IsSmallOrder : OrderBody → Type 0
 IsSmallOrder o = AreSmallStories o.stories

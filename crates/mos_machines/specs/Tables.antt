@@ -1,34 +1,15 @@
 -- The machines' states as contracts see them in code: a table by roID is a list of rows, ascending, and stands for a function
 -- with a default.
-use Rattle.std.specs.Prelude.{ℕ, List, [], ◌∷◌, map, get_or, Bool, false, Option, None, if◌then◌else◌, ◌||◌}
-use Rattle.mos_edits.specs.Texts.{Text, same_id, set_order}
+use Rattle.std.specs.Prelude.{ℕ, List, [], get_or, Bool, false, Option, None, ◌||◌}
+use Rattle.mos_edits.specs.Texts.{Text, set_order}
+pub use Rattle.mos_edits.specs.Rows.{look, put_row, row_ids, map_rows}
 use Rattle.mos_edits.specs.Orders.{Order}
-use Rattle.mos_edits.specs.Entries.{Entry, is_before, insert_id}
+use Rattle.mos_edits.specs.Entries.{Entry, insert_id}
 use Rattle.mos_machines.specs.Server.{Upper, View, PeerState}
 use Rattle.mos_machines.specs.Server.View.{Out}
 use Rattle.mos_machines.specs.Device.{GateOut, Phase, Confirmation, GateState, crossed, dropped_phase, is_for, is_confirmed, is_in}
 use Rattle.mos_machines.specs.Device.Phase.{OutOfStep}
 use Rattle.mos_machines.specs.Steps.{ServerState}
-
--- the value in the row of `r`, or the default where there is none
-abbrev pub look : {X : Type 0} → X → List (Text × X) → Text → X
-look default [] r = default
-look default (x ∷ xs) r = if same_id r x.0 then x.1 else look default xs r
-
--- the row of `r` written anew, at its place
-abbrev pub put_row : {X : Type 0} → Text → X → List (Text × X) → List (Text × X)
-put_row r value [] = (r, value) ∷ []
-put_row r value (x ∷ xs) =
-    if same_id r x.0 then (r, value) ∷ xs else (if is_before r x.0 then (r, value) ∷ (x ∷ xs) else x ∷ put_row r value xs)
-
--- the roIDs of the rows
-abbrev pub row_ids : {X : Type 0} → List (Text × X) → List Text
-row_ids rows = map (λ x. x.0) rows
-
--- each row's value changed
-abbrev pub map_rows : {X Y : Type 0} → (Text → X → Y) → List (Text × X) → List (Text × Y)
-map_rows f [] = []
-map_rows f (x ∷ xs) = (x.0, f x.0 x.1) ∷ map_rows f xs
 
 -- what a gateway knows of an order; of one that it doesn't know it holds none, out of step
 pub record KnownOrder : Type 0 where

@@ -26,7 +26,7 @@ seen carried.RoReqAll = RoReqAll
 seen (carried.RoList body) = RoList body.header.ro body
 seen (carried.RoListAll headers) = RoListAll headers
 seen (carried.RoElementStat status) = RoElementStat status.ro
-seen (carried.RoStorySend story) = OtherMessage story.ro
+seen (carried.RoStorySend script) = RoEdit (entry_of (edits.Script script))
 seen message = OtherMessage []
 
 -- The message that a machine writes. It writes no roElementStat and no other message; those would be a roAck.

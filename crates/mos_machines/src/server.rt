@@ -16,7 +16,7 @@ pub fn server_stays_within_its_journal()
     ensures step { (fails : Bool) (s : ServerState) (e : ServerEvent) → IsServerWithin s → IsServerWithin (server_step fails s e).1 }
 {}
 
-/// No entry is sent twice to a device, but a READY that is sent again: the next entry of an order that a device may be sent
+/// No entry is sent twice to a device, but a READY or a script that is sent again: the next entry of an order that a device may be sent
 /// never falls, and a sent entry was the next and isn't from then on.
 pub fn no_entry_is_sent_twice()
     ensures never_falls { (fails : Bool) (s : ServerState) (e : ServerEvent) → IsServerWithin s → (d : ℕ) (r : Text) → next_entry s.journal (s.peers d) r ≤ next_entry (server_step fails s e).1.journal ((server_step fails s e).1.peers d) r }

@@ -1,16 +1,17 @@
 -- An edit that is written is an entry of its order, or a READY that is sent again.
-use Rattle.std.proofs.Common.{◌≡◌, inl, inr, ℕ, ◌+◌, ◌-◌, ◌<◌, ◌≤◌, List, Bool, true, false, Option, Some, None, refl, sym, subst, if◌then◌else◌, ◌&&◌, nat_le}
+use Rattle.std.proofs.Common.{◌≡◌, inl, inr, ℕ, ◌+◌, List, [], ◌∷◌, arith, Bool, true, false, Option, Some, None, refl, sym, subst, if◌then◌else◌, ◌&&◌, nat_le}
 use Rattle.mos_edits.specs.Texts.{Text, set_number, set_order}
 use Rattle.mos_edits.specs.Orders.{Order}
-use Rattle.mos_edits.specs.Entries.{Entry, kind, entry_count, edit_at, order_now, acceptance}
-use Rattle.mos_edits.specs.Entries.Kind.{IsReady}
+use Rattle.mos_edits.specs.Entries.{Entry, entry_count, order_now, acceptance, in_force}
+use Rattle.mos_edits.specs.Scripts.{has_number}
+use Rattle.std.proofs.lemmas.Bool.Decides.{nat_tests}
 use Rattle.mos_machines.specs.Messages.{Message, Packet, untagged}
 use Rattle.mos_machines.specs.Messages.Status.{NotNow}
 use Rattle.mos_machines.specs.Messages.Message.{Heartbeat, RoEdit, RoAck, RoReq}
 use Rattle.mos_machines.specs.Server.{ServerOut, Upper, View, PeerState, upper_link, is_open, is_busy, list_of, settled, peer_settled, peer_hear, first_due, beat_or_due, sent, next_by, peer_next, Verdict, verdict}
-use Rattle.mos_machines.specs.Server.ServerOut.{Idle, SendsEdit, SendsAgain, SendsBeat}
+use Rattle.mos_machines.specs.Server.ServerOut.{Idle, SendsEdit, SendsAgain, SendsScript, SendsBeat}
 use Rattle.mos_machines.specs.Server.Upper.{Down, Greeting, Open}
-use Rattle.mos_machines.specs.Server.View.{Listed}
+use Rattle.mos_machines.specs.Server.View.{Listed, In}
 use Rattle.mos_machines.specs.Server.Verdict.{Takes, Fails, Refuses}
 use Rattle.mos_machines.specs.Views.{IsViewWithin, IsPeerWithin}
 use Rattle.mos_machines.specs.Device.{GateState, GateOut, Confirmation, Decks, gate_read, asked_next, first_wanted, next_if, gate_next}
@@ -49,8 +50,14 @@ module _ (journal : List Entry) where
   sent-edit s c SendsBeat i d = tt
   sent-edit s c (SendsEdit r k) i d = inl (k, d.0, refl)
   sent-edit s c (SendsAgain r m) i d =
-      let w : (0 < m) × (m ≤ entry_count journal r) × (kind (edit_at journal r (m - 1)) ≡ IsReady) = subst (λ (v : View). IsViewWithin journal r v) d (i.views r) in
-      inr (m, w.0, w.1, w.2, refl)
+      let w : IsViewWithin journal r (In m true []) = subst (λ (v : View). IsViewWithin journal r v) d (i.views r) in
+      inr (inl (m, w.1.0, w.0, w.1.1, refl))
+  sent-edit s c (SendsScript r k m) i d =
+      let w : IsViewWithin journal r (In m d.0 (k ∷ d.1)) = subst (λ (v : View). IsViewWithin journal r v) d.2 (i.views r) in
+      inr (inr (k, m, w.0, w.2 k (first k d.1), refl))
+    where
+      first : (k : ℕ) (ks : List ℕ) → has_number k (k ∷ ks) ≡ true
+      first k ks = grind (arith, nat_tests)
 
   next-edit : (s : PeerState) (u : Upper) → IsPeerWithin journal s → EditIn journal (next_by journal own_time s u).1
   next-edit s (Open c Idle) i = sent-edit s c (beat_or_due s.note (first_due s.views (λ r. 0) journal)) i (due-next journal s.views s.note (first_due s.views (λ r. 0) journal) (due_ok s.views (λ r. 0) journal))
@@ -63,7 +70,7 @@ module _ (journal : List Entry) where
   hear-edit : (s : PeerState) (m : Message) → IsEditOf journal (peer_hear journal s m).1 (peer_hear journal s m).1.message
   hear-edit s (RoReq q) = go (is_busy q s.upper)
     where
-      go : (b : Bool) → let x : PeerState × Packet = if b then (peer_settled journal false s, untagged (RoAck q NotNow)) else (record { upper = s.upper; note = s.note; link = s.link; views = set_order (λ r. settled journal false r (s.views r)) q (Listed (entry_count journal q)) }, list_of q (entry_count journal q) (order_now journal q)) in IsEditOf journal x.1 x.1.message
+      go : (b : Bool) → let x : PeerState × Packet = if b then (peer_settled journal false s, untagged (RoAck q NotNow)) else (record { upper = s.upper; note = s.note; link = s.link; views = set_order (λ r. settled journal false r (s.views r)) q (Listed (entry_count journal q) (in_force journal q (entry_count journal q))) }, list_of q (entry_count journal q) (order_now journal q)) in IsEditOf journal x.1 x.1.message
       go true = tt
       go false = list-edit q (entry_count journal q) (order_now journal q)
   hear-edit s m = tt

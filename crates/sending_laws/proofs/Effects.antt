@@ -2,7 +2,7 @@
 use Rattle.std.proofs.Common.{◌≡◌, ℕ, ◌+◌, List, [], Bool, true, false, Option, Some, None, refl, sym, subst, if◌then◌else◌}
 use Rattle.mos_edits.specs.Texts.{Text}
 use Rattle.mos_edits.specs.Orders.{Order}
-use Rattle.mos_edits.specs.Entries.{Entry, entry_count, order_now}
+use Rattle.mos_edits.specs.Entries.{Entry, entry_count, order_now, in_force}
 use Rattle.mos_machines.specs.Messages.{Message, Packet, Tag, untagged}
 use Rattle.mos_machines.specs.Messages.Status.{NotNow}
 use Rattle.mos_machines.specs.Messages.Message.{Heartbeat, RoAck, RoReq}
@@ -133,7 +133,7 @@ module _ (f : Tag → List ℕ) (plain : f Untagged ≡ []) where
     hear-tag journal s (Heartbeat t) = plain
     hear-tag journal s (RoReq q) = go (is_busy q s.upper)
       where
-        go : (b : Bool) → f (let x : PeerState × Packet = if b then (peer_settled journal false s, untagged (RoAck q NotNow)) else (record { upper = s.upper; note = s.note; link = s.link; views = set_order (λ r. settled journal false r (s.views r)) q (Listed (entry_count journal q)) }, list_of q (entry_count journal q) (order_now journal q)) in x.1.tag) ≡ []
+        go : (b : Bool) → f (let x : PeerState × Packet = if b then (peer_settled journal false s, untagged (RoAck q NotNow)) else (record { upper = s.upper; note = s.note; link = s.link; views = set_order (λ r. settled journal false r (s.views r)) q (Listed (entry_count journal q) (in_force journal q (entry_count journal q))) }, list_of q (entry_count journal q) (order_now journal q)) in x.1.tag) ≡ []
         go true = plain
         go false = list q (entry_count journal q) (order_now journal q)
     hear-tag journal s m = plain

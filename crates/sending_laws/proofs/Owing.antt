@@ -4,14 +4,14 @@ use Rattle.std.proofs.lemmas.Bool.Decides.{nat_tests}
 use Rattle.std.proofs.lemmas.List.{length-append}
 use Rattle.mos_edits.specs.Texts.{Text, same_id, set_order, set_number}
 use Rattle.mos_edits.specs.Orders.{Order}
-use Rattle.mos_edits.specs.Entries.{Entry, kind, edit_at, entry_count, order_now, acceptance}
+use Rattle.mos_edits.specs.Entries.{Entry, kind, edit_at, entry_count, order_now, in_force, acceptance}
 use Rattle.mos_edits.proofs.Identifiers.{same-true}
 use Rattle.mos_machines.specs.Messages.{Message, Packet, untagged}
 use Rattle.mos_machines.specs.Messages.Status.{NotNow}
 use Rattle.mos_machines.specs.Messages.Message.{Heartbeat, RoAck, RoReq}
 use Rattle.mos_machines.specs.Messages.Tag.{OfList}
-use Rattle.mos_machines.specs.Server.{ServerOut, Upper, View, PeerState, upper_link, is_open, is_whole, is_ready, is_success, is_busy, list_of, view_if, back_to, unasked, answered_by, unlisted, ready_before, settled, peer_settled, peer_hear, view_given, first_due, beat_or_due, sent, next_by, peer_next, Verdict, verdict}
-use Rattle.mos_machines.specs.Server.ServerOut.{Idle, SendsEdit, SendsAgain, SendsBeat}
+use Rattle.mos_machines.specs.Server.{ServerOut, Upper, View, PeerState, upper_link, is_open, is_whole, is_ready, is_success, is_busy, list_of, view_if, view_without, back_to, unasked, answered_by, unlisted, ready_before, settled, peer_settled, peer_hear, view_given, first_due, beat_or_due, sent, next_by, peer_next, Verdict, verdict}
+use Rattle.mos_machines.specs.Server.ServerOut.{Idle, SendsEdit, SendsAgain, SendsScript, SendsBeat}
 use Rattle.mos_machines.specs.Server.Upper.{Down, Greeting, Open}
 use Rattle.mos_machines.specs.Server.View.{Out, Listed, In, From}
 use Rattle.mos_machines.specs.Server.Verdict.{Takes, Fails, Refuses}
@@ -33,8 +33,8 @@ flying r u = false
 
 -- how many READYs of an order may go out again before the next list of it
 abbrev owed-by : Bool → View → ℕ
-owed-by flies (Listed m) = 1
-owed-by flies (In n true) = if flies then 0 else 1
+owed-by flies (Listed m ks) = 1
+owed-by flies (In n true scripts) = if flies then 0 else 1
 owed-by flies v = 0
 
 abbrev owed : PeerState → Text → ℕ
@@ -42,10 +42,10 @@ owed s r = owed-by (flying r s.upper) (s.views r)
 
 owed-one : (b : Bool) (v : View) → owed-by b v ≤ 1
 owed-one b Out = omega arith
-owed-one b (Listed m) = omega arith
-owed-one true (In n true) = omega arith
-owed-one false (In n true) = omega arith
-owed-one b (In n false) = omega arith
+owed-one b (Listed m ks) = omega arith
+owed-one true (In n true ks) = omega arith
+owed-one false (In n true ks) = omega arith
+owed-one b (In n false ks) = omega arith
 owed-one b (From k) = omega arith
 
 no-owed : (b : Bool) (n : ℕ) → owed-by false (view_if b n) ≡ 0
@@ -63,24 +63,24 @@ module _ (journal : List Entry) (r : Text) where
 
   linked-view : (b : Bool) (v : View) → owed-by b (unlisted v) ≤ owed-by b v
   linked-view b Out = omega arith
-  linked-view b (Listed m) = omega arith
-  linked-view b (In n a) = omega arith
+  linked-view b (Listed m ks) = omega arith
+  linked-view b (In n a ks) = omega arith
   linked-view b (From k) = omega arith
 
   settled-view : (heard b : Bool) (v : View) → owed-by b (settled journal heard r v) ≤ owed-by b v
   settled-view heard b Out = omega arith
-  settled-view true b (Listed m) = owed-one b (In m (ready_before journal r m))
-  settled-view false b (Listed m) = omega arith
-  settled-view heard b (In n a) = omega arith
+  settled-view true b (Listed m ks) = owed-one b (In m (ready_before journal r m) ks)
+  settled-view false b (Listed m ks) = omega arith
+  settled-view heard b (In n a ks) = omega arith
   settled-view heard b (From k) = omega arith
 
   given-view : (t b : Bool) (n : ℕ) (v : View) → owed-by b (view_given t n v) ≤ owed-by b v
   given-view true b n Out = omega arith
   given-view false b n Out = omega arith
-  given-view true b n (Listed m) = omega arith
-  given-view false b n (Listed m) = omega arith
-  given-view true b n (In m a) = omega arith
-  given-view false b n (In m a) = omega arith
+  given-view true b n (Listed m ks) = omega arith
+  given-view false b n (Listed m ks) = omega arith
+  given-view true b n (In m a ks) = omega arith
+  given-view false b n (In m a ks) = omega arith
   given-view true b n (From k) = omega arith
   given-view false b n (From k) = omega arith
 
@@ -102,11 +102,28 @@ module _ (journal : List Entry) (r : Text) where
       by true = least (owed-by false (view_if b k)) (owed-by true (s.views r)) (no-owed b k)
       by false = omega arith
 
+  without-owes : (b : Bool) (k : ℕ) (v : View) → owed-by false (view_without b k v) ≤ owed-by false v
+  without-owes true k Out = omega arith
+  without-owes true k (Listed m ks) = omega arith
+  without-owes true k (In n true ks) = omega arith
+  without-owes true k (In n false ks) = omega arith
+  without-owes true k (From j) = omega arith
+  without-owes false k v = omega arith
+
+  back-script : (s : PeerState) (c : ℕ) (q : Text) (b : Bool) (k : ℕ) (t : Bool) → owed (let x = if t then back_to s c q (view_without b k (s.views q)) else unasked s in x.0) r ≤ owed-by false (s.views r)
+  back-script s c q b k false = omega arith
+  back-script s c q b k true = by (same_id r q) refl
+    where
+      by : (z : Bool) → same_id r q ≡ z → owed-by false (if z then view_without b k (s.views q) else s.views r) ≤ owed-by false (s.views r)
+      by true e = subst (λ (y : Text). owed-by false (view_without b k (s.views q)) ≤ owed-by false (s.views y)) (sym (same-true r q e)) (without-owes b k (s.views q))
+      by false e = omega arith
+
   answered : (s : PeerState) (u : Upper) (m : Message) → owed (answered_by journal s u m).0 r ≤ owed-by (flying r u) (s.views r)
   answered s (Greeting c) (Heartbeat t) = omega arith
   answered s (Open c SendsBeat) (Heartbeat t) = omega arith
   answered s (Open c (SendsEdit q k)) (RoAck z t) = back-edit s c q (is_success (is_ready (kind (edit_at journal q k))) t) (k + 1) (same_id z q)
   answered s (Open c (SendsAgain q m)) (RoAck z t) = back-again s c q (is_success true t) m (same_id z q)
+  answered s (Open c (SendsScript q k m)) (RoAck z t) = back-script s c q (is_success false t) k (same_id z q)
   answered s u m = omega arith
 
   -- ---- an event at the device that neither sends nor hears
@@ -207,7 +224,7 @@ module _ (journal : List Entry) (r : Text) where
   again-of None = []
   again-of (Some p) = again_in r p.tag
 
-  again-owes : (v : View) (m : ℕ) (b : Bool) → (b ≡ true → v ≡ In m true) → length (if b then m ∷ [] else []) + owed-by b v ≤ owed-by false v
+  again-owes : (v : View) (m : ℕ) (b : Bool) → (b ≡ true → v ≡ In m true []) → length (if b then m ∷ [] else []) + owed-by b v ≤ owed-by false v
   again-owes v m true h = rw (h refl) (omega arith)
   again-owes v m false h = omega arith
 
@@ -215,7 +232,8 @@ module _ (journal : List Entry) (r : Text) where
   sent-owes s c Idle e d = rw e (omega arith)
   sent-owes s c SendsBeat e d = omega arith
   sent-owes s c (SendsEdit q k) e d = omega arith
-  sent-owes s c (SendsAgain q m) e d = again-owes (s.views r) m (same_id r q) (λ y. subst (λ (z : Text). s.views z ≡ In m true) (sym (same-true r q y)) d)
+  sent-owes s c (SendsAgain q m) e d = again-owes (s.views r) m (same_id r q) (λ y. subst (λ (z : Text). s.views z ≡ In m true []) (sym (same-true r q y)) d)
+  sent-owes s c (SendsScript q k m) e d = omega arith
 
   next-owes : (s : PeerState) (u : Upper) → s.upper ≡ u → length (again-of (next_by journal own_time s u).1) + owed (next_by journal own_time s u).0 r ≤ owed s r
   next-owes s (Open c Idle) e =
@@ -242,18 +260,18 @@ module _ (journal : List Entry) (r : Text) where
   list-tag q m None = refl
   list-tag q m (Some o) = refl
 
-  listed-owes : (t b : Bool) (n k : ℕ) (v : View) → owed-by b v ≤ k → owed-by b (if t then Listed n else v) ≤ k + length (if t then n ∷ [] else [])
-  listed-owes true b n k v h = omega arith
-  listed-owes false b n k v h = omega (arith, h)
+  listed-owes : (t b : Bool) (n k : ℕ) (ks : List ℕ) (v : View) → owed-by b v ≤ k → owed-by b (if t then Listed n ks else v) ≤ k + length (if t then n ∷ [] else [])
+  listed-owes true b n k ks v h = omega arith
+  listed-owes false b n k ks v h = omega (arith, h)
 
   hear-peer : (s : PeerState) (m : Message) → owed (peer_hear journal s m).0 r ≤ owed s r + length (list_in r (peer_hear journal s m).1.tag)
   hear-peer s (Heartbeat t) = let h = settled-view true (flying r s.upper) (s.views r) in omega (arith, h)
   hear-peer s (RoReq q) = go (is_busy q s.upper)
     where
-      go : (b : Bool) → let x : PeerState × Packet = if b then (peer_settled journal false s, untagged (RoAck q NotNow)) else (record { upper = s.upper; note = s.note; link = s.link; views = set_order (λ z. settled journal false z (s.views z)) q (Listed (entry_count journal q)) }, list_of q (entry_count journal q) (order_now journal q)) in owed x.0 r ≤ owed s r + length (list_in r x.1.tag)
+      go : (b : Bool) → let x : PeerState × Packet = if b then (peer_settled journal false s, untagged (RoAck q NotNow)) else (record { upper = s.upper; note = s.note; link = s.link; views = set_order (λ z. settled journal false z (s.views z)) q (Listed (entry_count journal q) (in_force journal q (entry_count journal q))) }, list_of q (entry_count journal q) (order_now journal q)) in owed x.0 r ≤ owed s r + length (list_in r x.1.tag)
       go true = let h = settled-view false (flying r s.upper) (s.views r) in omega (arith, h)
       go false =
-          rw (list-tag q (entry_count journal q) (order_now journal q)) (listed-owes (same_id r q) (flying r s.upper) (entry_count journal q) (owed s r) (settled journal false r (s.views r)) (settled-view false (flying r s.upper) (s.views r)))
+          rw (list-tag q (entry_count journal q) (order_now journal q)) (listed-owes (same_id r q) (flying r s.upper) (entry_count journal q) (owed s r) (in_force journal q (entry_count journal q)) (settled journal false r (s.views r)) (settled-view false (flying r s.upper) (s.views r)))
   hear-peer s m = let h = settled-view false (flying r s.upper) (s.views r) in omega (arith, h)
 
   hear : (l : Pairing) (o : Option ℕ) → owed (hears_if journal l o).0.peer r ≤ owed l.peer r + length (in_effect (list_in r) (hears_if journal l o).1)

@@ -6,7 +6,7 @@ use Rattle.mos_edits.specs.Entries.{Entry, entry_count}
 use Rattle.mos_edits.proofs.Identifiers.{same-true}
 use Rattle.mos_edits.proofs.Journals.{grown_push}
 use Rattle.mos_machines.specs.Messages.{Packet, Tag, is_link}
-use Rattle.mos_machines.specs.Messages.Tag.{Untagged, OfEntry, OfAgain, OfList}
+use Rattle.mos_machines.specs.Messages.Tag.{Untagged, OfEntry, OfAgain, OfScript, OfList}
 use Rattle.mos_machines.specs.Server.{Upper, PeerState, upper_link, peer_next}
 use Rattle.mos_machines.specs.Server.Upper.{Down, Greeting, Open}
 use Rattle.mos_machines.specs.Steps.{ServerState, ServerEvent, server_step, sent_answer, server_sent, unless_stale, is_upper}
@@ -116,6 +116,7 @@ send-sends w d r (Wrote p) h e n = go p.tag refl
     go : (t : Tag) → p.tag ≡ t → Sends (entry_in r t) (next_of (server_of w) d r) (next_of (server_of (world_step w (AtDevice d Send)).0) d r)
     go Untagged y = n
     go (OfAgain q m) y = n
+    go (OfScript q k m) y = n
     go (OfList q m) y = n
     go (OfEntry q k) y = by (same_id r q) refl
       where

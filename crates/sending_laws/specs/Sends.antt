@@ -1,12 +1,13 @@
 -- What a run sends its devices as edits.
-use Rattle.std.specs.Prelude.{◌≡◌, ℕ, ◌+◌, ◌-◌, ◌<◌, ◌≤◌, ◌⊎◌, List, [], ◌∷◌, ◌++◌, if◌then◌else◌, ◌==◌}
+use Rattle.std.specs.Prelude.{◌≡◌, ℕ, ◌+◌, ◌-◌, ◌<◌, ◌≤◌, ◌⊎◌, List, [], ◌∷◌, ◌++◌, if◌then◌else◌, ◌==◌, true}
 use Rattle.mos_edits.specs.Texts.{Text, same_id}
-use Rattle.mos_edits.specs.Entries.{Entry, kind, entry_count, edit_at}
+use Rattle.mos_edits.specs.Entries.{Entry, kind, entry_count, edit_at, in_force}
+use Rattle.mos_edits.specs.Scripts.{has_number}
 use Rattle.mos_edits.specs.Entries.Kind.{IsReady}
 use Rattle.mos_machines.specs.Messages.{Message, Packet, Tag}
 use Rattle.mos_machines.specs.Messages.Message.{RoEdit}
 use Rattle.mos_machines.specs.Messages.Tag.{OfEntry, OfAgain, OfList}
-use Rattle.mos_machines.specs.Server.{entry_packet, again_packet}
+use Rattle.mos_machines.specs.Server.{entry_packet, again_packet, script_packet}
 use Rattle.world_laws.specs.World.{World, WorldEvent, Effect, world_step}
 use Rattle.world_laws.specs.World.WorldEvent.{AtDevice}
 use Rattle.world_laws.specs.World.Effect.{Wrote}
@@ -68,7 +69,11 @@ IsEntrySent journal r p = (k : ℕ) × (k < entry_count journal r) × (p ≡ ent
 abbrev pub IsReadyAgain : List Entry → Text → Packet → Type 0
 IsReadyAgain journal r p = (m : ℕ) × (0 < m) × (m ≤ entry_count journal r) × (kind (edit_at journal r (m - 1)) ≡ IsReady) × (p ≡ again_packet journal r m)
 
--- an edit that is written is an entry of its order, or a READY of it that is sent again
+-- the packet is the script of entry `k` of the order, sent again: it stands after the first `m` entries
+abbrev pub IsScriptAgain : List Entry → Text → Packet → Type 0
+IsScriptAgain journal r p = (k : ℕ) × (m : ℕ) × (m ≤ entry_count journal r) × (has_number k (in_force journal r m) ≡ true) × (p ≡ script_packet journal r k m)
+
+-- an edit that is written is an entry of its order, or a READY or a script of it that is sent again
 abbrev pub IsEditOf : List Entry → Packet → Message → Type 0
-IsEditOf journal p (RoEdit e) = IsEntrySent journal e.ro p ⊎ IsReadyAgain journal e.ro p
+IsEditOf journal p (RoEdit e) = IsEntrySent journal e.ro p ⊎ IsReadyAgain journal e.ro p ⊎ IsScriptAgain journal e.ro p
 IsEditOf journal p message = Unit {0}

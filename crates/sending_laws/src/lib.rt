@@ -27,8 +27,8 @@ pub fn readies_are_sent_again_after_lists()
     ensures between { (w : World) (events : List WorldEvent) (d : ℕ) (r : Text) → length (readies_sent_again d r w events) ≤ length (lists_told d r w events) + 1 }
 {}
 
-/// Each edit that is written is an entry of its order as it stands in the journal, or a READY that is sent again; and it is
-/// tagged so. Devices write none.
+/// Each edit that is written is an entry of its order as it stands in the journal, or a READY or a script that is sent again;
+/// and it is tagged so. Devices write none.
 pub fn edits_are_entries()
     ensures { (w : World) (e : WorldEvent) (p : Packet) → IsReached w → (world_step w e).1 ≡ Effect.Wrote p → IsEditOf w.journal p p.message }
 {}

@@ -2,19 +2,19 @@
 -- P the server's lower link, Q the device's.
 use Rattle.std.specs.Prelude.{◌≡◌, ℕ, ◌<◌, ◌≤◌, ◌⊎◌, List, [], ◌∷◌, map, Bool, true, false, Option, Some, None, if◌then◌else◌, ◌==◌}
 use Rattle.mos_edits.specs.Texts.{Text, same_id}
-use Rattle.mos_edits.specs.Entries.{kind, Entry, entries, entry_count, edit_at, order_at}
+use Rattle.mos_edits.specs.Entries.{kind, Entry, entries, entry_count, edit_at, order_at, in_force}
 use Rattle.mos_machines.specs.Messages.{Status, Message, Tag, Packet, untagged}
-use Rattle.mos_machines.specs.Server.{ServerOut, Upper, View, list_of, is_success, is_ready, upper_link, entry_packet, again_packet}
+use Rattle.mos_machines.specs.Server.{ServerOut, Upper, View, list_of, is_success, is_ready, upper_link, entry_packet, again_packet, script_packet}
 use Rattle.mos_machines.specs.Device.{GateOut, Phase, is_for, is_no_order}
 use Rattle.mos_machines.specs.Messages.Message.{Heartbeat, RoEdit, RoAck, RoReq, RoReqAll}
-use Rattle.mos_machines.specs.Messages.Tag.{Untagged, OfEntry, OfAgain, OfList}
-use Rattle.mos_machines.specs.Server.ServerOut.{Idle, SendsEdit, SendsAgain, SendsBeat}
+use Rattle.mos_machines.specs.Messages.Tag.{Untagged, OfEntry, OfAgain, OfScript, OfList}
+use Rattle.mos_machines.specs.Server.ServerOut.{Idle, SendsEdit, SendsAgain, SendsScript, SendsBeat}
 use Rattle.mos_machines.specs.Server.Upper.{Down, Greeting, Open}
 use Rattle.mos_machines.specs.Device.GateOut.{NotAsking, AsksFor, AsksAll, AsksBeat}
 use Rattle.world_laws.specs.World.{Pairing, Connection, Opener, own_beat}
 use Rattle.world_laws.specs.World.Opener.{Nobody, TheServer, TheDevice}
 use Rattle.world_laws.proofs.Replication.{Transfer, InFlight, Request, Incoming, Replication}
-use Rattle.world_laws.proofs.Replication.Transfer.{TransferEntry, TransferAgain}
+use Rattle.world_laws.proofs.Replication.Transfer.{TransferEntry, TransferAgain, TransferScript}
 use Rattle.world_laws.proofs.Replication.InFlight.{NotConnected, Nothing, Unread, Acknowledged, Lost}
 use Rattle.world_laws.proofs.Replication.Request.{NotRequested, RequestSent, RequestLost, AnsweredWith}
 use Rattle.world_laws.proofs.Replication.Incoming.{NoneComes, AskComes, BeatComes, OtherComes}
@@ -75,6 +75,7 @@ channels l = record {
 abbrev pub transfer_of : Text → Tag → Option Transfer
 transfer_of r (OfEntry q k) = if same_id q r then Some (TransferEntry k) else None
 transfer_of r (OfAgain q m) = if same_id q r then Some (TransferAgain m) else None
+transfer_of r (OfScript q k m) = if same_id q r then Some (TransferScript k m) else None
 transfer_of r Untagged = None
 transfer_of r (OfList q m) = None
 
@@ -85,6 +86,7 @@ transfer_in r (p ∷ ps) = transfer_of r p.tag
 abbrev pub transfer_out : Text → ServerOut → Option Transfer
 transfer_out r (SendsEdit q k) = if same_id q r then Some (TransferEntry k) else None
 transfer_out r (SendsAgain q m) = if same_id q r then Some (TransferAgain m) else None
+transfer_out r (SendsScript q k m) = if same_id q r then Some (TransferScript k m) else None
 transfer_out r Idle = None
 transfer_out r SendsBeat = None
 
@@ -99,6 +101,7 @@ success_front ready (p ∷ ps) = success_message ready p.message
 abbrev pub ready_transfer : List Entry → Text → Transfer → Bool
 ready_transfer journal r (TransferEntry k) = is_ready (kind (edit_at journal r k))
 ready_transfer journal r (TransferAgain m) = true
+ready_transfer journal r (TransferScript k m) = false
 
 abbrev pub answer_in_flight : Bool → Transfer → InFlight
 answer_in_flight true i = Acknowledged i
@@ -144,8 +147,8 @@ abbrev pub incoming_in : Text → List Packet → Incoming
 incoming_in r [] = NoneComes
 incoming_in r (p ∷ ps) = incoming_by r p.message
 
-abbrev pub replication : List Entry → Channels → Text → View → Phase → ℕ → Replication
-replication journal w r view phase prefix = record {
+abbrev pub replication : List Entry → Channels → Text → View → Phase → ℕ → (ℕ → Bool) → Replication
+replication journal w r view phase prefix lacks = record {
   kinds = map kind (entries r journal);
   in_flight = in_flight_by journal w r w.upper;
   view = view;
@@ -154,6 +157,8 @@ replication journal w r view phase prefix = record {
   incoming = incoming_in r w.heard;
   phase = phase;
   prefix = prefix;
+  lacks = lacks;
+  in_force = λ m. in_force journal r m;
 }
 
 -- what the channels carry
@@ -171,6 +176,7 @@ abbrev pub IsNoEdit : Tag → Type 0
 IsNoEdit Untagged = Unit {0}
 IsNoEdit (OfEntry r k) = ⊥
 IsNoEdit (OfAgain r m) = ⊥
+IsNoEdit (OfScript r k m) = ⊥
 IsNoEdit (OfList r m) = ⊥
 
 abbrev pub NoEdits : List Packet → Type 0
@@ -183,6 +189,7 @@ abbrev pub Tagged : List Entry → Packet → Tag → Type 0
 Tagged journal p Untagged = (e : Entry) → p.message ≡ RoEdit e → ⊥
 Tagged journal p (OfEntry r k) = (p ≡ entry_packet journal r k) × (k < entry_count journal r)
 Tagged journal p (OfAgain r m) = p ≡ again_packet journal r m
+Tagged journal p (OfScript r k m) = (p ≡ script_packet journal r k m) × (k < entry_count journal r)
 Tagged journal p (OfList r m) = ⊥
 
 abbrev pub DownOk : List Entry → List Packet → Type 0
@@ -196,9 +203,11 @@ Carries journal Idle down up = down ≡ []
 Carries journal SendsBeat [] up = Unit {0}
 Carries journal (SendsEdit r k) [] up = Unit {0}
 Carries journal (SendsAgain r m) [] up = Unit {0}
+Carries journal (SendsScript r k m) [] up = Unit {0}
 Carries journal SendsBeat (p ∷ []) up = (p ≡ own_beat) × (up ≡ [])
 Carries journal (SendsEdit r k) (p ∷ []) up = (p ≡ entry_packet journal r k) × (up ≡ [])
 Carries journal (SendsAgain r m) (p ∷ []) up = (p ≡ again_packet journal r m) × (up ≡ [])
+Carries journal (SendsScript r k m) (p ∷ []) up = (p ≡ script_packet journal r k m) × (k < entry_count journal r) × (up ≡ [])
 Carries journal o (p ∷ q ∷ ps) up = ⊥
 
 -- what is unread to the server there
@@ -208,6 +217,7 @@ Answers o [] = Unit {0}
 Answers SendsBeat (p ∷ []) = p ≡ own_beat
 Answers (SendsEdit r k) (p ∷ []) = (t : Status) × (p ≡ untagged (RoAck r t))
 Answers (SendsAgain r m) (p ∷ []) = (t : Status) × (p ≡ untagged (RoAck r t))
+Answers (SendsScript r k m) (p ∷ []) = (t : Status) × (p ≡ untagged (RoAck r t))
 Answers o (p ∷ q ∷ ps) = ⊥
 
 abbrev pub UpperPartOk : List Entry → Channels → UpperPart → Type 0

@@ -1,16 +1,39 @@
-use Rattle.std.proofs.Common.{◌≡◌, ℕ, List, [], ◌∷◌, ◌++◌, Bool, false, Option, Some, arith, if◌then◌else◌}
+use Rattle.std.proofs.Common.{◌≡◌, ℕ, List, [], ◌∷◌, ◌++◌, Bool, true, false, Option, Some, arith, refl, if◌then◌else◌}
 use Rattle.std.proofs.lemmas.Bool.Decides.{nat_tests}
 use Rattle.mos_edits.specs.Texts.{Text, set_number}
 use Rattle.mos_edits.specs.Entries.{Entry}
 use Rattle.mos_machines.specs.Messages.{Message, Packet, untagged}
 use Rattle.mos_machines.specs.Device.{GateState}
+use Rattle.mos_machines.specs.Server.{ServerOut}
+use Rattle.mos_machines.specs.Server.ServerOut.{Idle, SendsEdit, SendsAgain, SendsScript, SendsBeat}
 use Rattle.world_laws.specs.World.{Pairing, Connection, Opener, write_server, rest}
-use Rattle.world_laws.proofs.Replication.{readable}
-use Rattle.world_laws.proofs.Channels.{Channels, ChannelsOk, PairingOk, transfer_in, in_flight_by, channels, same_link, accepted_of, to_device_of, to_server_of}
+use Rattle.world_laws.proofs.Replication.{Transfer, readable}
+use Rattle.world_laws.proofs.Channels.UpperPart.{NotOpen, Greets, Opened}
+use Rattle.world_laws.proofs.Channels.{Channels, UpperPart, UpperPartOk, ChannelsOk, PairingOk, NoEdits, Carries, open_in_flight, is_some_packet, success_transfer, transfer_out, transfer_in, in_flight_by, channels, same_link, accepted_of, to_device_of, to_server_of}
+
+readable-apart : (down : List Packet) (r : Text) (g : Bool) (x : Option Transfer) → NoEdits down → readable (open_in_flight false (is_some_packet down) g x) ≡ transfer_in r down
+readable-apart down r g x n = grind arith
+
+readable-joined : (journal : List Entry) (o : ServerOut) (down up : List Packet) (r : Text) → Carries journal o down up → readable (open_in_flight true (is_some_packet down) (success_transfer journal r (transfer_out r o) up) (transfer_out r o)) ≡ transfer_in r down
+readable-joined journal Idle down up r c = grind arith
+readable-joined journal SendsBeat down up r c = grind arith
+readable-joined journal (SendsEdit q k) down up r c = grind arith
+readable-joined journal (SendsAgain q m) down up r c = grind arith
+readable-joined journal (SendsScript q k m) down up r c = grind arith
+
+readable-open : (journal : List Entry) (o : ServerOut) (joined : Bool) (down up : List Packet) (r : Text) → (joined ≡ false → NoEdits down) → (joined ≡ true → Carries journal o down up)
+    → readable (open_in_flight joined (is_some_packet down) (success_transfer journal r (transfer_out r o) up) (transfer_out r o)) ≡ transfer_in r down
+readable-open journal o false down up r n c = readable-apart down r (success_transfer journal r (transfer_out r o) up) (transfer_out r o) (n refl)
+readable-open journal o true down up r n c = readable-joined journal o down up r (c refl)
 
 -- what the replication calls readable is what the device can read
 pub readable-in_flight : (journal : List Entry) (w : Channels) (r : Text) → ChannelsOk journal w → readable (in_flight_by journal w r w.upper) ≡ transfer_in r w.down
-readable-in_flight journal w r ok = grind arith
+readable-in_flight journal w r ok = by w.upper ok.upper_part
+  where
+    by : (u : UpperPart) → UpperPartOk journal w u → readable (in_flight_by journal w r u) ≡ transfer_in r w.down
+    by NotOpen x = refl
+    by Greets x = refl
+    by (Opened o) x = readable-open journal o w.joined w.down w.up r x.1 x.2
 
 abbrev pub pushed : Bool → Packet → List Packet → List Packet
 pushed lost p ps = if lost then ps else ps ++ p ∷ []

@@ -1,12 +1,14 @@
-use Rattle.std.proofs.Common.{◌≡◌, ℕ, ◌+◌, ◌<◌, ◌≤◌, ◌⊎◌, List, length, Bool, true, false, Option, Some, None, arith}
+use Rattle.std.proofs.Common.{◌≡◌, ℕ, ◌+◌, ◌<◌, ◌≤◌, ◌⊎◌, List, [], ◌∷◌, length, Bool, true, false, Option, Some, None, arith, refl, sym, subst, not, ◌&&◌, ◌==◌}
+use Rattle.std.proofs.lemmas.Bool.Decides.{nat_tests}
+use Rattle.mos_edits.specs.Scripts.{has_number, without_number}
 use Rattle.mos_edits.specs.Entries.{Kind}
 use Rattle.mos_edits.specs.Entries.Kind.{IsWhole}
 use Rattle.mos_machines.specs.Server.{View, unlisted}
 use Rattle.mos_machines.specs.Device.{Phase, crossed}
 use Rattle.mos_machines.specs.Server.View.{Out, Listed, In, From}
 use Rattle.mos_machines.specs.Device.Phase.{InStep, OutOfStep, Asked, Crossed}
-use Rattle.world_laws.proofs.Replication.{Transfer, InFlight, Request, Incoming, Replication, IsInvariant, readable, ReadyBefore, WholeAt, IsAsking}
-use Rattle.world_laws.proofs.Replication.Transfer.{TransferEntry, TransferAgain}
+use Rattle.world_laws.proofs.Replication.{Transfer, InFlight, Request, Incoming, Replication, IsInvariant, IsComplete, Fits, InFlightOk, readable, ReadyBefore, WholeAt, IsAsking}
+use Rattle.world_laws.proofs.Replication.Transfer.{TransferEntry, TransferAgain, TransferScript}
 use Rattle.world_laws.proofs.Replication.InFlight.{NotConnected, Nothing, Unread, Acknowledged, Lost}
 use Rattle.world_laws.proofs.Replication.Request.{NotRequested, RequestSent, RequestLost, AnsweredWith}
 use Rattle.world_laws.proofs.Replication.Incoming.{NoneComes, AskComes, BeatComes}
@@ -44,25 +46,52 @@ keeps_greeted l i r e = grind arith
 
 -- what is due
 abbrev pub Due : Replication → View → Transfer → Type 0
-Due l (In n true) i = i ≡ TransferAgain n
-Due l (In n false) i = (n < length l.kinds) × (i ≡ TransferEntry n)
+Due l (In n again (k ∷ ks)) i = i ≡ TransferScript k n
+Due l (In n true []) i = i ≡ TransferAgain n
+Due l (In n false []) i = (n < length l.kinds) × (i ≡ TransferEntry n)
 Due l (From k) i = i ≡ TransferEntry k
 Due l Out i = ⊥
-Due l (Listed m) i = ⊥
+Due l (Listed m ks) i = ⊥
 
 pub keeps_send : (l : Replication) → IsInvariant l → (x : Transfer) → l.in_flight ≡ Nothing → Due l l.view x → IsInvariant (record l { in_flight = Unread x })
-keeps_send l i x e d = grind arith
+keeps_send l i x e d = grind (arith, nat_tests)
 
 pub keeps_send_lost : (l : Replication) → IsInvariant l → (x : Transfer) → l.in_flight ≡ Nothing → Due l l.view x → IsInvariant (record l { in_flight = Lost x })
-keeps_send_lost l i x e d = grind arith
+keeps_send_lost l i x e d = grind (arith, nat_tests)
 
 -- the answer comes back
-abbrev pub after_success : Transfer → View
-after_success (TransferEntry k) = In (k + 1) false
-after_success (TransferAgain m) = In m false
+abbrev pub after_script : ℕ → View → View
+after_script k (In n again scripts) = In n again (without_number k scripts)
+after_script k v = Out
 
-pub keeps_back_success : (l : Replication) → IsInvariant l → (x : Transfer) → l.in_flight ≡ Acknowledged x → IsInvariant (record l { in_flight = Nothing; view = after_success x })
-keeps_back_success l i x e = grind arith
+abbrev pub after_success : View → Transfer → View
+after_success v (TransferEntry k) = In (k + 1) false []
+after_success v (TransferAgain m) = In m false []
+after_success v (TransferScript k m) = after_script k v
+
+pub has-without : (j k : ℕ) (ks : List ℕ) → has_number j (without_number k ks) ≡ has_number j ks && not (j == k)
+has-without j k [] = refl
+has-without j k (x ∷ xs) = step (has-without j k xs)
+  where
+    step : has_number j (without_number k xs) ≡ has_number j xs && not (j == k) → has_number j (without_number k (x ∷ xs)) ≡ has_number j (x ∷ xs) && not (j == k)
+    step h = grind (arith, nat_tests)
+
+back_entry : (l : Replication) → IsInvariant l → (k : ℕ) → l.in_flight ≡ Acknowledged (TransferEntry k) → IsInvariant (record l { in_flight = Nothing; view = In (k + 1) false [] })
+back_entry l i k e = grind arith
+
+back_again : (l : Replication) → IsInvariant l → (m : ℕ) → l.in_flight ≡ Acknowledged (TransferAgain m) → IsInvariant (record l { in_flight = Nothing; view = In m false [] })
+back_again l i m e = grind arith
+
+back_script : (l : Replication) → IsInvariant l → (k m n : ℕ) (a : Bool) (ks : List ℕ) → l.in_flight ≡ Acknowledged (TransferScript k m) → l.view ≡ In n a ks → IsInvariant (record l { in_flight = Nothing; view = In n a (without_number k ks) })
+back_script l i k m n a ks e v = grind (arith, nat_tests, has-without)
+
+pub keeps_back_success : (l : Replication) → IsInvariant l → (x : Transfer) → l.in_flight ≡ Acknowledged x → IsInvariant (record l { in_flight = Nothing; view = after_success l.view x })
+keeps_back_success l i (TransferEntry k) e = back_entry l i k e
+keeps_back_success l i (TransferAgain m) e = back_again l i m e
+keeps_back_success l i (TransferScript k m) e =
+    let o : InFlightOk l (Acknowledged (TransferScript k m)) = subst (λ (t : InFlight). InFlightOk l t) e i.in_flight in
+    let f : Fits l.kinds l.view (TransferScript k m) = o.0 in
+    subst (λ (v : View). IsInvariant (record l { in_flight = Nothing; view = after_script k v })) (sym f.2) (back_script l i k m m f.0 (k ∷ f.1) e f.2)
 
 pub keeps_back_bad : (l : Replication) → IsInvariant l → (x : Transfer) → l.in_flight ≡ Lost x → IsInvariant (record l { in_flight = Nothing; view = Out })
 keeps_back_bad l i x e = grind arith
@@ -85,12 +114,12 @@ pub keeps_read_refused : (l : Replication) → IsInvariant l → (x : Transfer) 
 keeps_read_refused l i x e a = grind arith
 
 -- a whole-order edit: held
-pub keeps_read_whole : (l : Replication) → IsInvariant l → (k : ℕ) → readable l.in_flight ≡ Some (TransferEntry k) → WholeAt l.kinds k → (IsAsking l.phase → ⊥) → IsInvariant (record l { in_flight = done l.in_flight (TransferEntry k); phase = InStep; prefix = k + 1 })
+pub keeps_read_whole : (l : Replication) → IsInvariant l → (k : ℕ) → readable l.in_flight ≡ Some (TransferEntry k) → WholeAt l.kinds k → (IsAsking l.phase → ⊥) → IsInvariant (record l { in_flight = done l.in_flight (TransferEntry k); phase = InStep; prefix = k + 1; lacks = λ j. false })
 keeps_read_whole l i k e w a = grind arith
 
 -- an entry that applies, in step
-pub keeps_read_step : (l : Replication) → IsInvariant l → (k : ℕ) → readable l.in_flight ≡ Some (TransferEntry k) → k ≡ l.prefix → l.phase ≡ InStep → IsInvariant (record l { in_flight = done l.in_flight (TransferEntry k); prefix = k + 1 })
-keeps_read_step l i k e w a = grind arith
+pub keeps_read_step : (l : Replication) → IsInvariant l → (k : ℕ) → readable l.in_flight ≡ Some (TransferEntry k) → k ≡ l.prefix → IsComplete l → l.phase ≡ InStep → IsInvariant (record l { in_flight = done l.in_flight (TransferEntry k); prefix = k + 1 })
+keeps_read_step l i k e w c a = grind arith
 
 -- NOT READY out of step: answered OK
 pub keeps_read_passed : (l : Replication) → IsInvariant l → (k : ℕ) → readable l.in_flight ≡ Some (TransferEntry k) → l.phase ≡ OutOfStep → IsInvariant (record l { in_flight = done l.in_flight (TransferEntry k) })
@@ -140,41 +169,41 @@ keeps_ask_gone l i a = grind arith
 pub keeps_incoming_gone : (l : Replication) → IsInvariant l → IsInvariant (record l { incoming = NoneComes })
 keeps_incoming_gone l i = grind arith
 
-pub keeps_got_list : (l : Replication) → IsInvariant l → (m : ℕ) → l.ask ≡ AnsweredWith m → l.phase ≡ Asked → IsInvariant (record l { ask = NotRequested; phase = InStep; prefix = m })
+pub keeps_got_list : (l : Replication) → IsInvariant l → (m : ℕ) → l.ask ≡ AnsweredWith m → l.phase ≡ Asked → IsInvariant (record l { ask = NotRequested; phase = InStep; prefix = m; lacks = λ j. has_number j (l.in_force m) })
 keeps_got_list l i m e a = grind arith
 
-pub keeps_got_crossed : (l : Replication) → IsInvariant l → (m : ℕ) → l.ask ≡ AnsweredWith m → l.phase ≡ Crossed → IsInvariant (record l { ask = NotRequested; phase = OutOfStep; prefix = m })
+pub keeps_got_crossed : (l : Replication) → IsInvariant l → (m : ℕ) → l.ask ≡ AnsweredWith m → l.phase ≡ Crossed → IsInvariant (record l { ask = NotRequested; phase = OutOfStep; prefix = m; lacks = λ j. has_number j (l.in_force m) })
 keeps_got_crossed l i m e a = grind arith
 
 pub keeps_got_other : (l : Replication) → IsInvariant l → (l.ask ≡ RequestSent → ⊥) → IsInvariant (record l { ask = NotRequested; phase = OutOfStep })
 keeps_got_other l i a = grind arith
 
 -- the server hears
-abbrev pub heard : List Kind → View → Bool → Bool → View
-heard kinds Out beat ready = Out
-heard kinds (Listed m) true ready = In m ready
-heard kinds (Listed m) false ready = Out
-heard kinds (In n again) beat ready = In n again
-heard kinds (From k) beat ready = From k
+abbrev pub heard : View → Bool → Bool → View
+heard Out beat ready = Out
+heard (Listed m scripts) true ready = In m ready scripts
+heard (Listed m scripts) false ready = Out
+heard (In n again scripts) beat ready = In n again scripts
+heard (From k) beat ready = From k
 
-pub keeps_hear_beat : (l : Replication) → IsInvariant l → (ready : Bool) → ((m : ℕ) → l.view ≡ Listed m → ready ≡ true → ReadyBefore l.kinds m) → l.incoming ≡ BeatComes → IsInvariant (record l { view = heard l.kinds l.view true ready; incoming = NoneComes })
+pub keeps_hear_beat : (l : Replication) → IsInvariant l → (ready : Bool) → ((m : ℕ) (ks : List ℕ) → l.view ≡ Listed m ks → ready ≡ true → ReadyBefore l.kinds m) → l.incoming ≡ BeatComes → IsInvariant (record l { view = heard l.view true ready; incoming = NoneComes })
 keeps_hear_beat l i ready h e = grind arith
 
-pub keeps_hear_other : (l : Replication) → IsInvariant l → (ready : Bool) → IsInvariant (record l { view = heard l.kinds l.view false ready; incoming = NoneComes })
+pub keeps_hear_other : (l : Replication) → IsInvariant l → (ready : Bool) → IsInvariant (record l { view = heard l.view false ready; incoming = NoneComes })
 keeps_hear_other l i ready = grind arith
 
 -- a request of this order: NOT NOW
-pub keeps_hear_not_now : (l : Replication) → IsInvariant l → (ready : Bool) → l.live ≡ true → l.incoming ≡ AskComes → IsInvariant (record l { view = heard l.kinds l.view false ready; incoming = NoneComes; ask = RequestLost })
+pub keeps_hear_not_now : (l : Replication) → IsInvariant l → (ready : Bool) → l.live ≡ true → l.incoming ≡ AskComes → IsInvariant (record l { view = heard l.view false ready; incoming = NoneComes; ask = RequestLost })
 keeps_hear_not_now l i ready a b = grind arith
 
 abbrev pub answers : Bool → ℕ → Request → Request
 answers true n old = AnsweredWith n
 answers false n old = old
 
-pub keeps_hear_ask : (l : Replication) → IsInvariant l → l.in_flight ≡ Nothing → l.incoming ≡ AskComes → IsInvariant (record l { view = Listed (length l.kinds); incoming = NoneComes; ask = answers l.live (length l.kinds) l.ask })
+pub keeps_hear_ask : (l : Replication) → IsInvariant l → l.in_flight ≡ Nothing → l.incoming ≡ AskComes → IsInvariant (record l { view = Listed (length l.kinds) (l.in_force (length l.kinds)); incoming = NoneComes; ask = answers l.live (length l.kinds) l.ask })
 keeps_hear_ask l i a b = grind arith
 
-pub keeps_reboot : (l : Replication) → IsInvariant l → IsInvariant (record l { in_flight = unread_gone l.in_flight; ask = NotRequested; live = false; phase = OutOfStep; prefix = 0 })
+pub keeps_reboot : (l : Replication) → IsInvariant l → IsInvariant (record l { in_flight = unread_gone l.in_flight; ask = NotRequested; live = false; phase = OutOfStep; prefix = 0; lacks = λ j. false })
 keeps_reboot l i = grind arith
 
 -- an entry is appended
@@ -189,13 +218,15 @@ abbrev pub given : Bool → Kind → ℕ → View → View
 given true IsWhole n Out = From n
 given b k n v = v
 
-pub keeps_grow : (l : Replication) → IsInvariant l → (ks : List Kind) → Grows l.kinds ks → IsInvariant (record l { kinds = ks })
-keeps_grow l i ks g = record {
+-- the scripts in force after no more entries than there were stay so
+pub keeps_grow : (l : Replication) → IsInvariant l → (ks : List Kind) (force : ℕ → List ℕ) → Grows l.kinds ks → ((m : ℕ) → m ≤ length l.kinds → force m ≡ l.in_force m) → IsInvariant (record l { kinds = ks; in_force = force })
+keeps_grow l i ks force g h = record {
   prefix = grind (arith, g.same_id);
-  read = grind (arith, g.same_id);
+  read = grind (arith, g.same_id, h);
   in_flight = grind (arith, g.same_id);
-  view = grind (arith, g.same_id);
+  view = grind (arith, g.same_id, h);
   ask = grind (arith, g.same_id);
+  lacking = grind (arith, h, i.prefix);
   heard = i.heard;
 }
 
@@ -211,17 +242,21 @@ answered true (Acknowledged j) = Acknowledged j
 answered true (Lost j) = Lost j
 answered false t = unread_gone t
 
-pub keeps_reads_whole : (l : Replication) → IsInvariant l → (k : ℕ) (b : Bool) → readable l.in_flight ≡ Some (TransferEntry k) → WholeAt l.kinds k → (IsAsking l.phase → ⊥) → IsInvariant (record l { in_flight = answered b l.in_flight; phase = InStep; prefix = k + 1 })
+pub keeps_reads_whole : (l : Replication) → IsInvariant l → (k : ℕ) (b : Bool) → readable l.in_flight ≡ Some (TransferEntry k) → WholeAt l.kinds k → (IsAsking l.phase → ⊥) → IsInvariant (record l { in_flight = answered b l.in_flight; phase = InStep; prefix = k + 1; lacks = λ j. false })
 keeps_reads_whole l i k b e w a = grind arith
 
-pub keeps_reads_step : (l : Replication) → IsInvariant l → (k : ℕ) (b : Bool) → readable l.in_flight ≡ Some (TransferEntry k) → k ≡ l.prefix → l.phase ≡ InStep → IsInvariant (record l { in_flight = answered b l.in_flight; prefix = k + 1 })
-keeps_reads_step l i k b e w a = grind arith
+pub keeps_reads_step : (l : Replication) → IsInvariant l → (k : ℕ) (b : Bool) → readable l.in_flight ≡ Some (TransferEntry k) → k ≡ l.prefix → IsComplete l → l.phase ≡ InStep → IsInvariant (record l { in_flight = answered b l.in_flight; prefix = k + 1 })
+keeps_reads_step l i k b e w c a = grind arith
 
 pub keeps_reads_passed : (l : Replication) → IsInvariant l → (k : ℕ) (b : Bool) → readable l.in_flight ≡ Some (TransferEntry k) → l.phase ≡ OutOfStep → IsInvariant (record l { in_flight = answered b l.in_flight })
 keeps_reads_passed l i k b e a = grind arith
 
 pub keeps_reads_again : (l : Replication) → IsInvariant l → (m : ℕ) (b : Bool) → readable l.in_flight ≡ Some (TransferAgain m) → IsInvariant (record l { in_flight = answered b l.in_flight })
 keeps_reads_again l i m b e = grind arith
+
+-- a script sent again
+pub keeps_reads_script : (l : Replication) → IsInvariant l → (k m : ℕ) (b : Bool) → readable l.in_flight ≡ Some (TransferScript k m) → l.phase ≡ InStep → IsInvariant (record l { in_flight = answered b l.in_flight; lacks = λ j. l.lacks j && not (j == k) })
+keeps_reads_script l i k m b e a = grind (arith, nat_tests)
 
 -- losses
 abbrev pub LostInFlight : InFlight → InFlight → Type 0

@@ -21,5 +21,6 @@ pub mod SafeGot
 pub mod SafeRun
 pub mod RunWords
 pub mod Runs
+pub mod ScriptRuns
 pub mod MachineCalls
 pub mod Reaching

@@ -37,31 +37,31 @@ incoming_ask journal w r lost a m ok q = grind arith
 incoming_lost : (journal : List Entry) (w : Channels) (r : Text) (a : GateOut) (m : Message) → ChannelsOk journal w → w.out ≡ NotAsking → incoming_in r (ask_channels w true a m).heard ≡ incoming_in r w.heard
 incoming_lost journal w r a m ok q = grind arith
 
-replication_tell : (journal : List Entry) (w : Channels) (r : Text) (lost : Bool) (a : GateOut) (m : Message) (view : View) (phase : Phase) (prefix : ℕ) → ChannelsOk journal w → w.out ≡ NotAsking → is_for r a ≡ false → (incoming_by r m ≡ AskComes → ⊥) → IsInvariant (replication journal w r view phase prefix)
-    → IsInvariant (replication journal (ask_channels w lost a m) r view phase prefix)
-replication_tell journal w r lost a m view phase prefix ok q f n i =
+replication_tell : (journal : List Entry) (w : Channels) (r : Text) (lost : Bool) (a : GateOut) (m : Message) (view : View) (phase : Phase) (prefix : ℕ) (lacks : ℕ → Bool) → ChannelsOk journal w → w.out ≡ NotAsking → is_for r a ≡ false → (incoming_by r m ≡ AskComes → ⊥) → IsInvariant (replication journal w r view phase prefix lacks)
+    → IsInvariant (replication journal (ask_channels w lost a m) r view phase prefix lacks)
+replication_tell journal w r lost a m view phase prefix lacks ok q f n i =
     let t : ask_of w r ≡ NotRequested = rw q refl in
     let u : ask_of (ask_channels w lost a m) r ≡ NotRequested = rw f refl in
-    let k = keeps_tell (replication journal w r view phase prefix) i (said lost (incoming_by r m)) t (not_asks lost n) in
+    let k = keeps_tell (replication journal w r view phase prefix lacks) i (said lost (incoming_by r m)) t (not_asks lost n) in
     rw (incoming_ask journal w r lost a m ok q, u) (rw t at k)
   where
     not_asks : (b : Bool) → (incoming_by r m ≡ AskComes → ⊥) → said b (incoming_by r m) ≡ AskComes → ⊥
     not_asks true n e = cc
     not_asks false n e = n e
 
-replication_ask : (journal : List Entry) (w : Channels) (r : Text) (lost : Bool) (view : View) (phase : Phase) (prefix : ℕ) → ChannelsOk journal w → w.out ≡ NotAsking → IsInvariant (replication journal w r view phase prefix)
-    → IsInvariant (replication journal (ask_channels w lost (AsksFor r) (RoReq r)) r view Asked prefix)
-replication_ask journal w r false view phase prefix ok q i =
+replication_ask : (journal : List Entry) (w : Channels) (r : Text) (lost : Bool) (view : View) (phase : Phase) (prefix : ℕ) (lacks : ℕ → Bool) → ChannelsOk journal w → w.out ≡ NotAsking → IsInvariant (replication journal w r view phase prefix lacks)
+    → IsInvariant (replication journal (ask_channels w lost (AsksFor r) (RoReq r)) r view Asked prefix lacks)
+replication_ask journal w r false view phase prefix lacks ok q i =
     let t : ask_of w r ≡ NotRequested = rw q refl in
     let s : w.sent ≡ [] = let x = ok.requests in grind arith in
     let u : ask_of (ask_channels w false (AsksFor r) (RoReq r)) r ≡ RequestSent = rw (same-self r, s) refl in
     let c : incoming_by r (RoReq r) ≡ AskComes = rw (same-self r) refl in
-    rw (incoming_ask journal w r false (AsksFor r) (RoReq r) ok q, u, c) (keeps_ask (replication journal w r view phase prefix) i t)
-replication_ask journal w r true view phase prefix ok q i =
+    rw (incoming_ask journal w r false (AsksFor r) (RoReq r) ok q, u, c) (keeps_ask (replication journal w r view phase prefix lacks) i t)
+replication_ask journal w r true view phase prefix lacks ok q i =
     let t : ask_of w r ≡ NotRequested = rw q refl in
     let s : (w.sent ≡ []) × (w.got ≡ []) = let x = ok.requests in let y = ok.answer in grind arith in
     let u : ask_of (ask_channels w true (AsksFor r) (RoReq r)) r ≡ RequestLost = rw (same-self r, s.0, s.1) refl in
-    rw (incoming_lost journal w r (AsksFor r) (RoReq r) ok q, u) (keeps_ask_lost (replication journal w r view phase prefix) i t)
+    rw (incoming_lost journal w r (AsksFor r) (RoReq r) ok q, u) (keeps_ask_lost (replication journal w r view phase prefix lacks) i t)
 
 abbrev pub pairing_ask : Pairing → ℕ → GateState → Message → Pairing
 pairing_ask l c g m = record l { gate = g; connections = set_number l.connections c (write_server (untagged m) (l.connections c)) }
@@ -69,8 +69,8 @@ pairing_ask l c g m = record l { gate = g; connections = set_number l.connection
 channels_ask : (journal : List Entry) (count : ℕ) (l : Pairing) (c : ℕ) (g : GateState) (m : Message) → PairingOk journal count l → l.gate.link ≡ Some c → g.link ≡ Some c → g.upper ≡ l.gate.upper → channels (pairing_ask l c g m) ≡ ask_channels (channels l) (l.connections c).lost_server g.out m
 channels_ask journal count l c g m ok e f u = let o = ok.dialed c e in grind (arith, nat_tests, ok.upper)
 
-inv_ask : (journal : List Entry) (count : ℕ) (l : Pairing) (c : ℕ) (g : GateState) (m : Message) → PairingInvariant journal count l → l.gate.link ≡ Some c → l.gate.out ≡ NotAsking → g.link ≡ l.gate.link → g.upper ≡ l.gate.upper → g.held ≡ l.gate.held → Requests g.out (untagged m ∷ [])
-    → ((r : Text) → IsInvariant (replication journal (ask_channels (channels l) (l.connections c).lost_server g.out m) r (l.peer.views r) (g.phase r) (l.applied r))) → PairingInvariant journal count (pairing_ask l c g m)
+inv_ask : (journal : List Entry) (count : ℕ) (l : Pairing) (c : ℕ) (g : GateState) (m : Message) → (i : PairingInvariant journal count l) → l.gate.link ≡ Some c → l.gate.out ≡ NotAsking → g.link ≡ l.gate.link → g.upper ≡ l.gate.upper → g.held ≡ l.gate.held → Requests g.out (untagged m ∷ [])
+    → ((r : Text) → IsInvariant (replication journal (ask_channels (channels l) (l.connections c).lost_server g.out m) r (l.peer.views r) (g.phase r) (l.applied r) (i.lacks r))) → PairingInvariant journal count (pairing_ask l c g m)
 inv_ask journal count l c g m i e q k u h a each =
     let w = channels_ask journal count l c g m i.ok e (k ∙ e) u in
     let s : (l.connections c).to_server ≡ [] = let x = i.ok.channels_ok.requests in grind arith in
@@ -86,21 +86,22 @@ inv_ask journal count l c g m i e q k u h a each =
         silent = λ z. cc;
         channels_ok = subst (λ (x : Channels). ChannelsOk journal x) (sym w) (wired_ask journal (channels l) (l.connections c).lost_server g.out m i.ok.channels_ok q a);
       };
-      replications = λ r. subst (λ (x : Channels). IsInvariant (replication journal x r (l.peer.views r) (g.phase r) (l.applied r))) (sym w) (each r);
+      lacks = i.lacks;
+      replications = λ r. subst (λ (x : Channels). IsInvariant (replication journal x r (l.peer.views r) (g.phase r) (l.applied r) (i.lacks r))) (sym w) (each r);
       holds = λ r. rw h (i.holds r);
     }
 
 tell_ok : (journal : List Entry) (count : ℕ) (l : Pairing) (c : ℕ) (g : GateState) (m : Message) → PairingInvariant journal count l → l.gate.link ≡ Some c → l.gate.out ≡ NotAsking → g.link ≡ l.gate.link → g.upper ≡ l.gate.upper → g.held ≡ l.gate.held → g.phase ≡ l.gate.phase → Requests g.out (untagged m ∷ [])
     → ((r : Text) → (is_for r g.out ≡ false) × (incoming_by r m ≡ AskComes → ⊥)) → PairingInvariant journal count (pairing_ask l c g m)
 tell_ok journal count l c g m i e q k u h p a n =
-    inv_ask journal count l c g m i e q k u h a (λ r. rw p (replication_tell journal (channels l) r (l.connections c).lost_server g.out m (l.peer.views r) (l.gate.phase r) (l.applied r) i.ok.channels_ok q (n r).0 (n r).1 (i.replications r)))
+    inv_ask journal count l c g m i e q k u h a (λ r. rw p (replication_tell journal (channels l) r (l.connections c).lost_server g.out m (l.peer.views r) (l.gate.phase r) (l.applied r) (i.lacks r) i.ok.channels_ok q (n r).0 (n r).1 (i.replications r)))
 
 asks_for : (journal : List Entry) (count : ℕ) (l : Pairing) (c : ℕ) (z : Text) → PairingInvariant journal count l → l.gate.link ≡ Some c → l.gate.out ≡ NotAsking → PairingInvariant journal count (pairing_ask l c (record l.gate { out = AsksFor z; phase = set_order l.gate.phase z Asked; wanted = set_order l.gate.wanted z false }) (RoReq z))
 asks_for journal count l c z i e q = inv_ask journal count l c (record l.gate { out = AsksFor z; phase = set_order l.gate.phase z Asked; wanted = set_order l.gate.wanted z false }) (RoReq z) i e q refl refl refl refl (λ r. each r (same_id r z) refl)
   where
-    each : (r : Text) (b : Bool) → same_id r z ≡ b → IsInvariant (replication journal (ask_channels (channels l) (l.connections c).lost_server (AsksFor z) (RoReq z)) r (l.peer.views r) (if b then Asked else l.gate.phase r) (l.applied r))
-    each r true s = subst (λ (y : Text). IsInvariant (replication journal (ask_channels (channels l) (l.connections c).lost_server (AsksFor z) (RoReq z)) y (l.peer.views y) Asked (l.applied y))) (sym (same-true r z s)) (replication_ask journal (channels l) z (l.connections c).lost_server (l.peer.views z) (l.gate.phase z) (l.applied z) i.ok.channels_ok q (i.replications z))
-    each r false s = replication_tell journal (channels l) r (l.connections c).lost_server (AsksFor z) (RoReq z) (l.peer.views r) (l.gate.phase r) (l.applied r) i.ok.channels_ok q s (λ x. let y = rw s at x in cc) (i.replications r)
+    each : (r : Text) (b : Bool) → same_id r z ≡ b → IsInvariant (replication journal (ask_channels (channels l) (l.connections c).lost_server (AsksFor z) (RoReq z)) r (l.peer.views r) (if b then Asked else l.gate.phase r) (l.applied r) (i.lacks r))
+    each r true s = subst (λ (y : Text). IsInvariant (replication journal (ask_channels (channels l) (l.connections c).lost_server (AsksFor z) (RoReq z)) y (l.peer.views y) Asked (l.applied y) (i.lacks y))) (sym (same-true r z s)) (replication_ask journal (channels l) z (l.connections c).lost_server (l.peer.views z) (l.gate.phase z) (l.applied z) (i.lacks z) i.ok.channels_ok q (i.replications z))
+    each r false s = replication_tell journal (channels l) r (l.connections c).lost_server (AsksFor z) (RoReq z) (l.peer.views r) (l.gate.phase r) (l.applied r) (i.lacks r) i.ok.channels_ok q s (λ x. let y = rw s at x in cc) (i.replications r)
 
 asks_next : (journal : List Entry) (count : ℕ) (l : Pairing) (c : ℕ) (k : Confirmation) (all : Bool) (want : Option Text) (note : Bool) → PairingInvariant journal count l → l.gate.link ≡ Some c → l.gate.out ≡ NotAsking → PairingInvariant journal count (asks_on l c (asked_next own_time l.gate k all want note)).0
 asks_next journal count l c (Due z) all want note i e q = tell_ok journal count l c (record l.gate { confirm = Unanswered z; out = AsksBeat }) (Heartbeat own_time) i e q refl refl refl refl refl (λ r. (refl, λ x. cc))

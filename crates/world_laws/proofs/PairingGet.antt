@@ -1,9 +1,12 @@
 -- The event `got d`.
-use Rattle.std.proofs.Common.{◌≡◌, ℕ, List, [], ◌∷◌, map, Bool, true, false, Option, Some, None, arith, refl, if◌then◌else◌, sym, ap, ◌∙◌, subst, inl, inr}
+use Rattle.std.proofs.Common.{◌≡◌, ℕ, ◌≤◌, List, [], ◌∷◌, Bool, true, false, Option, Some, None, arith, refl, if◌then◌else◌, sym, ap, ◌∙◌, subst, inl, inr}
 use Rattle.std.proofs.lemmas.Bool.Decides.{nat_tests}
 use Rattle.mos_edits.specs.Texts.{Text, same_id, set_order, set_number}
-use Rattle.mos_edits.specs.Orders.{Order}
-use Rattle.mos_edits.specs.Entries.{kind, Entry, entries, order_at}
+use Rattle.mos_edits.specs.Orders.{Order, bare, order_of}
+use Rattle.mos_edits.specs.Entries.{Entry, entry_count, order_at, in_force}
+use Rattle.mos_edits.specs.Scripts.{has_number}
+use Rattle.mos_edits.proofs.Lacking.{scripts-ok, lacking_order, lacking-all, with_rows}
+use Rattle.mos_edits.proofs.Journals.{JournalOk}
 use Rattle.mos_machines.specs.Messages.{Status, Message, Tag, Packet, untagged}
 use Rattle.mos_machines.specs.Server.{View, list_of}
 use Rattle.mos_machines.specs.Device.{GateOut, Phase, GateState, is_no_order, is_for, got_by, got_order, got_refusal, got_phase, gate_unasked}
@@ -20,8 +23,8 @@ use Rattle.world_laws.proofs.Replication.Request.{NotRequested, RequestLost, Ans
 use Rattle.world_laws.proofs.Channels.{Channels, ChannelsOk, PairingOk, replication, channels, in_flight_by, ask_of, incoming_in, Answer_to, IsAnswer, list_tag}
 use Rattle.world_laws.proofs.Keeps.{keeps_got_list, keeps_got_crossed, keeps_got_other}
 use Rattle.world_laws.proofs.Invariant.{PairingInvariant}
-use Rattle.world_laws.proofs.Reading.{replication_of}
-use Rattle.mos_machines.specs.Messages.Tag.{Untagged, OfEntry, OfAgain, OfList}
+use Rattle.world_laws.proofs.Reading.{replication_at}
+use Rattle.mos_machines.specs.Messages.Tag.{Untagged, OfEntry, OfAgain, OfScript, OfList}
 use Rattle.mos_edits.proofs.Identifiers.{same-true, same-self}
 
 abbrev pub got_channels : Channels → Channels
@@ -39,9 +42,9 @@ channels_got journal count l c g applied p ok e f k u q = let o = ok.dialed c e 
 pub got_front : (journal : List Entry) (count : ℕ) (l : Pairing) (c : ℕ) (p : Packet) → PairingOk journal count l → l.gate.link ≡ Some c → front (l.connections c).to_device ≡ Some p → (channels l).got ≡ p ∷ []
 got_front journal count l c p ok e f = let a = ok.channels_ok.answer in grind arith
 
-inv_got : (journal : List Entry) (count : ℕ) (l : Pairing) (c : ℕ) (g : GateState) (applied : Text → ℕ) (p : Packet) → PairingInvariant journal count l → l.gate.link ≡ Some c → front (l.connections c).to_device ≡ Some p → g.link ≡ l.gate.link → g.upper ≡ l.gate.upper → g.out ≡ NotAsking
-    → ((r : Text) → IsInvariant (replication journal (got_channels (channels l)) r (l.peer.views r) (g.phase r) (applied r)) × (g.held r ≡ order_at journal r (applied r))) → PairingInvariant journal count (pairing_got l c g applied)
-inv_got journal count l c g applied p i e f k u q each =
+inv_got : (journal : List Entry) (count : ℕ) (l : Pairing) (c : ℕ) (g : GateState) (applied : Text → ℕ) (lacks : Text → ℕ → Bool) (p : Packet) → PairingInvariant journal count l → l.gate.link ≡ Some c → front (l.connections c).to_device ≡ Some p → g.link ≡ l.gate.link → g.upper ≡ l.gate.upper → g.out ≡ NotAsking
+    → ((r : Text) → IsInvariant (replication journal (got_channels (channels l)) r (l.peer.views r) (g.phase r) (applied r) (lacks r)) × (g.held r ≡ lacking_order journal r (lacks r) (applied r))) → PairingInvariant journal count (pairing_got l c g applied)
+inv_got journal count l c g applied lacks p i e f k u q each =
     let h = got_front journal count l c p i.ok e f in
     let w = channels_got journal count l c g applied p i.ok e h k u q in
     let o = i.ok.dialed c e in
@@ -56,31 +59,33 @@ inv_got journal count l c g applied p i e f k u q each =
         silent = λ z. q;
         channels_ok = subst (λ (x : Channels). ChannelsOk journal x) (sym w) (wired_got journal (channels l) p i.ok.channels_ok h);
       };
-      replications = λ r. subst (λ (x : Channels). IsInvariant (replication journal x r (l.peer.views r) (g.phase r) (applied r))) (sym w) (each r).0;
+      lacks = lacks;
+      replications = λ r. subst (λ (x : Channels). IsInvariant (replication journal x r (l.peer.views r) (g.phase r) (applied r) (lacks r))) (sym w) (each r).0;
       holds = λ r. (each r).1;
     }
 
 -- an order that was not asked for
-replication_not_got : (journal : List Entry) (w : Channels) (r : Text) (view : View) (phase : Phase) (prefix : ℕ) → is_for r w.out ≡ false → IsInvariant (replication journal w r view phase prefix) → IsInvariant (replication journal (got_channels w) r view phase prefix)
-replication_not_got journal w r view phase prefix n i = let a : ask_of w r ≡ NotRequested = rw n refl in subst (λ (x : Request). IsInvariant (replication_of (map kind (entries r journal)) (in_flight_by journal w r w.upper) view x w.live (incoming_in r w.heard) phase prefix)) a i
+replication_not_got : (journal : List Entry) (w : Channels) (r : Text) (view : View) (phase : Phase) (prefix : ℕ) (lacks : ℕ → Bool) → is_for r w.out ≡ false → IsInvariant (replication journal w r view phase prefix lacks) → IsInvariant (replication journal (got_channels w) r view phase prefix lacks)
+replication_not_got journal w r view phase prefix lacks n i = let a : ask_of w r ≡ NotRequested = rw n refl in subst (λ (x : Request). IsInvariant (replication_at journal r (in_flight_by journal w r w.upper) view x w.live (incoming_in r w.heard) phase prefix lacks)) a i
 
 pub ask_got : (journal : List Entry) (w : Channels) (r : Text) (p : Packet) → ChannelsOk journal w → w.out ≡ AsksFor r → w.got ≡ p ∷ [] → ask_of w r ≡ list_tag p.tag
 ask_got journal w r p ok o g = let s : w.sent ≡ [] = let x = ok.one in grind arith in rw (o, same-self r, s, g) refl
 
-replication_got_list : (journal : List Entry) (w : Channels) (r : Text) (m : ℕ) (view : View) (phase : Phase) (prefix : ℕ) → ask_of w r ≡ AnsweredWith m → IsInvariant (replication journal w r view phase prefix) → IsInvariant (replication journal (got_channels w) r view (got_phase phase) m)
-replication_got_list journal w r m view Asked prefix a i = keeps_got_list (replication journal w r view Asked prefix) i m a refl
-replication_got_list journal w r m view Crossed prefix a i = keeps_got_crossed (replication journal w r view Crossed prefix) i m a refl
-replication_got_list journal w r m view InStep prefix a i = absurd (let x = i.ask in let y = rw a at x in y.0)
-replication_got_list journal w r m view OutOfStep prefix a i = absurd (let x = i.ask in let y = rw a at x in y.0)
+replication_got_list : (journal : List Entry) (w : Channels) (r : Text) (m : ℕ) (view : View) (phase : Phase) (prefix : ℕ) (lacks : ℕ → Bool) → ask_of w r ≡ AnsweredWith m → IsInvariant (replication journal w r view phase prefix lacks) → IsInvariant (replication journal (got_channels w) r view (got_phase phase) m (λ j. has_number j (in_force journal r m)))
+replication_got_list journal w r m view Asked prefix lacks a i = keeps_got_list (replication journal w r view Asked prefix lacks) i m a refl
+replication_got_list journal w r m view Crossed prefix lacks a i = keeps_got_crossed (replication journal w r view Crossed prefix lacks) i m a refl
+replication_got_list journal w r m view InStep prefix lacks a i = absurd (let x = i.ask in let y = rw a at x in y.0)
+replication_got_list journal w r m view OutOfStep prefix lacks a i = absurd (let x = i.ask in let y = rw a at x in y.0)
 
-replication_got_other : (journal : List Entry) (w : Channels) (r : Text) (view : View) (phase : Phase) (prefix : ℕ) → ask_of w r ≡ RequestLost → IsInvariant (replication journal w r view phase prefix) → IsInvariant (replication journal (got_channels w) r view OutOfStep prefix)
-replication_got_other journal w r view phase prefix a i = keeps_got_other (replication journal w r view phase prefix) i (λ z. cc)
+replication_got_other : (journal : List Entry) (w : Channels) (r : Text) (view : View) (phase : Phase) (prefix : ℕ) (lacks : ℕ → Bool) → ask_of w r ≡ RequestLost → IsInvariant (replication journal w r view phase prefix lacks) → IsInvariant (replication journal (got_channels w) r view OutOfStep prefix lacks)
+replication_got_other journal w r view phase prefix lacks a i = keeps_got_other (replication journal w r view phase prefix lacks) i (λ z. cc)
 
 -- the answer does not fit: dropped
 applied_unasked : (applied : Text → ℕ) (t : Tag) → applied_got applied t Unasked ≡ applied
 applied_unasked applied Untagged = refl
 applied_unasked applied (OfEntry r k) = refl
 applied_unasked applied (OfAgain r k) = refl
+applied_unasked applied (OfScript r j k) = refl
 applied_unasked applied (OfList r k) = refl
 
 got_unasked : (journal : List Entry) (count : ℕ) (l : Pairing) (c : ℕ) (p : Packet) → PairingInvariant journal count l → l.gate.link ≡ Some c → front (l.connections c).to_device ≡ Some p → PairingInvariant journal count (gets_from l c (l.connections c) p (gate_unasked l.gate)).0
@@ -108,49 +113,49 @@ got_unasked journal count l c p i e f =
 got_quiet : (journal : List Entry) (count : ℕ) (l : Pairing) (c : ℕ) (p : Packet) (g : GateState) → PairingInvariant journal count l → l.gate.link ≡ Some c → front (l.connections c).to_device ≡ Some p → p.tag ≡ Untagged → ((r : Text) → is_for r l.gate.out ≡ false)
     → g.link ≡ l.gate.link → g.upper ≡ l.gate.upper → g.out ≡ NotAsking → g.phase ≡ l.gate.phase → g.held ≡ l.gate.held → PairingInvariant journal count (gets_from l c (l.connections c) p (g, Taken)).0
 got_quiet journal count l c p g i e f t n k u q ph h =
-    rw t (inv_got journal count l c g l.applied p i e f k u q (λ r. (rw ph (replication_not_got journal (channels l) r (l.peer.views r) (l.gate.phase r) (l.applied r) (n r) (i.replications r)), rw h (i.holds r))))
+    rw t (inv_got journal count l c g l.applied i.lacks p i e f k u q (λ r. (rw ph (replication_not_got journal (channels l) r (l.peer.views r) (l.gate.phase r) (l.applied r) (i.lacks r) (n r) (i.replications r)), rw h (i.holds r))))
 
-got_list : (journal : List Entry) (count : ℕ) (l : Pairing) (c : ℕ) (p : Packet) (q : Text) (m : ℕ) (o : Option Order) → PairingInvariant journal count l → l.gate.link ≡ Some c → front (l.connections c).to_device ≡ Some p → l.gate.out ≡ AsksFor q → p.tag ≡ OfList q m → o ≡ order_at journal q m
+got_list : (journal : List Entry) (count : ℕ) (l : Pairing) (c : ℕ) (p : Packet) (q : Text) (m : ℕ) (o : Option Order) → JournalOk journal → m ≤ entry_count journal q → PairingInvariant journal count l → l.gate.link ≡ Some c → front (l.connections c).to_device ≡ Some p → l.gate.out ≡ AsksFor q → p.tag ≡ OfList q m → o ≡ with_rows (order_at journal q m) []
     → PairingInvariant journal count (pairing_got l c (got_order l.gate q o) (set_order l.applied q m))
-got_list journal count l c p q m o i e f a t h =
-    inv_got journal count l c (got_order l.gate q o) (set_order l.applied q m) p i e f refl refl refl (λ r. each r (same_id r q) refl)
+got_list journal count l c p q m o lok b i e f a t h =
+    inv_got journal count l c (got_order l.gate q o) (set_order l.applied q m) (set_order i.lacks q (λ j. has_number j (in_force journal q m))) p i e f refl refl refl (λ r. each r (same_id r q) refl)
   where
     asked : ask_of (channels l) q ≡ AnsweredWith m
     asked = ask_got journal (channels l) q p i.ok.channels_ok a (got_front journal count l c p i.ok e f) ∙ (rw t refl)
 
-    each : (r : Text) (b : Bool) → same_id r q ≡ b → IsInvariant (replication journal (got_channels (channels l)) r (l.peer.views r) (if b then got_phase (l.gate.phase q) else l.gate.phase r) (if b then m else l.applied r)) × ((if b then o else l.gate.held r) ≡ order_at journal r (if b then m else l.applied r))
-    each r false s = (replication_not_got journal (channels l) r (l.peer.views r) (l.gate.phase r) (l.applied r) (rw (a, s) refl) (i.replications r), i.holds r)
-    each r true s = subst (λ (z : Text). IsInvariant (replication journal (got_channels (channels l)) z (l.peer.views z) (got_phase (l.gate.phase q)) m) × (o ≡ order_at journal z m)) (sym (same-true r q s))
-        (replication_got_list journal (channels l) q m (l.peer.views q) (l.gate.phase q) (l.applied q) asked (i.replications q), h)
+    each : (r : Text) (b : Bool) → same_id r q ≡ b → IsInvariant (replication journal (got_channels (channels l)) r (l.peer.views r) (if b then got_phase (l.gate.phase q) else l.gate.phase r) (if b then m else l.applied r) (if b then (λ j. has_number j (in_force journal q m)) else i.lacks r)) × ((if b then o else l.gate.held r) ≡ lacking_order journal r (if b then (λ j. has_number j (in_force journal q m)) else i.lacks r) (if b then m else l.applied r))
+    each r false s = (replication_not_got journal (channels l) r (l.peer.views r) (l.gate.phase r) (l.applied r) (i.lacks r) (rw (a, s) refl) (i.replications r), i.holds r)
+    each r true s = subst (λ (z : Text). IsInvariant (replication journal (got_channels (channels l)) z (l.peer.views z) (got_phase (l.gate.phase q)) m (λ j. has_number j (in_force journal q m))) × (o ≡ lacking_order journal z (λ j. has_number j (in_force journal q m)) m)) (sym (same-true r q s))
+        (replication_got_list journal (channels l) q m (l.peer.views q) (l.gate.phase q) (l.applied q) (i.lacks q) asked (i.replications q), h ∙ sym (lacking-all journal q m (scripts-ok journal lok q m b)))
 
 got_refused : (journal : List Entry) (count : ℕ) (l : Pairing) (c : ℕ) (p : Packet) (q : Text) → PairingInvariant journal count l → l.gate.link ≡ Some c → front (l.connections c).to_device ≡ Some p → l.gate.out ≡ AsksFor q → p.tag ≡ Untagged → PairingInvariant journal count (pairing_got l c (got_refusal l.gate q) l.applied)
 got_refused journal count l c p q i e f a t =
-    inv_got journal count l c (got_refusal l.gate q) l.applied p i e f refl refl refl (λ r. (each r (same_id r q) refl, i.holds r))
+    inv_got journal count l c (got_refusal l.gate q) l.applied i.lacks p i e f refl refl refl (λ r. (each r (same_id r q) refl, i.holds r))
   where
     asked : ask_of (channels l) q ≡ RequestLost
     asked = ask_got journal (channels l) q p i.ok.channels_ok a (got_front journal count l c p i.ok e f) ∙ (rw t refl)
 
-    each : (r : Text) (b : Bool) → same_id r q ≡ b → IsInvariant (replication journal (got_channels (channels l)) r (l.peer.views r) (if b then OutOfStep else l.gate.phase r) (l.applied r))
-    each r false s = replication_not_got journal (channels l) r (l.peer.views r) (l.gate.phase r) (l.applied r) (rw (a, s) refl) (i.replications r)
-    each r true s = subst (λ (z : Text). IsInvariant (replication journal (got_channels (channels l)) z (l.peer.views z) OutOfStep (l.applied z))) (sym (same-true r q s))
-        (replication_got_other journal (channels l) q (l.peer.views q) (l.gate.phase q) (l.applied q) asked (i.replications q))
+    each : (r : Text) (b : Bool) → same_id r q ≡ b → IsInvariant (replication journal (got_channels (channels l)) r (l.peer.views r) (if b then OutOfStep else l.gate.phase r) (l.applied r) (i.lacks r))
+    each r false s = replication_not_got journal (channels l) r (l.peer.views r) (l.gate.phase r) (l.applied r) (i.lacks r) (rw (a, s) refl) (i.replications r)
+    each r true s = subst (λ (z : Text). IsInvariant (replication journal (got_channels (channels l)) z (l.peer.views z) OutOfStep (l.applied z) (i.lacks z))) (sym (same-true r q s))
+        (replication_got_other journal (channels l) q (l.peer.views q) (l.gate.phase q) (l.applied q) (i.lacks q) asked (i.replications q))
 
 abbrev GotGoal : List Entry → ℕ → Pairing → ℕ → GateOut → Packet → Type 0
 GotGoal journal count l c a p = PairingInvariant journal count (gets_from l c (l.connections c) p (got_by l.gate a p.message)).0
 
-got_answer : (journal : List Entry) (count : ℕ) (l : Pairing) (c : ℕ) (q : Text) (m : ℕ) (o : Option Order) → PairingInvariant journal count l → l.gate.link ≡ Some c → l.gate.out ≡ AsksFor q → o ≡ order_at journal q m → front (l.connections c).to_device ≡ Some (list_of q m o) → GotGoal journal count l c (AsksFor q) (list_of q m o)
-got_answer journal count l c q m None i e a h f =
-    rw (same-self q) (got_list journal count l c (list_of q m None) q m None i e f a refl h)
-got_answer journal count l c q m (Some x) i e a h f =
-    rw (same-self q) (got_list journal count l c (list_of q m (Some x)) q m (Some x) i e f a refl h)
+got_answer : (journal : List Entry) (count : ℕ) (l : Pairing) (c : ℕ) (q : Text) (m : ℕ) (o : Option Order) → JournalOk journal → m ≤ entry_count journal q → PairingInvariant journal count l → l.gate.link ≡ Some c → l.gate.out ≡ AsksFor q → o ≡ order_at journal q m → front (l.connections c).to_device ≡ Some (list_of q m o) → GotGoal journal count l c (AsksFor q) (list_of q m o)
+got_answer journal count l c q m None lok b i e a h f =
+    rw (same-self q) (got_list journal count l c (list_of q m None) q m None lok b i e f a refl (ap (λ (y : Option Order). with_rows y []) h))
+got_answer journal count l c q m (Some x) lok b i e a h f =
+    rw (same-self q) (got_list journal count l c (list_of q m (Some x)) q m (Some (order_of (bare x))) lok b i e f a refl (ap (λ (y : Option Order). with_rows y []) h))
 
 got_ack : (journal : List Entry) (count : ℕ) (l : Pairing) (c : ℕ) (q : Text) (t : Status) → PairingInvariant journal count l → l.gate.link ≡ Some c → l.gate.out ≡ AsksFor q → is_no_order t ≡ false → front (l.connections c).to_device ≡ Some (untagged (RoAck q t)) → GotGoal journal count l c (AsksFor q) (untagged (RoAck q t))
 got_ack journal count l c q t i e a n f = rw (same-self q, n) (got_refused journal count l c (untagged (RoAck q t)) q i e f a refl)
 
-got_for : (journal : List Entry) (count : ℕ) (l : Pairing) (c : ℕ) (q : Text) (p : Packet) → PairingInvariant journal count l → l.gate.link ≡ Some c → l.gate.out ≡ AsksFor q → front (l.connections c).to_device ≡ Some p → IsAnswer journal q p → GotGoal journal count l c (AsksFor q) p
-got_for journal count l c q p i e a f (inl x) = subst (λ (z : Packet). GotGoal journal count l c (AsksFor q) z) (sym x.2)
-    (got_answer journal count l c q x.0 (order_at journal q x.0) i e a refl (f ∙ ap (λ (z : Packet). Some z) x.2))
-got_for journal count l c q p i e a f (inr x) = subst (λ (z : Packet). GotGoal journal count l c (AsksFor q) z) (sym x.1)
+got_for : (journal : List Entry) (count : ℕ) (l : Pairing) (c : ℕ) (q : Text) (p : Packet) → JournalOk journal → PairingInvariant journal count l → l.gate.link ≡ Some c → l.gate.out ≡ AsksFor q → front (l.connections c).to_device ≡ Some p → IsAnswer journal q p → GotGoal journal count l c (AsksFor q) p
+got_for journal count l c q p lok i e a f (inl x) = subst (λ (z : Packet). GotGoal journal count l c (AsksFor q) z) (sym x.2)
+    (got_answer journal count l c q x.0 (order_at journal q x.0) lok x.1 i e a refl (f ∙ ap (λ (z : Packet). Some z) x.2))
+got_for journal count l c q p lok i e a f (inr x) = subst (λ (z : Packet). GotGoal journal count l c (AsksFor q) z) (sym x.1)
     (got_ack journal count l c q x.0 i e a x.2 (f ∙ ap (λ (z : Packet). Some z) x.1))
 
 got_all : (journal : List Entry) (count : ℕ) (l : Pairing) (c : ℕ) (p : Packet) (m : Message) → PairingInvariant journal count l → l.gate.link ≡ Some c → l.gate.out ≡ AsksAll → front (l.connections c).to_device ≡ Some p → p.tag ≡ Untagged → PairingInvariant journal count (gets_from l c (l.connections c) p (got_by l.gate AsksAll m)).0
@@ -158,22 +163,22 @@ got_all journal count l c p (RoListAll rs) i e a f t = got_quiet journal count l
 got_all journal count l c p (RoAck q x) i e a f t = got_quiet journal count l c p (got_by l.gate AsksAll (RoAck q x)).0 i e f t (λ r. rw a refl) refl refl refl refl refl
 got_all journal count l c p m i e a f t = got_unasked journal count l c p i e f
 
-got_case : (journal : List Entry) (count : ℕ) (l : Pairing) (c : ℕ) (a : GateOut) (p : Packet) → PairingInvariant journal count l → l.gate.link ≡ Some c → l.gate.out ≡ a → front (l.connections c).to_device ≡ Some p → Answer_to journal a (p ∷ []) → GotGoal journal count l c a p
-got_case journal count l c NotAsking p i e a f x = absurd (cc)
-got_case journal count l c (AsksFor q) p i e a f x = got_for journal count l c q p i e a f x
-got_case journal count l c AsksAll p i e a f x = got_all journal count l c p p.message i e a f x
-got_case journal count l c AsksBeat p i e a f x = subst (λ (z : Packet). GotGoal journal count l c AsksBeat z) (sym x)
+got_case : (journal : List Entry) (count : ℕ) (l : Pairing) (c : ℕ) (a : GateOut) (p : Packet) → JournalOk journal → PairingInvariant journal count l → l.gate.link ≡ Some c → l.gate.out ≡ a → front (l.connections c).to_device ≡ Some p → Answer_to journal a (p ∷ []) → GotGoal journal count l c a p
+got_case journal count l c NotAsking p lok i e a f x = absurd (cc)
+got_case journal count l c (AsksFor q) p lok i e a f x = got_for journal count l c q p lok i e a f x
+got_case journal count l c AsksAll p lok i e a f x = got_all journal count l c p p.message i e a f x
+got_case journal count l c AsksBeat p lok i e a f x = subst (λ (z : Packet). GotGoal journal count l c AsksBeat z) (sym x)
     (got_quiet journal count l c (own_beat) (got_by l.gate AsksBeat (Heartbeat own_time)).0 i e (f ∙ ap (λ (z : Packet). Some z) x) refl (λ r. rw a refl) refl refl refl refl refl)
 
-got_some : (journal : List Entry) (count : ℕ) (l : Pairing) (c : ℕ) (o : Option Packet) → PairingInvariant journal count l → l.gate.link ≡ Some c → front (l.connections c).to_device ≡ o → PairingInvariant journal count (gets_front l c (l.connections c) o).0
-got_some journal count l c None i e f = i
-got_some journal count l c (Some p) i e f =
+got_some : (journal : List Entry) (count : ℕ) (l : Pairing) (c : ℕ) (o : Option Packet) → JournalOk journal → PairingInvariant journal count l → l.gate.link ≡ Some c → front (l.connections c).to_device ≡ o → PairingInvariant journal count (gets_front l c (l.connections c) o).0
+got_some journal count l c None lok i e f = i
+got_some journal count l c (Some p) lok i e f =
     let h = got_front journal count l c p i.ok e f in
-    got_case journal count l c l.gate.out p i e refl f (subst (λ (ps : List Packet). Answer_to journal l.gate.out ps) h i.ok.channels_ok.answer)
+    got_case journal count l c l.gate.out p lok i e refl f (subst (λ (ps : List Packet). Answer_to journal l.gate.out ps) h i.ok.channels_ok.answer)
 
-got_go : (journal : List Entry) (count : ℕ) (l : Pairing) (o : Option ℕ) → PairingInvariant journal count l → l.gate.link ≡ o → PairingInvariant journal count (gets_if l o).0
-got_go journal count l None i e = i
-got_go journal count l (Some c) i e = got_some journal count l c (front (l.connections c).to_device) i e refl
+got_go : (journal : List Entry) (count : ℕ) (l : Pairing) (o : Option ℕ) → JournalOk journal → PairingInvariant journal count l → l.gate.link ≡ o → PairingInvariant journal count (gets_if l o).0
+got_go journal count l None lok i e = i
+got_go journal count l (Some c) lok i e = got_some journal count l c (front (l.connections c).to_device) lok i e refl
 
-pub keeps_gets : (journal : List Entry) (count n : ℕ) (l : Pairing) → PairingInvariant journal count l → PairingInvariant journal count (pairing_step journal n l Got).0
-keeps_gets journal count n l i = got_go journal count l l.gate.link i refl
+pub keeps_gets : (journal : List Entry) (count n : ℕ) (l : Pairing) → JournalOk journal → PairingInvariant journal count l → PairingInvariant journal count (pairing_step journal n l Got).0
+keeps_gets journal count n l lok i = got_go journal count l l.gate.link lok i refl

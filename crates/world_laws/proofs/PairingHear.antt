@@ -4,7 +4,7 @@ use Rattle.std.proofs.lemmas.Bool.Decides.{nat_tests}
 use Rattle.mos_edits.specs.Texts.{Text, same_id, set_order, set_number}
 use Rattle.mos_edits.specs.Orders.{Order}
 use Rattle.mos_edits.specs.declared.edit.Edit.{Edit}
-use Rattle.mos_edits.specs.Entries.{Kind, kind, Entry, entries, entry_count, edit_at, order_at, order_now, headers, order_after}
+use Rattle.mos_edits.specs.Entries.{Kind, kind, Entry, entries, entry_count, edit_at, order_at, order_now, headers, order_after, in_force}
 use Rattle.mos_machines.specs.Messages.{Message, Packet, untagged}
 use Rattle.mos_machines.specs.Server.{Upper, View, peer_hear, peer_settled, settled, ready_before, is_busy, list_of, is_ready}
 use Rattle.mos_machines.specs.Device.{Phase, is_for}
@@ -21,13 +21,13 @@ use Rattle.world_laws.proofs.Channels.{Channels, ChannelsOk, PairingOk, replicat
 use Rattle.world_laws.proofs.Keeps.{heard, answers, keeps_hear_beat, keeps_hear_other, keeps_hear_not_now, keeps_hear_ask, keeps_lost_ask}
 use Rattle.world_laws.proofs.Joining.{pushed}
 use Rattle.world_laws.proofs.Invariant.{PairingInvariant}
-use Rattle.world_laws.proofs.Reading.{replication_of}
+use Rattle.world_laws.proofs.Reading.{replication_at}
 use Rattle.mos_edits.specs.Entries.Kind.{IsReady}
 use Rattle.mos_machines.specs.Messages.Tag.{Untagged, OfList}
 use Rattle.std.proofs.Math.Seq.{take-length}
 use Rattle.mos_machines.specs.Messages.Status.{Okay, NotNow, NotSupported}
 use Rattle.mos_machines.specs.Server.Upper.{Down, Greeting, Open}
-use Rattle.mos_machines.specs.Server.ServerOut.{Idle, SendsEdit, SendsAgain, SendsBeat}
+use Rattle.mos_machines.specs.Server.ServerOut.{Idle, SendsEdit, SendsAgain, SendsScript, SendsBeat}
 use Rattle.mos_edits.proofs.Identifiers.{same-true, same-self, same-false}
 use Rattle.mos_edits.proofs.Journals.{kind_at, kinds_entry_count}
 use Rattle.mos_fields.specs.declared.time.MosTime.{MosTime}
@@ -56,18 +56,18 @@ live_asked journal w p q ok h n l = grind arith
 
 -- the view settles
 abbrev ready_view : List Entry → Text → View → Bool
-ready_view journal r (Listed m) = ready_before journal r m
+ready_view journal r (Listed m ks) = ready_before journal r m
 ready_view journal r v = false
 
-heard_settled : (journal : List Entry) (kinds : List Kind) (r : Text) (b : Bool) (v : View) → heard kinds v b (ready_view journal r v) ≡ settled journal b r v
-heard_settled journal kinds r true Out = refl
-heard_settled journal kinds r true (Listed m) = refl
-heard_settled journal kinds r true (In n a) = refl
-heard_settled journal kinds r true (From k) = refl
-heard_settled journal kinds r false Out = refl
-heard_settled journal kinds r false (Listed m) = refl
-heard_settled journal kinds r false (In n a) = refl
-heard_settled journal kinds r false (From k) = refl
+heard_settled : (journal : List Entry) (r : Text) (b : Bool) (v : View) → heard v b (ready_view journal r v) ≡ settled journal b r v
+heard_settled journal r true Out = refl
+heard_settled journal r true (Listed m ks) = refl
+heard_settled journal r true (In n a ks) = refl
+heard_settled journal r true (From k) = refl
+heard_settled journal r false Out = refl
+heard_settled journal r false (Listed m ks) = refl
+heard_settled journal r false (In n a ks) = refl
+heard_settled journal r false (From k) = refl
 
 is_ready_is : (k : Kind) → is_ready k ≡ true → k ≡ IsReady
 is_ready_is k e = grind arith
@@ -82,36 +82,36 @@ ready_at journal r (suc j) h e =
     pred_suc : (j : ℕ) → j ≡ suc j - 1
     pred_suc j = omega arith
 
-ready_replication : (journal : List Entry) (w : Channels) (r : Text) (v : View) (phase : Phase) (prefix : ℕ) → IsInvariant (replication journal w r v phase prefix) → (m : ℕ) → v ≡ Listed m → ready_view journal r v ≡ true → ReadyBefore (map kind (entries r journal)) m
-ready_replication journal w r Out phase prefix i m e x = absurd (cc)
-ready_replication journal w r (In n a) phase prefix i m e x = absurd (cc)
-ready_replication journal w r (From k) phase prefix i m e x = absurd (cc)
-ready_replication journal w r (Listed n) phase prefix i m e x =
+ready_replication : (journal : List Entry) (w : Channels) (r : Text) (v : View) (phase : Phase) (prefix : ℕ) (lacks : ℕ → Bool) → IsInvariant (replication journal w r v phase prefix lacks) → (m : ℕ) (js : List ℕ) → v ≡ Listed m js → ready_view journal r v ≡ true → ReadyBefore (map kind (entries r journal)) m
+ready_replication journal w r Out phase prefix lacks i m js e x = absurd (cc)
+ready_replication journal w r (In n a ks) phase prefix lacks i m js e x = absurd (cc)
+ready_replication journal w r (From k) phase prefix lacks i m js e x = absurd (cc)
+ready_replication journal w r (Listed n ks) phase prefix lacks i m js e x =
     let n_is : n ≡ m = cc in
     let bound : n ≤ length (map kind (entries r journal)) = let v = i.view in v.2 in
     subst (λ (z : ℕ). ReadyBefore (map kind (entries r journal)) z) n_is (ready_at journal r n (omega (arith, bound, kinds_entry_count journal r)) x)
 
-replication_hear_beat : (journal : List Entry) (w : Channels) (r : Text) (lost : Bool) (p a : Packet) (time : MosTime) (view : View) (phase : Phase) (prefix : ℕ) → ChannelsOk journal w → w.heard ≡ p ∷ [] → p.message ≡ Heartbeat time → IsInvariant (replication journal w r view phase prefix)
-    → IsInvariant (replication journal (hear_channels w lost a) r (settled journal true r view) phase prefix)
-replication_hear_beat journal w r lost p a time view phase prefix ok h m i =
+replication_hear_beat : (journal : List Entry) (w : Channels) (r : Text) (lost : Bool) (p a : Packet) (time : MosTime) (view : View) (phase : Phase) (prefix : ℕ) (lacks : ℕ → Bool) → ChannelsOk journal w → w.heard ≡ p ∷ [] → p.message ≡ Heartbeat time → IsInvariant (replication journal w r view phase prefix lacks)
+    → IsInvariant (replication journal (hear_channels w lost a) r (settled journal true r view) phase prefix lacks)
+replication_hear_beat journal w r lost p a time view phase prefix lacks ok h m i =
     let c : incoming_in r w.heard ≡ BeatComes = rw (h, m) refl in
-    rw (ask_same journal w r lost a (live_out journal w p r ok h (λ x. let y = rw m at x in cc)), ← heard_settled journal (map kind (entries r journal)) r true view)
-    (keeps_hear_beat (replication journal w r view phase prefix) i (ready_view journal r view) (ready_replication journal w r view phase prefix i) c)
+    rw (ask_same journal w r lost a (live_out journal w p r ok h (λ x. let y = rw m at x in cc)), ← heard_settled journal r true view)
+    (keeps_hear_beat (replication journal w r view phase prefix lacks) i (ready_view journal r view) (ready_replication journal w r view phase prefix lacks i) c)
 
-replication_hear_other : (journal : List Entry) (w : Channels) (r : Text) (lost : Bool) (p a : Packet) (view : View) (phase : Phase) (prefix : ℕ) → ChannelsOk journal w → w.heard ≡ p ∷ [] → (w.live ≡ true → is_for r w.out ≡ false) → IsInvariant (replication journal w r view phase prefix)
-    → IsInvariant (replication journal (hear_channels w lost a) r (settled journal false r view) phase prefix)
-replication_hear_other journal w r lost p a view phase prefix ok h n i =
-    rw (ask_same journal w r lost a n, ← heard_settled journal (map kind (entries r journal)) r false view)
-    (keeps_hear_other (replication journal w r view phase prefix) i (ready_view journal r view))
+replication_hear_other : (journal : List Entry) (w : Channels) (r : Text) (lost : Bool) (p a : Packet) (view : View) (phase : Phase) (prefix : ℕ) (lacks : ℕ → Bool) → ChannelsOk journal w → w.heard ≡ p ∷ [] → (w.live ≡ true → is_for r w.out ≡ false) → IsInvariant (replication journal w r view phase prefix lacks)
+    → IsInvariant (replication journal (hear_channels w lost a) r (settled journal false r view) phase prefix lacks)
+replication_hear_other journal w r lost p a view phase prefix lacks ok h n i =
+    rw (ask_same journal w r lost a n, ← heard_settled journal r false view)
+    (keeps_hear_other (replication journal w r view phase prefix lacks) i (ready_view journal r view))
 
 -- NOT NOW, to the device that asks
-replication_not_now : (journal : List Entry) (w : Channels) (q : Text) (lost : Bool) (p : Packet) (view : View) (phase : Phase) (prefix : ℕ) → ChannelsOk journal w → w.heard ≡ p ∷ [] → p.message ≡ RoReq q → w.live ≡ true → IsInvariant (replication journal w q view phase prefix)
-    → IsInvariant (replication journal (hear_channels w lost (untagged (RoAck q NotNow))) q (settled journal false q view) phase prefix)
-replication_not_now journal w q lost p view phase prefix ok h m l i =
+replication_not_now : (journal : List Entry) (w : Channels) (q : Text) (lost : Bool) (p : Packet) (view : View) (phase : Phase) (prefix : ℕ) (lacks : ℕ → Bool) → ChannelsOk journal w → w.heard ≡ p ∷ [] → p.message ≡ RoReq q → w.live ≡ true → IsInvariant (replication journal w q view phase prefix lacks)
+    → IsInvariant (replication journal (hear_channels w lost (untagged (RoAck q NotNow))) q (settled journal false q view) phase prefix lacks)
+replication_not_now journal w q lost p view phase prefix lacks ok h m l i =
     let x = live_asked journal w p q ok h m l in
     let c : incoming_in q w.heard ≡ AskComes = rw (h, m, same-self q) refl in
     let a : ask_of (hear_channels w lost (untagged (RoAck q NotNow))) q ≡ RequestLost = rw (x.0, same-self q, l, x.1) (lost_list lost) in
-    rw (a, ← heard_settled journal (map kind (entries q journal)) q false view) (keeps_hear_not_now (replication journal w q view phase prefix) i (ready_view journal q view) l c)
+    rw (a, ← heard_settled journal q false view) (keeps_hear_not_now (replication journal w q view phase prefix lacks) i (ready_view journal q view) l c)
   where
     lost_list : (b : Bool) → ask_by [] (pushed b (untagged (RoAck q NotNow)) []) ≡ RequestLost
     lost_list true = refl
@@ -128,34 +128,35 @@ idle_in_flight journal l q b = free_by l.peer.upper b
     free_by (Open c SendsBeat) b = refl
     free_by (Open c (SendsEdit z k)) b = let n : same_id z q ≡ false = same-false z q b in rw n refl
     free_by (Open c (SendsAgain z m)) b = let n : same_id z q ≡ false = same-false z q b in rw n refl
+    free_by (Open c (SendsScript z k m)) b = let n : same_id z q ≡ false = same-false z q b in rw n refl
 
 pub tag_list : (q : Text) (m : ℕ) (o : Option Order) → (list_of q m o).tag ≡ OfList q m
 tag_list q m None = refl
 tag_list q m (Some x) = refl
 
-replication_list : (journal : List Entry) (w : Channels) (q : Text) (lost : Bool) (p : Packet) (o : Option Order) (view : View) (phase : Phase) (prefix : ℕ) → ChannelsOk journal w → w.heard ≡ p ∷ [] → p.message ≡ RoReq q → in_flight_by journal w q w.upper ≡ Nothing → IsInvariant (replication journal w q view phase prefix)
-    → IsInvariant (replication journal (hear_channels w lost (list_of q (entry_count journal q) o)) q (Listed (entry_count journal q)) phase prefix)
-replication_list journal w q lost p o view phase prefix ok h m f i = go w.live refl lost refl
+replication_list : (journal : List Entry) (w : Channels) (q : Text) (lost : Bool) (p : Packet) (o : Option Order) (view : View) (phase : Phase) (prefix : ℕ) (lacks : ℕ → Bool) → ChannelsOk journal w → w.heard ≡ p ∷ [] → p.message ≡ RoReq q → in_flight_by journal w q w.upper ≡ Nothing → IsInvariant (replication journal w q view phase prefix lacks)
+    → IsInvariant (replication journal (hear_channels w lost (list_of q (entry_count journal q) o)) q (Listed (entry_count journal q) (in_force journal q (entry_count journal q))) phase prefix lacks)
+replication_list journal w q lost p o view phase prefix lacks ok h m f i = go w.live refl lost refl
   where
     c : incoming_in q w.heard ≡ AskComes
     c = rw (h, m, same-self q) refl
 
-    base : IsInvariant (replication_of (map kind (entries q journal)) (in_flight_by journal w q w.upper) (Listed (entry_count journal q)) (answers w.live (entry_count journal q) (ask_of w q)) w.live NoneComes phase prefix)
-    base = let k = keeps_hear_ask (replication journal w q view phase prefix) i f c in rw (kinds_entry_count journal q) at k
+    base : IsInvariant (replication_at journal q (in_flight_by journal w q w.upper) (Listed (entry_count journal q) (in_force journal q (entry_count journal q))) (answers w.live (entry_count journal q) (ask_of w q)) w.live NoneComes phase prefix lacks)
+    base = let k = keeps_hear_ask (replication journal w q view phase prefix lacks) i f c in rw (kinds_entry_count journal q) at k
 
-    go : (live : Bool) → w.live ≡ live → (b : Bool) → lost ≡ b → IsInvariant (replication journal (hear_channels w lost (list_of q (entry_count journal q) o)) q (Listed (entry_count journal q)) phase prefix)
-    go false l b e = let al : answers w.live (entry_count journal q) (ask_of w q) ≡ ask_of w q = rw l refl in let a : ask_of (hear_channels w lost (list_of q (entry_count journal q) o)) q ≡ ask_of w q = rw l refl in rw a (subst (λ (x : Request). IsInvariant (replication_of (map kind (entries q journal)) (in_flight_by journal w q w.upper) (Listed (entry_count journal q)) x w.live NoneComes phase prefix)) al base)
+    go : (live : Bool) → w.live ≡ live → (b : Bool) → lost ≡ b → IsInvariant (replication journal (hear_channels w lost (list_of q (entry_count journal q) o)) q (Listed (entry_count journal q) (in_force journal q (entry_count journal q))) phase prefix lacks)
+    go false l b e = let al : answers w.live (entry_count journal q) (ask_of w q) ≡ ask_of w q = rw l refl in let a : ask_of (hear_channels w lost (list_of q (entry_count journal q) o)) q ≡ ask_of w q = rw l refl in rw a (subst (λ (x : Request). IsInvariant (replication_at journal q (in_flight_by journal w q w.upper) (Listed (entry_count journal q) (in_force journal q (entry_count journal q))) x w.live NoneComes phase prefix lacks)) al base)
     go true l false e =
         let al : answers w.live (entry_count journal q) (ask_of w q) ≡ AnsweredWith (entry_count journal q) = rw l refl in
         let x = live_asked journal w p q ok h m l in
         let a : ask_of (hear_channels w lost (list_of q (entry_count journal q) o)) q ≡ AnsweredWith (entry_count journal q) = rw (x.0, same-self q, l, x.1, e, tag_list q (entry_count journal q) o) refl in
-        rw a (subst (λ (x : Request). IsInvariant (replication_of (map kind (entries q journal)) (in_flight_by journal w q w.upper) (Listed (entry_count journal q)) x w.live NoneComes phase prefix)) al base)
+        rw a (subst (λ (x : Request). IsInvariant (replication_at journal q (in_flight_by journal w q w.upper) (Listed (entry_count journal q) (in_force journal q (entry_count journal q))) x w.live NoneComes phase prefix lacks)) al base)
     go true l true e =
         let al : answers w.live (entry_count journal q) (ask_of w q) ≡ AnsweredWith (entry_count journal q) = rw l refl in
         let x = live_asked journal w p q ok h m l in
         let a : ask_of (hear_channels w lost (list_of q (entry_count journal q) o)) q ≡ RequestLost = rw (x.0, same-self q, l, x.1, e) refl in
-        let b = subst (λ (x : Request). IsInvariant (replication_of (map kind (entries q journal)) (in_flight_by journal w q w.upper) (Listed (entry_count journal q)) x w.live NoneComes phase prefix)) al base in
-        rw a (keeps_lost_ask (replication_of (map kind (entries q journal)) (in_flight_by journal w q w.upper) (Listed (entry_count journal q)) (AnsweredWith (entry_count journal q)) w.live NoneComes phase prefix) b RequestLost NoneComes (inr (refl, λ z. cc)) (inl refl) (λ z y. cc))
+        let b = subst (λ (x : Request). IsInvariant (replication_at journal q (in_flight_by journal w q w.upper) (Listed (entry_count journal q) (in_force journal q (entry_count journal q))) x w.live NoneComes phase prefix lacks)) al base in
+        rw a (keeps_lost_ask (replication_at journal q (in_flight_by journal w q w.upper) (Listed (entry_count journal q) (in_force journal q (entry_count journal q))) (AnsweredWith (entry_count journal q)) w.live NoneComes phase prefix lacks) b RequestLost NoneComes (inr (refl, λ z. cc)) (inl refl) (λ z y. cc))
 
 abbrev pub pairing_hear : Pairing → ℕ → (Text → View) → Packet → Pairing
 pairing_hear l c views a = record l { peer = record { upper = l.peer.upper; note = l.peer.note; link = l.peer.link; views = views }; connections = set_number l.connections c (write_device a (record (l.connections c) { to_server = rest (l.connections c).to_server })) }
@@ -166,8 +167,8 @@ channels_hear journal count l c views p a ok e h = let o = ok.linked c e in grin
 heard_front : (journal : List Entry) (count : ℕ) (l : Pairing) (c : ℕ) (p : Packet) → PairingOk journal count l → l.peer.link ≡ Some c → front (l.connections c).to_server ≡ Some p → (channels l).heard ≡ p ∷ []
 heard_front journal count l c p ok e f = let h = ok.channels_ok.heard in grind arith
 
-inv_hear : (journal : List Entry) (count : ℕ) (l : Pairing) (c : ℕ) (views : Text → View) (p a : Packet) → PairingInvariant journal count l → l.peer.link ≡ Some c → front (l.connections c).to_server ≡ Some p → FitsAnswer journal p.message a
-    → ((r : Text) → IsInvariant (replication journal (hear_channels (channels l) (l.connections c).lost_device a) r (views r) (l.gate.phase r) (l.applied r))) → PairingInvariant journal count (pairing_hear l c views a)
+inv_hear : (journal : List Entry) (count : ℕ) (l : Pairing) (c : ℕ) (views : Text → View) (p a : Packet) → (i : PairingInvariant journal count l) → l.peer.link ≡ Some c → front (l.connections c).to_server ≡ Some p → FitsAnswer journal p.message a
+    → ((r : Text) → IsInvariant (replication journal (hear_channels (channels l) (l.connections c).lost_device a) r (views r) (l.gate.phase r) (l.applied r) (i.lacks r))) → PairingInvariant journal count (pairing_hear l c views a)
 inv_hear journal count l c views p a i e f fits each =
     let h = heard_front journal count l c p i.ok e f in
     let w = channels_hear journal count l c views p a i.ok e h in
@@ -183,7 +184,8 @@ inv_hear journal count l c views p a i e f fits each =
         silent = i.ok.silent;
         channels_ok = subst (λ (x : Channels). ChannelsOk journal x) (sym w) (wired_hear journal (channels l) (l.connections c).lost_device p a i.ok.channels_ok h fits);
       };
-      replications = λ r. subst (λ (x : Channels). IsInvariant (replication journal x r (views r) (l.gate.phase r) (l.applied r))) (sym w) (each r);
+      lacks = i.lacks;
+      replications = λ r. subst (λ (x : Channels). IsInvariant (replication journal x r (views r) (l.gate.phase r) (l.applied r) (i.lacks r))) (sym w) (each r);
       holds = i.holds;
     }
 
@@ -192,7 +194,7 @@ hear_other : (journal : List Entry) (count : ℕ) (l : Pairing) (c : ℕ) (p a :
 hear_other journal count l c p a i e f fits n =
     let h = heard_front journal count l c p i.ok e f in
     inv_hear journal count l c (λ r. settled journal false r (l.peer.views r)) p a i e f fits
-    (λ r. replication_hear_other journal (channels l) r (l.connections c).lost_device p a (l.peer.views r) (l.gate.phase r) (l.applied r) i.ok.channels_ok h (live_out journal (channels l) p r i.ok.channels_ok h (n r)) (i.replications r))
+    (λ r. replication_hear_other journal (channels l) r (l.connections c).lost_device p a (l.peer.views r) (l.gate.phase r) (l.applied r) (i.lacks r) i.ok.channels_ok h (live_out journal (channels l) p r i.ok.channels_ok h (n r)) (i.replications r))
 
 other_out : (journal : List Entry) (w : Channels) (p : Packet) (q r : Text) → ChannelsOk journal w → w.heard ≡ p ∷ [] → p.message ≡ RoReq q → same_id r q ≡ false → w.live ≡ true → is_for r w.out ≡ false
 other_out journal w p q r ok h m s l = let x = live_asked journal w p q ok h m l in rw (x.0, s) refl
@@ -209,39 +211,39 @@ hear_not_now journal count l c p q i e f m =
     a : Packet
     a = untagged (RoAck q NotNow)
 
-    each : (r : Text) (b : Bool) → same_id r q ≡ b → (live : Bool) → (channels l).live ≡ live → IsInvariant (replication journal (hear_channels (channels l) (l.connections c).lost_device (untagged (RoAck q NotNow))) r (settled journal false r (l.peer.views r)) (l.gate.phase r) (l.applied r))
-    each r false s live v = replication_hear_other journal (channels l) r (l.connections c).lost_device p (untagged (RoAck q NotNow)) (l.peer.views r) (l.gate.phase r) (l.applied r) i.ok.channels_ok h (other_out journal (channels l) p q r i.ok.channels_ok h m s) (i.replications r)
-    each r true s false v = replication_hear_other journal (channels l) r (l.connections c).lost_device p (untagged (RoAck q NotNow)) (l.peer.views r) (l.gate.phase r) (l.applied r) i.ok.channels_ok h (λ z. cc) (i.replications r)
-    each r true s true v = subst (λ (z : Text). IsInvariant (replication journal (hear_channels (channels l) (l.connections c).lost_device (untagged (RoAck q NotNow))) z (settled journal false z (l.peer.views z)) (l.gate.phase z) (l.applied z))) (sym (same-true r q s))
-        (replication_not_now journal (channels l) q (l.connections c).lost_device p (l.peer.views q) (l.gate.phase q) (l.applied q) i.ok.channels_ok h m v (i.replications q))
+    each : (r : Text) (b : Bool) → same_id r q ≡ b → (live : Bool) → (channels l).live ≡ live → IsInvariant (replication journal (hear_channels (channels l) (l.connections c).lost_device (untagged (RoAck q NotNow))) r (settled journal false r (l.peer.views r)) (l.gate.phase r) (l.applied r) (i.lacks r))
+    each r false s live v = replication_hear_other journal (channels l) r (l.connections c).lost_device p (untagged (RoAck q NotNow)) (l.peer.views r) (l.gate.phase r) (l.applied r) (i.lacks r) i.ok.channels_ok h (other_out journal (channels l) p q r i.ok.channels_ok h m s) (i.replications r)
+    each r true s false v = replication_hear_other journal (channels l) r (l.connections c).lost_device p (untagged (RoAck q NotNow)) (l.peer.views r) (l.gate.phase r) (l.applied r) (i.lacks r) i.ok.channels_ok h (λ z. cc) (i.replications r)
+    each r true s true v = subst (λ (z : Text). IsInvariant (replication journal (hear_channels (channels l) (l.connections c).lost_device (untagged (RoAck q NotNow))) z (settled journal false z (l.peer.views z)) (l.gate.phase z) (l.applied z) (i.lacks z))) (sym (same-true r q s))
+        (replication_not_now journal (channels l) q (l.connections c).lost_device p (l.peer.views q) (l.gate.phase q) (l.applied q) (i.lacks q) i.ok.channels_ok h m v (i.replications q))
 
-order_all : (journal : List Entry) (q : Text) → order_at journal q (entry_count journal q) ≡ order_now journal q
+pub order_all : (journal : List Entry) (q : Text) → order_at journal q (entry_count journal q) ≡ order_now journal q
 order_all journal q = ap (λ (cs : List Edit). order_after q cs) (take-length (entries q journal))
 
 hear_list : (journal : List Entry) (count : ℕ) (l : Pairing) (c : ℕ) (p : Packet) (q : Text) → PairingInvariant journal count l → l.peer.link ≡ Some c → front (l.connections c).to_server ≡ Some p → p.message ≡ RoReq q → is_busy q l.peer.upper ≡ false
-    → PairingInvariant journal count (pairing_hear l c (set_order (λ r. settled journal false r (l.peer.views r)) q (Listed (entry_count journal q))) (list_of q (entry_count journal q) (order_now journal q)))
+    → PairingInvariant journal count (pairing_hear l c (set_order (λ r. settled journal false r (l.peer.views r)) q (Listed (entry_count journal q) (in_force journal q (entry_count journal q)))) (list_of q (entry_count journal q) (order_now journal q)))
 hear_list journal count l c p q i e f m b =
-    inv_hear journal count l c (set_order (λ r. settled journal false r (l.peer.views r)) q (Listed (entry_count journal q))) p (list_of q (entry_count journal q) (order_now journal q)) i e f
+    inv_hear journal count l c (set_order (λ r. settled journal false r (l.peer.views r)) q (Listed (entry_count journal q) (in_force journal q (entry_count journal q)))) p (list_of q (entry_count journal q) (order_now journal q)) i e f
     (rw m (inl (entry_count journal q, omega arith, ap (λ (o : Option Order). list_of q (entry_count journal q) o) (sym (order_all journal q)))))
     (λ r. each r (same_id r q) refl)
   where
     h : (channels l).heard ≡ p ∷ []
     h = heard_front journal count l c p i.ok e f
 
-    each : (r : Text) (b : Bool) → same_id r q ≡ b → IsInvariant (replication journal (hear_channels (channels l) (l.connections c).lost_device (list_of q (entry_count journal q) (order_now journal q))) r (if b then Listed (entry_count journal q) else settled journal false r (l.peer.views r)) (l.gate.phase r) (l.applied r))
-    each r false s = replication_hear_other journal (channels l) r (l.connections c).lost_device p (list_of q (entry_count journal q) (order_now journal q)) (l.peer.views r) (l.gate.phase r) (l.applied r) i.ok.channels_ok h (other_out journal (channels l) p q r i.ok.channels_ok h m s) (i.replications r)
-    each r true s = subst (λ (z : Text). IsInvariant (replication journal (hear_channels (channels l) (l.connections c).lost_device (list_of q (entry_count journal q) (order_now journal q))) z (Listed (entry_count journal q)) (l.gate.phase z) (l.applied z))) (sym (same-true r q s))
-        (replication_list journal (channels l) q (l.connections c).lost_device p (order_now journal q) (l.peer.views q) (l.gate.phase q) (l.applied q) i.ok.channels_ok h m (idle_in_flight journal l q b) (i.replications q))
+    each : (r : Text) (b : Bool) → same_id r q ≡ b → IsInvariant (replication journal (hear_channels (channels l) (l.connections c).lost_device (list_of q (entry_count journal q) (order_now journal q))) r (if b then Listed (entry_count journal q) (in_force journal q (entry_count journal q)) else settled journal false r (l.peer.views r)) (l.gate.phase r) (l.applied r) (i.lacks r))
+    each r false s = replication_hear_other journal (channels l) r (l.connections c).lost_device p (list_of q (entry_count journal q) (order_now journal q)) (l.peer.views r) (l.gate.phase r) (l.applied r) (i.lacks r) i.ok.channels_ok h (other_out journal (channels l) p q r i.ok.channels_ok h m s) (i.replications r)
+    each r true s = subst (λ (z : Text). IsInvariant (replication journal (hear_channels (channels l) (l.connections c).lost_device (list_of q (entry_count journal q) (order_now journal q))) z (Listed (entry_count journal q) (in_force journal q (entry_count journal q))) (l.gate.phase z) (l.applied z) (i.lacks z))) (sym (same-true r q s))
+        (replication_list journal (channels l) q (l.connections c).lost_device p (order_now journal q) (l.peer.views q) (l.gate.phase q) (l.applied q) (i.lacks q) i.ok.channels_ok h m (idle_in_flight journal l q b) (i.replications q))
 
 hear_by : (journal : List Entry) (count : ℕ) (l : Pairing) (c : ℕ) (p : Packet) (m : Message) → PairingInvariant journal count l → l.peer.link ≡ Some c → front (l.connections c).to_server ≡ Some p → p.message ≡ m → PairingInvariant journal count (hears_from l c (l.connections c) (peer_hear journal l.peer m)).0
 hear_by journal count l c p (Heartbeat t) i e f m =
     let h = heard_front journal count l c p i.ok e f in
     inv_hear journal count l c (λ r. settled journal true r (l.peer.views r)) p (untagged (Heartbeat t)) i e f (rw m refl)
-    (λ r. replication_hear_beat journal (channels l) r (l.connections c).lost_device p (untagged (Heartbeat t)) t (l.peer.views r) (l.gate.phase r) (l.applied r) i.ok.channels_ok h m (i.replications r))
+    (λ r. replication_hear_beat journal (channels l) r (l.connections c).lost_device p (untagged (Heartbeat t)) t (l.peer.views r) (l.gate.phase r) (l.applied r) (i.lacks r) i.ok.channels_ok h m (i.replications r))
 hear_by journal count l c p RoReqAll i e f m = hear_other journal count l c p (untagged (RoListAll (headers journal))) i e f (rw m refl) (λ r z. let y = rw m at z in cc)
 hear_by journal count l c p (RoReq q) i e f m = go (is_busy q l.peer.upper) refl
   where
-    go : (b : Bool) → is_busy q l.peer.upper ≡ b → PairingInvariant journal count (hears_from l c (l.connections c) (if b then (peer_settled journal false l.peer, untagged (RoAck q NotNow)) else (record { upper = l.peer.upper; note = l.peer.note; link = l.peer.link; views = set_order (λ r. settled journal false r (l.peer.views r)) q (Listed (entry_count journal q)) }, list_of q (entry_count journal q) (order_now journal q)))).0
+    go : (b : Bool) → is_busy q l.peer.upper ≡ b → PairingInvariant journal count (hears_from l c (l.connections c) (if b then (peer_settled journal false l.peer, untagged (RoAck q NotNow)) else (record { upper = l.peer.upper; note = l.peer.note; link = l.peer.link; views = set_order (λ r. settled journal false r (l.peer.views r)) q (Listed (entry_count journal q) (in_force journal q (entry_count journal q))) }, list_of q (entry_count journal q) (order_now journal q)))).0
     go true b = hear_not_now journal count l c p q i e f m
     go false b = hear_list journal count l c p q i e f m b
 hear_by journal count l c p (OtherMessage q) i e f m = hear_other journal count l c p (untagged (RoAck q NotSupported)) i e f (rw m tt) (λ r z. let y = rw m at z in cc)

@@ -1,8 +1,8 @@
 -- The event `lose c`, and a message that is taken and left without effect.
-use Rattle.std.proofs.Common.{◌≡◌, ℕ, zero, suc, ◌⊎◌, List, [], ◌∷◌, map, take, Bool, true, false, Option, Some, None, arith, refl, sym, subst, inl, inr}
+use Rattle.std.proofs.Common.{◌≡◌, ℕ, zero, suc, ◌⊎◌, List, [], ◌∷◌, take, Bool, true, false, Option, Some, None, arith, refl, sym, subst, inl, inr}
 use Rattle.std.proofs.lemmas.Bool.Decides.{nat_tests}
 use Rattle.mos_edits.specs.Texts.{Text, set_number}
-use Rattle.mos_edits.specs.Entries.{kind, Entry, entries}
+use Rattle.mos_edits.specs.Entries.{Entry}
 use Rattle.mos_machines.specs.Messages.{Packet}
 use Rattle.mos_machines.specs.Server.{ServerOut, Upper, View, upper_link}
 use Rattle.mos_machines.specs.Device.{GateOut, Phase}
@@ -16,7 +16,7 @@ use Rattle.world_laws.proofs.Channels.{Channels, UpperPart, ChannelsOk, replicat
 use Rattle.world_laws.proofs.Channels.UpperPart.{NotOpen, Greets, Opened}
 use Rattle.world_laws.proofs.Keeps.{LostInFlight, LostAsk, keeps_lost_in_flight, keeps_lost_ask}
 use Rattle.world_laws.proofs.Invariant.{PairingInvariant}
-use Rattle.world_laws.proofs.Reading.{replication_of}
+use Rattle.world_laws.proofs.Reading.{replication_at}
 
 -- the whole queue, or nothing of it
 abbrev pub Shorter : List Packet → List Packet → Type 0
@@ -79,11 +79,11 @@ lost_ask journal w v r s ok = grind arith
 lost_incoming : (w v : Channels) (r : Text) → Loss w v → (incoming_in r v.heard ≡ incoming_in r w.heard) ⊎ (incoming_in r v.heard ≡ NoneComes)
 lost_incoming w v r s = grind arith
 
-replication_loss : (journal : List Entry) (w v : Channels) (r : Text) (view : View) (phase : Phase) (prefix : ℕ) → Loss w v → ChannelsOk journal w → IsInvariant (replication journal w r view phase prefix) → IsInvariant (replication journal v r view phase prefix)
-replication_loss journal w v r view phase prefix s ok i =
-    let a = keeps_lost_in_flight (replication journal w r view phase prefix) i (in_flight_by journal v r v.upper) (lost_in_flight journal w v r s ok) in
-    let b = keeps_lost_ask (record (replication journal w r view phase prefix) { in_flight = in_flight_by journal v r v.upper }) a (ask_of v r) (incoming_in r v.heard) (lost_ask journal w v r s ok) (lost_incoming w v r s) (asks_still journal w v r s ok (i.heard)) in
-    subst (λ (x : Bool). IsInvariant (replication_of (map kind (entries r journal)) (in_flight_by journal v r v.upper) view (ask_of v r) x (incoming_in r v.heard) phase prefix)) (sym s.live) b
+replication_loss : (journal : List Entry) (w v : Channels) (r : Text) (view : View) (phase : Phase) (prefix : ℕ) (lacks : ℕ → Bool) → Loss w v → ChannelsOk journal w → IsInvariant (replication journal w r view phase prefix lacks) → IsInvariant (replication journal v r view phase prefix lacks)
+replication_loss journal w v r view phase prefix lacks s ok i =
+    let a = keeps_lost_in_flight (replication journal w r view phase prefix lacks) i (in_flight_by journal v r v.upper) (lost_in_flight journal w v r s ok) in
+    let b = keeps_lost_ask (record (replication journal w r view phase prefix lacks) { in_flight = in_flight_by journal v r v.upper }) a (ask_of v r) (incoming_in r v.heard) (lost_ask journal w v r s ok) (lost_incoming w v r s) (asks_still journal w v r s ok (i.heard)) in
+    subst (λ (x : Bool). IsInvariant (replication_at journal r (in_flight_by journal v r v.upper) view (ask_of v r) x (incoming_in r v.heard) phase prefix lacks)) (sym s.live) b
   where
     asks_still : (journal : List Entry) (w v : Channels) (r : Text) → Loss w v → ChannelsOk journal w → (w.live ≡ true → incoming_in r w.heard ≡ AskComes → ask_of w r ≡ RequestSent) → w.live ≡ true → incoming_in r v.heard ≡ AskComes → ask_of v r ≡ RequestSent
     asks_still journal w v r s ok h l c = grind arith
@@ -104,7 +104,8 @@ inv_with journal count l c x i o a p s = record {
     silent = i.ok.silent;
     channels_ok = wired_loss journal (channels l) (channels (pairing_with l c x)) s i.ok.channels_ok;
   };
-  replications = λ r. replication_loss journal (channels l) (channels (pairing_with l c x)) r (l.peer.views r) (l.gate.phase r) (l.applied r) s i.ok.channels_ok (i.replications r);
+  lacks = i.lacks;
+  replications = λ r. replication_loss journal (channels l) (channels (pairing_with l c x)) r (l.peer.views r) (l.gate.phase r) (l.applied r) (i.lacks r) s i.ok.channels_ok (i.replications r);
   holds = i.holds;
 }
 

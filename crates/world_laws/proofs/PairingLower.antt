@@ -33,10 +33,10 @@ phase_dropped l i f c h k = grind arith
 asked_for : (w : Channels) (r : Text) → (is_for r w.out ≡ true → ask_of w r ≡ NotRequested → ⊥) × (is_for r w.out ≡ false → ask_of w r ≡ NotRequested)
 asked_for w r = grind arith
 
-pub replication_dropped : (journal : List Entry) (w : Channels) (r : Text) (view : View) (phase : Phase) (prefix : ℕ) (c : Bool) → IsInvariant (replication journal w r view phase prefix) → IsInvariant (replication journal (no_lower w) r view (dropped_phase (is_for r w.out) c phase) prefix)
-replication_dropped journal w r view phase prefix c i =
+pub replication_dropped : (journal : List Entry) (w : Channels) (r : Text) (view : View) (phase : Phase) (prefix : ℕ) (lacks : ℕ → Bool) (c : Bool) → IsInvariant (replication journal w r view phase prefix lacks) → IsInvariant (replication journal (no_lower w) r view (dropped_phase (is_for r w.out) c phase) prefix lacks)
+replication_dropped journal w r view phase prefix lacks c i =
     let a = asked_for w r in
-    rw (phase_dropped (replication journal w r view phase prefix) i (is_for r w.out) c a.0 a.1) (keeps_hangup (replication journal w r view phase prefix) i c)
+    rw (phase_dropped (replication journal w r view phase prefix lacks) i (is_for r w.out) c a.0 a.1) (keeps_hangup (replication journal w r view phase prefix lacks) i c)
 
 pub inv_dropped : (journal : List Entry) (count : ℕ) (l : Pairing) → PairingInvariant journal count l → PairingInvariant journal count (record l { gate = gate_dropped l.gate })
 inv_dropped journal count l i =
@@ -52,8 +52,9 @@ inv_dropped journal count l i =
         silent = λ e. refl;
         channels_ok = subst (λ (x : Channels). ChannelsOk journal x) (sym w) (wired_dropped journal (channels l) i.ok.channels_ok);
       };
-      replications = λ r. subst (λ (x : Channels). IsInvariant (replication journal x r (l.peer.views r) (dropped_phase (is_for r l.gate.out) (is_confirmed r l.gate.confirm) (l.gate.phase r)) (l.applied r))) (sym w)
-          (replication_dropped journal (channels l) r (l.peer.views r) (l.gate.phase r) (l.applied r) (is_confirmed r l.gate.confirm) (i.replications r));
+      lacks = i.lacks;
+      replications = λ r. subst (λ (x : Channels). IsInvariant (replication journal x r (l.peer.views r) (dropped_phase (is_for r l.gate.out) (is_confirmed r l.gate.confirm) (l.gate.phase r)) (l.applied r) (i.lacks r))) (sym w)
+          (replication_dropped journal (channels l) r (l.peer.views r) (l.gate.phase r) (l.applied r) (i.lacks r) (is_confirmed r l.gate.confirm) (i.replications r));
       holds = i.holds;
     }
 
@@ -87,7 +88,8 @@ inv_dialed journal count l g i n =
         silent = λ e. refl;
         channels_ok = subst (λ (x : Channels). ChannelsOk journal x) (sym w) i.ok.channels_ok;
       };
-      replications = λ r. subst (λ (x : Channels). IsInvariant (replication journal x r (l.peer.views r) (g.phase r) (l.applied r))) (sym w) (i.replications r);
+      lacks = i.lacks;
+      replications = λ r. subst (λ (x : Channels). IsInvariant (replication journal x r (l.peer.views r) (g.phase r) (l.applied r) (i.lacks r))) (sym w) (i.replications r);
       holds = i.holds;
     }
 
@@ -113,8 +115,9 @@ inv_missed journal count l i =
         silent = i.ok.silent;
         channels_ok = subst (λ (x : Channels). ChannelsOk journal x) (sym w) (wired_missed journal (channels l) i.ok.channels_ok);
       };
-      replications = λ r. subst (λ (x : Channels). IsInvariant (replication journal x r (unlisted (l.peer.views r)) (l.gate.phase r) (l.applied r))) (sym w)
-          (keeps_miss (replication journal (channels l) r (l.peer.views r) (l.gate.phase r) (l.applied r)) (i.replications r));
+      lacks = i.lacks;
+      replications = λ r. subst (λ (x : Channels). IsInvariant (replication journal x r (unlisted (l.peer.views r)) (l.gate.phase r) (l.applied r) (i.lacks r))) (sym w)
+          (keeps_miss (replication journal (channels l) r (l.peer.views r) (l.gate.phase r) (l.applied r) (i.lacks r)) (i.replications r));
       holds = i.holds;
     }
   where
@@ -138,9 +141,9 @@ channels_admit journal count l c ok o = grind (arith, nat_tests, ok.upper)
 wired_admit : (journal : List Entry) (w : Channels) (live : Bool) (heard : List Packet) → ChannelsOk journal w → IsShort heard → (live ≡ true → heard ≡ w.sent) → ChannelsOk journal (record w { live = live; heard = heard })
 wired_admit journal w live heard ok s h = grind arith
 
-replication_admit : (journal : List Entry) (w : Channels) (r : Text) (live : Bool) (heard : List Packet) (view : View) (phase : Phase) (prefix : ℕ) → ChannelsOk journal w → (live ≡ true → heard ≡ w.sent) → IsInvariant (replication journal w r view phase prefix) → IsInvariant (replication journal (record w { live = live; heard = heard }) r (unlisted view) phase prefix)
-replication_admit journal w r false heard view phase prefix ok h i = keeps_admit_other (replication journal w r view phase prefix) i (incoming_in r heard)
-replication_admit journal w r true heard view phase prefix ok h i = keeps_admit (replication journal w r view phase prefix) i (incoming_in r heard) (asks_here (h refl))
+replication_admit : (journal : List Entry) (w : Channels) (r : Text) (live : Bool) (heard : List Packet) (view : View) (phase : Phase) (prefix : ℕ) (lacks : ℕ → Bool) → ChannelsOk journal w → (live ≡ true → heard ≡ w.sent) → IsInvariant (replication journal w r view phase prefix lacks) → IsInvariant (replication journal (record w { live = live; heard = heard }) r (unlisted view) phase prefix lacks)
+replication_admit journal w r false heard view phase prefix lacks ok h i = keeps_admit_other (replication journal w r view phase prefix lacks) i (incoming_in r heard)
+replication_admit journal w r true heard view phase prefix lacks ok h i = keeps_admit (replication journal w r view phase prefix lacks) i (incoming_in r heard) (asks_here (h refl))
   where
     asks_here : heard ≡ w.sent → incoming_in r heard ≡ AskComes → ask_of w r ≡ RequestSent
     asks_here e c = grind arith
@@ -162,8 +165,9 @@ inv_admit journal count l c i o a =
         silent = i.ok.silent;
         channels_ok = subst (λ (x : Channels). ChannelsOk journal x) (sym w) (wired_admit journal (channels l) (same_link (Some c) l.gate.link) (l.connections c).to_server i.ok.channels_ok short here);
       };
-      replications = λ r. subst (λ (x : Channels). IsInvariant (replication journal x r (unlisted (l.peer.views r)) (l.gate.phase r) (l.applied r))) (sym w)
-          (replication_admit journal (channels l) r (same_link (Some c) l.gate.link) (l.connections c).to_server (l.peer.views r) (l.gate.phase r) (l.applied r) i.ok.channels_ok here (i.replications r));
+      lacks = i.lacks;
+      replications = λ r. subst (λ (x : Channels). IsInvariant (replication journal x r (unlisted (l.peer.views r)) (l.gate.phase r) (l.applied r) (i.lacks r))) (sym w)
+          (replication_admit journal (channels l) r (same_link (Some c) l.gate.link) (l.connections c).to_server (l.peer.views r) (l.gate.phase r) (l.applied r) (i.lacks r) i.ok.channels_ok here (i.replications r));
       holds = i.holds;
     }
 
@@ -177,18 +181,18 @@ pub keeps_admits : (journal : List Entry) (count n : ℕ) (l : Pairing) (c : ℕ
 keeps_admits journal count n l c i = admits_go journal count l c (l.connections c).opener (l.connections c).accepted i refl refl
 
 -- `want d r`
-replication_want : (journal : List Entry) (w : Channels) (r : Text) (view : View) (phase : Phase) (prefix : ℕ) → IsInvariant (replication journal w r view phase prefix) → IsInvariant (replication journal w r view (wanted_phase phase) prefix)
-replication_want journal w r view InStep prefix i = keeps_want (replication journal w r view InStep prefix) i refl
-replication_want journal w r view OutOfStep prefix i = i
-replication_want journal w r view Asked prefix i = i
-replication_want journal w r view Crossed prefix i = i
+replication_want : (journal : List Entry) (w : Channels) (r : Text) (view : View) (phase : Phase) (prefix : ℕ) (lacks : ℕ → Bool) → IsInvariant (replication journal w r view phase prefix lacks) → IsInvariant (replication journal w r view (wanted_phase phase) prefix lacks)
+replication_want journal w r view InStep prefix lacks i = keeps_want (replication journal w r view InStep prefix lacks) i refl
+replication_want journal w r view OutOfStep prefix lacks i = i
+replication_want journal w r view Asked prefix lacks i = i
+replication_want journal w r view Crossed prefix lacks i = i
 
 pub keeps_wants : (journal : List Entry) (count n : ℕ) (l : Pairing) (q : Text) → PairingInvariant journal count l → PairingInvariant journal count (pairing_step journal n l (Want q)).0
-keeps_wants journal count n l q i = record { ok = record { unaccepted = i.ok.unaccepted; fresh = i.ok.fresh; upper = i.ok.upper; read = i.ok.read; linked = i.ok.linked; dialed = i.ok.dialed; silent = i.ok.silent; channels_ok = i.ok.channels_ok }; replications = λ r. each r (same_id r q) refl; holds = i.holds }
+keeps_wants journal count n l q i = record { ok = record { unaccepted = i.ok.unaccepted; fresh = i.ok.fresh; upper = i.ok.upper; read = i.ok.read; linked = i.ok.linked; dialed = i.ok.dialed; silent = i.ok.silent; channels_ok = i.ok.channels_ok }; lacks = i.lacks; replications = λ r. each r (same_id r q) refl; holds = i.holds }
   where
-    each : (r : Text) (b : Bool) → same_id r q ≡ b → IsInvariant (replication journal (channels l) r (l.peer.views r) (if b then wanted_phase (l.gate.phase q) else l.gate.phase r) (l.applied r))
+    each : (r : Text) (b : Bool) → same_id r q ≡ b → IsInvariant (replication journal (channels l) r (l.peer.views r) (if b then wanted_phase (l.gate.phase q) else l.gate.phase r) (l.applied r) (i.lacks r))
     each r false e = i.replications r
-    each r true e = subst (λ (z : Text). IsInvariant (replication journal (channels l) z (l.peer.views z) (wanted_phase (l.gate.phase q)) (l.applied z))) (sym (same-true r q e)) (replication_want journal (channels l) q (l.peer.views q) (l.gate.phase q) (l.applied q) (i.replications q))
+    each r true e = subst (λ (z : Text). IsInvariant (replication journal (channels l) z (l.peer.views z) (wanted_phase (l.gate.phase q)) (l.applied z) (i.lacks z))) (sym (same-true r q e)) (replication_want journal (channels l) q (l.peer.views q) (l.gate.phase q) (l.applied q) (i.lacks q) (i.replications q))
 
 -- `reboot d`
 pub keeps_reboots : (journal : List Entry) (count n : ℕ) (l : Pairing) → PairingInvariant journal count l → PairingInvariant journal count (pairing_step journal n l Reboot).0
@@ -205,8 +209,9 @@ keeps_reboots journal count n l i =
         silent = λ e. refl;
         channels_ok = subst (λ (x : Channels). ChannelsOk journal x) (sym w) (wired_dropped journal (record (channels l) { joined = false; down = [] }) (wired_left journal (channels l) i.ok.channels_ok));
       };
-      replications = λ r. subst (λ (x : Channels). IsInvariant (replication journal x r (l.peer.views r) OutOfStep 0)) (sym w)
-          (rw (in_flight_moved journal (channels l) r [] i.ok.channels_ok refl) (keeps_reboot (replication journal (channels l) r (l.peer.views r) (l.gate.phase r) (l.applied r)) (i.replications r)));
+      lacks = λ r j. false;
+      replications = λ r. subst (λ (x : Channels). IsInvariant (replication journal x r (l.peer.views r) OutOfStep 0 (λ j. false))) (sym w)
+          (rw (in_flight_moved journal (channels l) r [] i.ok.channels_ok refl) (keeps_reboot (replication journal (channels l) r (l.peer.views r) (l.gate.phase r) (l.applied r) (i.lacks r)) (i.replications r)));
       holds = λ r. refl;
     }
   where
@@ -215,11 +220,11 @@ keeps_reboots journal count n l i =
 
 -- notes and decks
 beats_go : (journal : List Entry) (count : ℕ) (l : Pairing) (b : Bool) → PairingInvariant journal count l → PairingInvariant journal count (beats_if l b).0
-beats_go journal count l true i = record { ok = record { unaccepted = i.ok.unaccepted; fresh = i.ok.fresh; upper = i.ok.upper; read = i.ok.read; linked = i.ok.linked; dialed = i.ok.dialed; silent = i.ok.silent; channels_ok = i.ok.channels_ok }; replications = i.replications; holds = i.holds }
+beats_go journal count l true i = record { ok = record { unaccepted = i.ok.unaccepted; fresh = i.ok.fresh; upper = i.ok.upper; read = i.ok.read; linked = i.ok.linked; dialed = i.ok.dialed; silent = i.ok.silent; channels_ok = i.ok.channels_ok }; lacks = i.lacks; replications = i.replications; holds = i.holds }
 beats_go journal count l false i = i
 
 device_beats_go : (journal : List Entry) (count : ℕ) (l : Pairing) (o : Option ℕ) → PairingInvariant journal count l → PairingInvariant journal count (device_beats_if l o).0
-device_beats_go journal count l (Some c) i = record { ok = record { unaccepted = i.ok.unaccepted; fresh = i.ok.fresh; upper = i.ok.upper; read = i.ok.read; linked = i.ok.linked; dialed = i.ok.dialed; silent = i.ok.silent; channels_ok = i.ok.channels_ok }; replications = i.replications; holds = i.holds }
+device_beats_go journal count l (Some c) i = record { ok = record { unaccepted = i.ok.unaccepted; fresh = i.ok.fresh; upper = i.ok.upper; read = i.ok.read; linked = i.ok.linked; dialed = i.ok.dialed; silent = i.ok.silent; channels_ok = i.ok.channels_ok }; lacks = i.lacks; replications = i.replications; holds = i.holds }
 device_beats_go journal count l None i = i
 
 pub keeps_beating : (journal : List Entry) (count n : ℕ) (l : Pairing) → PairingInvariant journal count l → PairingInvariant journal count (pairing_step journal n l Beat).0
@@ -229,4 +234,4 @@ pub keeps_device_beating : (journal : List Entry) (count n : ℕ) (l : Pairing) 
 keeps_device_beating journal count n l i = device_beats_go journal count l l.gate.link i
 
 pub keeps_decks : (journal : List Entry) (count n : ℕ) (l : Pairing) (k : ℕ) → PairingInvariant journal count l → PairingInvariant journal count (pairing_step journal n l (DecksLeft k)).0
-keeps_decks journal count n l k i = record { ok = record { unaccepted = i.ok.unaccepted; fresh = i.ok.fresh; upper = i.ok.upper; read = i.ok.read; linked = i.ok.linked; dialed = i.ok.dialed; silent = i.ok.silent; channels_ok = i.ok.channels_ok }; replications = i.replications; holds = i.holds }
+keeps_decks journal count n l k i = record { ok = record { unaccepted = i.ok.unaccepted; fresh = i.ok.fresh; upper = i.ok.upper; read = i.ok.read; linked = i.ok.linked; dialed = i.ok.dialed; silent = i.ok.silent; channels_ok = i.ok.channels_ok }; lacks = i.lacks; replications = i.replications; holds = i.holds }

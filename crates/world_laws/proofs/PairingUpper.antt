@@ -1,8 +1,8 @@
 -- The events `cut d`, `leave d`, `open d`, `accept d c`.
-use Rattle.std.proofs.Common.{◌≡◌, ℕ, ◌+◌, List, [], ◌∷◌, map, Bool, true, false, Option, Some, None, arith, refl, if◌then◌else◌, sym, subst}
+use Rattle.std.proofs.Common.{◌≡◌, ℕ, ◌+◌, List, [], ◌∷◌, Bool, true, false, Option, Some, None, arith, refl, if◌then◌else◌, sym, subst}
 use Rattle.std.proofs.lemmas.Bool.Decides.{nat_tests}
 use Rattle.mos_edits.specs.Texts.{Text, set_number}
-use Rattle.mos_edits.specs.Entries.{kind, Entry, entries}
+use Rattle.mos_edits.specs.Entries.{Entry}
 use Rattle.mos_machines.specs.Messages.{Packet}
 use Rattle.mos_machines.specs.Server.{ServerOut, Upper, View, peer_opened, peer_cut, upper_link}
 use Rattle.mos_machines.specs.Device.{Phase, gate_accepted, gate_left, crossed}
@@ -18,7 +18,7 @@ use Rattle.world_laws.proofs.Channels.UpperPart.{Greets}
 use Rattle.world_laws.proofs.Keeps.{unread_gone, keeps_closed, keeps_leave, keeps_accept, keeps_accept_other}
 use Rattle.world_laws.proofs.Joining.{readable-in_flight}
 use Rattle.world_laws.proofs.Invariant.{PairingInvariant}
-use Rattle.world_laws.proofs.Reading.{replication_of}
+use Rattle.world_laws.proofs.Reading.{replication_at}
 
 -- `cut`, and what a restart and an `open` begin with
 abbrev pub pairing_cut : Pairing → Pairing
@@ -36,8 +36,9 @@ inv_cut journal count l i = record {
     silent = i.ok.silent;
     channels_ok = let o = i.ok.channels_ok in grind arith;
   };
-  replications = λ r. subst (λ (x : Option Transfer). IsInvariant (replication_of (map kind (entries r journal)) (NotConnected false x) Out (ask_of (channels l) r) (channels l).live (incoming_in r (channels l).heard) (l.gate.phase r) (l.applied r)))
-      (readable-in_flight journal (channels l) r i.ok.channels_ok) (keeps_closed (replication journal (channels l) r (l.peer.views r) (l.gate.phase r) (l.applied r)) (i.replications r));
+  lacks = i.lacks;
+  replications = λ r. subst (λ (x : Option Transfer). IsInvariant (replication_at journal r (NotConnected false x) Out (ask_of (channels l) r) (channels l).live (incoming_in r (channels l).heard) (l.gate.phase r) (l.applied r) (i.lacks r)))
+      (readable-in_flight journal (channels l) r i.ok.channels_ok) (keeps_closed (replication journal (channels l) r (l.peer.views r) (l.gate.phase r) (l.applied r) (i.lacks r)) (i.replications r));
   holds = i.holds;
 }
 
@@ -85,8 +86,9 @@ inv_leave journal count l i =
         silent = i.ok.silent;
         channels_ok = let o = i.ok.channels_ok in grind arith;
       };
-      replications = λ r. subst (λ (x : Channels). IsInvariant (replication journal x r (l.peer.views r) (l.gate.phase r) (l.applied r))) (sym w)
-          (rw (in_flight_moved journal (channels l) r [] i.ok.channels_ok refl) (keeps_leave (replication journal (channels l) r (l.peer.views r) (l.gate.phase r) (l.applied r)) (i.replications r)));
+      lacks = i.lacks;
+      replications = λ r. subst (λ (x : Channels). IsInvariant (replication journal x r (l.peer.views r) (l.gate.phase r) (l.applied r) (i.lacks r))) (sym w)
+          (rw (in_flight_moved journal (channels l) r [] i.ok.channels_ok refl) (keeps_leave (replication journal (channels l) r (l.peer.views r) (l.gate.phase r) (l.applied r) (i.lacks r)) (i.replications r)));
       holds = i.holds;
     }
 
@@ -131,15 +133,15 @@ ok_accept journal count l c ok o a =
     wired_accept journal l c true e w h a = grind (arith, nat_tests)
     wired_accept journal l c false e w h a = grind (arith, nat_tests)
 
-replication_accept : (journal : List Entry) (w : Channels) (r : Text) (b : Bool) (down : List Packet) (view : View) (phase : Phase) (prefix : ℕ) → ChannelsOk journal w → IsBeats down → (b ≡ true → (w.upper ≡ Greets) × (w.accepted ≡ false)) → IsInvariant (replication journal w r view phase prefix)
-    → IsInvariant (replication journal (record w { accepted = if b then true else w.accepted; joined = b; down = down }) r view (crossed phase) prefix)
-replication_accept journal w r false down view phase prefix ok h g i =
-    rw (in_flight_moved journal w r down ok (beats_transfer down r h)) (keeps_accept_other (replication journal w r view phase prefix) i)
-replication_accept journal w r true down view phase prefix ok h g i =
+replication_accept : (journal : List Entry) (w : Channels) (r : Text) (b : Bool) (down : List Packet) (view : View) (phase : Phase) (prefix : ℕ) (lacks : ℕ → Bool) → ChannelsOk journal w → IsBeats down → (b ≡ true → (w.upper ≡ Greets) × (w.accepted ≡ false)) → IsInvariant (replication journal w r view phase prefix lacks)
+    → IsInvariant (replication journal (record w { accepted = if b then true else w.accepted; joined = b; down = down }) r view (crossed phase) prefix lacks)
+replication_accept journal w r false down view phase prefix lacks ok h g i =
+    rw (in_flight_moved journal w r down ok (beats_transfer down r h)) (keeps_accept_other (replication journal w r view phase prefix lacks) i)
+replication_accept journal w r true down view phase prefix lacks ok h g i =
     let n = beats_transfer down r h in let u = g refl in
     let new : in_flight_by journal (record w { accepted = true; joined = true; down = down }) r w.upper ≡ NotConnected true None = rw (u.0, n) refl in
     let old : in_flight_by journal w r w.upper ≡ NotConnected false (transfer_in r w.down) = rw (u.0, u.1) refl in
-    rw new (keeps_accept (replication journal w r view phase prefix) i (transfer_in r w.down) old)
+    rw new (keeps_accept (replication journal w r view phase prefix lacks) i (transfer_in r w.down) old)
 
 is_greeting : (journal : List Entry) (count : ℕ) (l : Pairing) (c : ℕ) → PairingOk journal count l → (l.connections c).accepted ≡ false → same_link (upper_link l.peer.upper) (Some c) ≡ true → ((channels l).upper ≡ Greets) × ((channels l).accepted ≡ false)
 is_greeting journal count l c ok a e = let w = ok.channels_ok.upper_part in grind (arith, nat_tests)
@@ -150,8 +152,9 @@ inv_accept journal count l c i o a =
     let beats : IsBeats (l.connections c).to_device = grind arith in
     record {
       ok = ok_accept journal count l c i.ok o a;
-      replications = λ r. subst (λ (x : Channels). IsInvariant (replication journal x r (l.peer.views r) (crossed (l.gate.phase r)) (l.applied r))) (sym (channels_accept journal count l c i.ok o a))
-          (replication_accept journal (channels l) r (same_link (upper_link l.peer.upper) (Some c)) (l.connections c).to_device (l.peer.views r) (l.gate.phase r) (l.applied r) i.ok.channels_ok beats (is_greeting journal count l c i.ok a) (i.replications r));
+      lacks = i.lacks;
+      replications = λ r. subst (λ (x : Channels). IsInvariant (replication journal x r (l.peer.views r) (crossed (l.gate.phase r)) (l.applied r) (i.lacks r))) (sym (channels_accept journal count l c i.ok o a))
+          (replication_accept journal (channels l) r (same_link (upper_link l.peer.upper) (Some c)) (l.connections c).to_device (l.peer.views r) (l.gate.phase r) (l.applied r) (i.lacks r) i.ok.channels_ok beats (is_greeting journal count l c i.ok a) (i.replications r));
       holds = i.holds;
     }
 
@@ -185,9 +188,10 @@ inv_open journal count l i =
         silent = i.ok.silent;
         channels_ok = let w = i.ok.channels_ok in subst (λ (x : Channels). ChannelsOk journal x) (sym (channels_open journal count l i.ok)) (grind arith);
       };
-      replications = λ r. subst (λ (x : Channels). IsInvariant (replication journal x r Out (l.gate.phase r) (l.applied r))) (sym (channels_open journal count l i.ok))
-          (subst (λ (x : Option Transfer). IsInvariant (replication_of (map kind (entries r journal)) (NotConnected false x) Out (ask_of (channels l) r) (channels l).live (incoming_in r (channels l).heard) (l.gate.phase r) (l.applied r)))
-          (readable-in_flight journal (channels l) r i.ok.channels_ok) (keeps_closed (replication journal (channels l) r (l.peer.views r) (l.gate.phase r) (l.applied r)) (i.replications r)));
+      lacks = i.lacks;
+      replications = λ r. subst (λ (x : Channels). IsInvariant (replication journal x r Out (l.gate.phase r) (l.applied r) (i.lacks r))) (sym (channels_open journal count l i.ok))
+          (subst (λ (x : Option Transfer). IsInvariant (replication_at journal r (NotConnected false x) Out (ask_of (channels l) r) (channels l).live (incoming_in r (channels l).heard) (l.gate.phase r) (l.applied r) (i.lacks r)))
+          (readable-in_flight journal (channels l) r i.ok.channels_ok) (keeps_closed (replication journal (channels l) r (l.peer.views r) (l.gate.phase r) (l.applied r) (i.lacks r)) (i.replications r)));
       holds = i.holds;
     }
 

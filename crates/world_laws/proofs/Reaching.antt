@@ -1,7 +1,7 @@
 -- Worlds that a run ends in have links and stay within their journals.
 use Rattle.std.proofs.Common.{◌≡◌, ℕ, ◌+◌, List, [], ◌∷◌, ◌++◌, Bool, true, false, Option, Some, None, refl, sym, ap, ◌∙◌, subst, if◌then◌else◌, ◌&&◌, nat_le}
 use Rattle.mos_edits.specs.Texts.{set_number}
-use Rattle.mos_machines.specs.Steps.{ServerState, ServerEvent, server_step}
+use Rattle.mos_machines.specs.Steps.{ServerState, ServerEvent}
 use Rattle.mos_machines.specs.Views.{IsServerWithin}
 use Rattle.mos_machines.proofs.Growing.{server-grows, started-within}
 use Rattle.world_laws.specs.World.{World, WorldEvent, PairingEvent, Effect, opening, run, world_step, at_device, pairing_step, has_device, lose, kept_journal}

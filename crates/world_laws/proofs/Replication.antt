@@ -1,18 +1,20 @@
 -- The replication of one order at one device: what the world is, seen through them. Numbers of connections, other orders and
 -- other devices are gone. The invariant says how the length of the device's applied prefix stands to the server's view, to
 -- what is in flight and to what the device has asked for.
-use Rattle.std.specs.Prelude.{◌≡◌, ℕ, ◌+◌, ◌-◌, ◌<◌, ◌≤◌, ◌⊎◌, List, length, slice_get, Bool, true, false, Option, Some, None}
+use Rattle.std.specs.Prelude.{◌≡◌, ℕ, ◌+◌, ◌-◌, ◌<◌, ◌≤◌, ◌⊎◌, List, [], ◌∷◌, length, slice_get, Bool, true, false, Option, Some, None}
 use Rattle.mos_edits.specs.Entries.{Kind}
+use Rattle.mos_edits.specs.Scripts.{has_number}
 use Rattle.mos_edits.specs.Entries.Kind.{IsWhole, IsReady}
 use Rattle.mos_machines.specs.Server.{View}
 use Rattle.mos_machines.specs.Device.{Phase}
 use Rattle.mos_machines.specs.Server.View.{Out, Listed, In, From}
 use Rattle.mos_machines.specs.Device.Phase.{InStep, OutOfStep, Asked, Crossed}
 
--- an edit on its way: entry k, or the READY before m sent again
+-- an edit on its way: entry k, the READY before m sent again, or the script of entry k sent again after a list of m entries
 pub data Transfer : Type 0 where
   TransferEntry : (k : ℕ) → Transfer
   TransferAgain : (m : ℕ) → Transfer
+  TransferScript : (k m : ℕ) → Transfer
 
 -- What is in flight to the device. NotConnected: the server's connection isn't open; it was accepted or not, and an edit on
 -- a former one may still be readable. Nothing: open, with no edit of the order in flight. Unread: the edit waits at the device.
@@ -40,7 +42,8 @@ pub data Incoming : Type 0 where
   OtherComes : Incoming
 
 -- `kinds`: of the order's entries. `view`: the server's. `ask`, `phase`, `prefix`: the device's request, phase and applied
--- prefix. `live`: the server hears on the connection that the device has. `incoming`: what it hears next.
+-- prefix. `live`: the server hears on the connection that the device has. `incoming`: what it hears next. `lacks` tells the
+-- entries whose scripts the device lacks, `in_force` those whose scripts stand after a number of entries.
 pub record Replication : Type 0 where
   pub kinds : List Kind
   pub in_flight : InFlight
@@ -50,6 +53,12 @@ pub record Replication : Type 0 where
   pub incoming : Incoming
   pub phase : Phase
   pub prefix : ℕ
+  pub lacks : ℕ → Bool
+  pub in_force : ℕ → List ℕ
+
+-- the device has each script
+abbrev pub IsComplete : Replication → Type 0
+IsComplete l = (j : ℕ) → l.lacks j ≡ false
 
 abbrev pub WholeAt : List Kind → ℕ → Type 0
 WholeAt kinds k = slice_get kinds k ≡ Some IsWhole
@@ -68,14 +77,17 @@ readable (Lost i) = None
 abbrev pub ReadableOk : Replication → Option Transfer → Type 0
 ReadableOk l None = Unit {0}
 ReadableOk l (Some (TransferEntry k)) =
-    (l.prefix ≤ k) × (k < length l.kinds) × (l.phase ≡ InStep → WholeAt l.kinds k ⊎ (k ≡ l.prefix))
+    (l.prefix ≤ k) × (k < length l.kinds) × (l.phase ≡ InStep → WholeAt l.kinds k ⊎ ((k ≡ l.prefix) × IsComplete l))
 ReadableOk l (Some (TransferAgain m)) =
-    ReadyBefore l.kinds m × (l.prefix ≤ m) × (l.phase ≡ InStep → m ≡ l.prefix)
+    ReadyBefore l.kinds m × (l.prefix ≤ m) × (l.phase ≡ InStep → (m ≡ l.prefix) × IsComplete l)
+ReadableOk l (Some (TransferScript k m)) =
+    (has_number k (l.in_force m) ≡ true) × (m ≤ length l.kinds) × (l.prefix ≤ m) × (l.phase ≡ InStep → m ≡ l.prefix)
 
 -- the view of an order with an edit in flight
 abbrev pub Fits : List Kind → View → Transfer → Type 0
-Fits kinds view (TransferEntry k) = (k < length kinds) × ((view ≡ In k false) ⊎ (view ≡ From k))
-Fits kinds view (TransferAgain m) = view ≡ In m true
+Fits kinds view (TransferEntry k) = (k < length kinds) × ((view ≡ In k false []) ⊎ (view ≡ From k))
+Fits kinds view (TransferAgain m) = view ≡ In m true []
+Fits kinds view (TransferScript k m) = (again : Bool) × (scripts : List ℕ) × (view ≡ In m again (k ∷ scripts))
 
 abbrev pub InFlightOk : Replication → InFlight → Type 0
 InFlightOk l (NotConnected false r) = l.view ≡ Out
@@ -83,11 +95,12 @@ InFlightOk l (NotConnected true r) = (l.view ≡ Out) × (r ≡ None)
 InFlightOk l Nothing = Unit {0}
 InFlightOk l (Unread i) = Fits l.kinds l.view i
 InFlightOk l (Acknowledged (TransferEntry k)) =
-    Fits l.kinds l.view (TransferEntry k) × (l.prefix ≤ k + 1) × (l.phase ≡ InStep → l.prefix ≡ k + 1) × ((m : ℕ) → l.ask ≡ AnsweredWith m → ⊥)
+    Fits l.kinds l.view (TransferEntry k) × (l.prefix ≤ k + 1) × (l.phase ≡ InStep → (l.prefix ≡ k + 1) × IsComplete l) × ((m : ℕ) → l.ask ≡ AnsweredWith m → ⊥)
 InFlightOk l (Acknowledged (TransferAgain m)) = Fits l.kinds l.view (TransferAgain m)
+InFlightOk l (Acknowledged (TransferScript k m)) = Fits l.kinds l.view (TransferScript k m) × (l.phase ≡ InStep → l.lacks k ≡ false)
 InFlightOk l (Lost i) = Fits l.kinds l.view i
 
--- no entry of the order is in flight; a READY sent again may be
+-- no entry of the order is in flight; what is sent again may be
 abbrev pub NoEntry : InFlight → Type 0
 NoEntry (NotConnected accepted r) = Unit {0}
 NoEntry Nothing = Unit {0}
@@ -97,27 +110,31 @@ NoEntry (Lost (TransferEntry k)) = ⊥
 NoEntry (Unread (TransferAgain m)) = Unit {0}
 NoEntry (Acknowledged (TransferAgain m)) = Unit {0}
 NoEntry (Lost (TransferAgain m)) = Unit {0}
+NoEntry (Unread (TransferScript k m)) = Unit {0}
+NoEntry (Acknowledged (TransferScript k m)) = Unit {0}
+NoEntry (Lost (TransferScript k m)) = Unit {0}
 
 abbrev pub ViewOk : Replication → View → Type 0
 ViewOk l Out = Unit {0}
-ViewOk l (Listed m) =
-    (l.in_flight ≡ Nothing) × (l.prefix ≤ m) × (m ≤ length l.kinds)
+ViewOk l (Listed m scripts) =
+    (l.in_flight ≡ Nothing) × (l.prefix ≤ m) × (m ≤ length l.kinds) × (scripts ≡ l.in_force m)
     × (l.phase ≡ InStep → (l.prefix ≡ m) ⊎ ((l.incoming ≡ NoneComes) × (l.live ≡ false)))
-ViewOk l (In n again) =
-    (n ≤ length l.kinds) × (again ≡ true → ReadyBefore l.kinds n)
-    × (NoEntry l.in_flight → (l.prefix ≤ n) × (l.phase ≡ InStep → l.prefix ≡ n))
+ViewOk l (In n again scripts) =
+    (n ≤ length l.kinds) × (again ≡ true → ReadyBefore l.kinds n) × ((j : ℕ) → has_number j scripts ≡ true → has_number j (l.in_force n) ≡ true)
+    × (NoEntry l.in_flight → (l.prefix ≤ n) × (l.phase ≡ InStep → (l.prefix ≡ n) × ((j : ℕ) → l.lacks j ≡ true → has_number j scripts ≡ true)))
 ViewOk l (From k) = WholeAt l.kinds k × (k < length l.kinds) × (l.in_flight ≡ Nothing → l.prefix ≤ k)
 
 abbrev pub AskView : Replication → ℕ → View → Type 0
 AskView l m Out = Unit {0}
-AskView l m (Listed n) = (m ≤ n) × (l.live ≡ true → m ≡ n) × (l.incoming ≡ NoneComes)
-AskView l m (In n again) = ⊥
+AskView l m (Listed n ks) = (m ≤ n) × (l.live ≡ true → m ≡ n) × (l.incoming ≡ NoneComes)
+AskView l m (In n again scripts) = ⊥
 AskView l m (From k) = m ≤ k
 
 abbrev pub AskReadable : Replication → ℕ → Option Transfer → Type 0
 AskReadable l m None = Unit {0}
 AskReadable l m (Some (TransferEntry k)) = WholeAt l.kinds k × (m ≤ k)
 AskReadable l m (Some (TransferAgain n)) = ⊥
+AskReadable l m (Some (TransferScript k n)) = ⊥
 
 abbrev pub IsAsking : Phase → Type 0
 IsAsking InStep = ⊥
@@ -138,4 +155,5 @@ pub record IsInvariant (l : Replication) : Type 0 where
   pub in_flight : InFlightOk l l.in_flight
   pub view : ViewOk l l.view
   pub ask : AskOk l l.ask
+  pub lacking : (j : ℕ) → l.lacks j ≡ true → has_number j (l.in_force l.prefix) ≡ true
   pub heard : l.live ≡ true → l.incoming ≡ AskComes → l.ask ≡ RequestSent

@@ -2,7 +2,7 @@
 use Rattle.std.proofs.Common.{◌≡◌, List, [], ◌∷◌, None, refl}
 use Rattle.std.specs.Prelude.{codes}
 use Rattle.mos_edits.specs.Texts.{Text, same_id}
-use Rattle.mos_edits.specs.Orders.{Order, Story, Item, apply}
+use Rattle.mos_edits.specs.Orders.{OrderBody, Story, Item, apply}
 use Rattle.mos_edits.specs.declared.edit.Edit.TheVariants.{Create}
 use Rattle.mos_edits.specs.Entries.{over_limit}
 use Rattle.world_laws.specs.World.{World, WorldEvent, opening, run, own_time}
@@ -121,7 +121,7 @@ abbrev pub plain : Text → Story
 plain id = story id []
 
 -- an order whose slug is its name
-abbrev pub body : Text → List Story → Order
+abbrev pub body : Text → List Story → OrderBody
 body ro stories = record {
   header = record { ro = ro; slug = ro; channel = None; ed_start = None; ed_dur = None; trigger = None; macro_in = None; macro_out = None; metadata = []; others = [] };
   stories = stories;

@@ -1,7 +1,7 @@
 -- Worked runs of the world, computed: the outcome of each event, and the state at the end.
 use Rattle.std.proofs.Common.{◌≡◌, List, [], ◌∷◌, true, false, Some, None, refl}
 use Rattle.mos_edits.specs.Texts.{same_id}
-use Rattle.mos_edits.specs.Orders.{apply}
+use Rattle.mos_edits.specs.Orders.{order_of, apply}
 use Rattle.mos_edits.specs.declared.edit.Edit.TheVariants as Edits
 use Rattle.mos_edits.specs.declared.edit.Edit.TheVariants.{Create, Act, Air}
 use Rattle.mos_values.specs.declared.action.Action.TheVariants.{InsertStories, ReplaceStory, InsertItems, MoveStories, MoveItems, DeleteStories, DeleteItems, SwapStories, SwapItems}
@@ -34,7 +34,7 @@ moves_outcomes : outcomes (opening 1) moves ≡ Outcome.Command okay ∷ Outcome
 unfolding same_id apply over_limit own_time
 moves_outcomes = refl
 
-moves_order : (entry_count after_moves.journal r ≡ 3) × (order_now after_moves.journal r ≡ Some (body r ((plain c) ∷ (plain a) ∷ (plain b) ∷ [])))
+moves_order : (entry_count after_moves.journal r ≡ 3) × (order_now after_moves.journal r ≡ Some (order_of (body r ((plain c) ∷ (plain a) ∷ (plain b) ∷ []))))
 unfolding same_id apply over_limit own_time
 moves_order = (refl, refl)
 
@@ -62,7 +62,7 @@ items_outcomes : outcomes (opening 1) items ≡ Outcome.Command okay ∷ Outcome
 unfolding same_id apply over_limit own_time
 items_outcomes = refl
 
-items_order : (entry_count after_items.journal r ≡ 6) × (order_now after_items.journal r ≡ Some (body r ((story a (item y ∷ [])) ∷ (plain b) ∷ (plain e) ∷ (plain c) ∷ (plain d) ∷ [])))
+items_order : (entry_count after_items.journal r ≡ 6) × (order_now after_items.journal r ≡ Some (order_of (body r ((story a (item y ∷ [])) ∷ (plain b) ∷ (plain e) ∷ (plain c) ∷ (plain d) ∷ []))))
 unfolding same_id apply over_limit own_time
 items_order = (refl, refl)
 
@@ -93,11 +93,11 @@ list_waits_outcomes : outcomes (opened) list_waits ≡ Outcome.Done ∷ Outcome.
 unfolding same_id apply over_limit own_time
 list_waits_outcomes = refl
 
-list_waits_order : (entry_count after_list_waits.journal r ≡ 2) × (order_now after_list_waits.journal r ≡ Some (body r ((plain c) ∷ (plain b) ∷ (plain a) ∷ [])))
+list_waits_order : (entry_count after_list_waits.journal r ≡ 2) × (order_now after_list_waits.journal r ≡ Some (order_of (body r ((plain c) ∷ (plain b) ∷ (plain a) ∷ []))))
 unfolding same_id apply over_limit own_time
 list_waits_order = (refl, refl)
 
-list_waits_ends : ((after_list_waits.pairings 1).peer.upper ≡ Open 1 Idle) × ((after_list_waits.pairings 1).peer.views r ≡ In 2 false) × ((after_list_waits.pairings 1).gate.upper ≡ (Some 1)) × ((after_list_waits.pairings 1).gate.link ≡ (Some 2)) × ((after_list_waits.pairings 1).gate.out ≡ NotAsking) × ((after_list_waits.pairings 1).gate.phase r ≡ InStep) × ((after_list_waits.pairings 1).applied r ≡ 2) × ((after_list_waits.pairings 1).gate.held r ≡ Some (body r ((plain c) ∷ (plain b) ∷ (plain a) ∷ []))) × ((after_list_waits.pairings 1).gate.known ≡ (r ∷ []))
+list_waits_ends : ((after_list_waits.pairings 1).peer.upper ≡ Open 1 Idle) × ((after_list_waits.pairings 1).peer.views r ≡ In 2 false []) × ((after_list_waits.pairings 1).gate.upper ≡ (Some 1)) × ((after_list_waits.pairings 1).gate.link ≡ (Some 2)) × ((after_list_waits.pairings 1).gate.out ≡ NotAsking) × ((after_list_waits.pairings 1).gate.phase r ≡ InStep) × ((after_list_waits.pairings 1).applied r ≡ 2) × ((after_list_waits.pairings 1).gate.held r ≡ Some (order_of (body r ((plain c) ∷ (plain b) ∷ (plain a) ∷ [])))) × ((after_list_waits.pairings 1).gate.known ≡ (r ∷ []))
 unfolding same_id apply over_limit own_time
 list_waits_ends = (refl, refl, refl, refl, refl, refl, refl, refl, refl)
 
@@ -136,11 +136,11 @@ cut_in_a_swap_outcomes : outcomes (opened) cut_in_a_swap ≡ Outcome.Command oka
 unfolding same_id apply over_limit own_time
 cut_in_a_swap_outcomes = refl
 
-cut_in_a_swap_order : (entry_count after_cut_in_a_swap.journal r ≡ 2) × (order_now after_cut_in_a_swap.journal r ≡ Some (body r ((plain c) ∷ (plain b) ∷ (plain a) ∷ [])))
+cut_in_a_swap_order : (entry_count after_cut_in_a_swap.journal r ≡ 2) × (order_now after_cut_in_a_swap.journal r ≡ Some (order_of (body r ((plain c) ∷ (plain b) ∷ (plain a) ∷ []))))
 unfolding same_id apply over_limit own_time
 cut_in_a_swap_order = (refl, refl)
 
-cut_in_a_swap_ends : ((after_cut_in_a_swap.pairings 1).peer.upper ≡ Open 3 Idle) × ((after_cut_in_a_swap.pairings 1).peer.views r ≡ In 2 false) × ((after_cut_in_a_swap.pairings 1).gate.upper ≡ (Some 3)) × ((after_cut_in_a_swap.pairings 1).gate.link ≡ (Some 2)) × ((after_cut_in_a_swap.pairings 1).gate.out ≡ NotAsking) × ((after_cut_in_a_swap.pairings 1).gate.phase r ≡ InStep) × ((after_cut_in_a_swap.pairings 1).applied r ≡ 2) × ((after_cut_in_a_swap.pairings 1).gate.held r ≡ Some (body r ((plain c) ∷ (plain b) ∷ (plain a) ∷ []))) × ((after_cut_in_a_swap.pairings 1).gate.known ≡ (r ∷ []))
+cut_in_a_swap_ends : ((after_cut_in_a_swap.pairings 1).peer.upper ≡ Open 3 Idle) × ((after_cut_in_a_swap.pairings 1).peer.views r ≡ In 2 false []) × ((after_cut_in_a_swap.pairings 1).gate.upper ≡ (Some 3)) × ((after_cut_in_a_swap.pairings 1).gate.link ≡ (Some 2)) × ((after_cut_in_a_swap.pairings 1).gate.out ≡ NotAsking) × ((after_cut_in_a_swap.pairings 1).gate.phase r ≡ InStep) × ((after_cut_in_a_swap.pairings 1).applied r ≡ 2) × ((after_cut_in_a_swap.pairings 1).gate.held r ≡ Some (order_of (body r ((plain c) ∷ (plain b) ∷ (plain a) ∷ [])))) × ((after_cut_in_a_swap.pairings 1).gate.known ≡ (r ∷ []))
 unfolding same_id apply over_limit own_time
 cut_in_a_swap_ends = (refl, refl, refl, refl, refl, refl, refl, refl, refl)
 
@@ -175,11 +175,11 @@ restart_of_the_server_outcomes : outcomes (opened) restart_of_the_server ≡ Out
 unfolding same_id apply over_limit own_time
 restart_of_the_server_outcomes = refl
 
-restart_of_the_server_order : (entry_count after_restart_of_the_server.journal r ≡ 2) × (order_now after_restart_of_the_server.journal r ≡ Some (body r ((plain c) ∷ (plain b) ∷ (plain a) ∷ [])))
+restart_of_the_server_order : (entry_count after_restart_of_the_server.journal r ≡ 2) × (order_now after_restart_of_the_server.journal r ≡ Some (order_of (body r ((plain c) ∷ (plain b) ∷ (plain a) ∷ []))))
 unfolding same_id apply over_limit own_time
 restart_of_the_server_order = (refl, refl)
 
-restart_of_the_server_ends : ((after_restart_of_the_server.pairings 1).peer.upper ≡ Open 3 Idle) × ((after_restart_of_the_server.pairings 1).peer.views r ≡ In 2 false) × ((after_restart_of_the_server.pairings 1).gate.upper ≡ (Some 3)) × ((after_restart_of_the_server.pairings 1).gate.link ≡ (Some 4)) × ((after_restart_of_the_server.pairings 1).gate.out ≡ NotAsking) × ((after_restart_of_the_server.pairings 1).gate.phase r ≡ InStep) × ((after_restart_of_the_server.pairings 1).applied r ≡ 2) × ((after_restart_of_the_server.pairings 1).gate.held r ≡ Some (body r ((plain c) ∷ (plain b) ∷ (plain a) ∷ []))) × ((after_restart_of_the_server.pairings 1).gate.known ≡ (r ∷ []))
+restart_of_the_server_ends : ((after_restart_of_the_server.pairings 1).peer.upper ≡ Open 3 Idle) × ((after_restart_of_the_server.pairings 1).peer.views r ≡ In 2 false []) × ((after_restart_of_the_server.pairings 1).gate.upper ≡ (Some 3)) × ((after_restart_of_the_server.pairings 1).gate.link ≡ (Some 4)) × ((after_restart_of_the_server.pairings 1).gate.out ≡ NotAsking) × ((after_restart_of_the_server.pairings 1).gate.phase r ≡ InStep) × ((after_restart_of_the_server.pairings 1).applied r ≡ 2) × ((after_restart_of_the_server.pairings 1).gate.held r ≡ Some (order_of (body r ((plain c) ∷ (plain b) ∷ (plain a) ∷ [])))) × ((after_restart_of_the_server.pairings 1).gate.known ≡ (r ∷ []))
 unfolding same_id apply over_limit own_time
 restart_of_the_server_ends = (refl, refl, refl, refl, refl, refl, refl, refl, refl)
 
@@ -213,11 +213,11 @@ unconfirmed_list_outcomes : outcomes (opened) unconfirmed_list ≡ Outcome.Done 
 unfolding same_id apply over_limit own_time
 unconfirmed_list_outcomes = refl
 
-unconfirmed_list_order : (entry_count after_unconfirmed_list.journal r ≡ 2) × (order_now after_unconfirmed_list.journal r ≡ Some (body r ((plain c) ∷ (plain b) ∷ (plain a) ∷ [])))
+unconfirmed_list_order : (entry_count after_unconfirmed_list.journal r ≡ 2) × (order_now after_unconfirmed_list.journal r ≡ Some (order_of (body r ((plain c) ∷ (plain b) ∷ (plain a) ∷ []))))
 unfolding same_id apply over_limit own_time
 unconfirmed_list_order = (refl, refl)
 
-unconfirmed_list_ends : ((after_unconfirmed_list.pairings 1).peer.upper ≡ Open 1 Idle) × ((after_unconfirmed_list.pairings 1).peer.views r ≡ In 2 false) × ((after_unconfirmed_list.pairings 1).gate.upper ≡ (Some 1)) × ((after_unconfirmed_list.pairings 1).gate.link ≡ (Some 3)) × ((after_unconfirmed_list.pairings 1).gate.out ≡ NotAsking) × ((after_unconfirmed_list.pairings 1).gate.phase r ≡ InStep) × ((after_unconfirmed_list.pairings 1).applied r ≡ 2) × ((after_unconfirmed_list.pairings 1).gate.held r ≡ Some (body r ((plain c) ∷ (plain b) ∷ (plain a) ∷ []))) × ((after_unconfirmed_list.pairings 1).gate.known ≡ (r ∷ []))
+unconfirmed_list_ends : ((after_unconfirmed_list.pairings 1).peer.upper ≡ Open 1 Idle) × ((after_unconfirmed_list.pairings 1).peer.views r ≡ In 2 false []) × ((after_unconfirmed_list.pairings 1).gate.upper ≡ (Some 1)) × ((after_unconfirmed_list.pairings 1).gate.link ≡ (Some 3)) × ((after_unconfirmed_list.pairings 1).gate.out ≡ NotAsking) × ((after_unconfirmed_list.pairings 1).gate.phase r ≡ InStep) × ((after_unconfirmed_list.pairings 1).applied r ≡ 2) × ((after_unconfirmed_list.pairings 1).gate.held r ≡ Some (order_of (body r ((plain c) ∷ (plain b) ∷ (plain a) ∷ [])))) × ((after_unconfirmed_list.pairings 1).gate.known ≡ (r ∷ []))
 unfolding same_id apply over_limit own_time
 unconfirmed_list_ends = (refl, refl, refl, refl, refl, refl, refl, refl, refl)
 
@@ -245,11 +245,11 @@ restart_of_the_device_outcomes : outcomes (opened) restart_of_the_device ≡ Out
 unfolding same_id apply over_limit own_time
 restart_of_the_device_outcomes = refl
 
-restart_of_the_device_order : (entry_count after_restart_of_the_device.journal r ≡ 2) × (order_now after_restart_of_the_device.journal r ≡ Some (body r ((plain c) ∷ (plain b) ∷ (plain a) ∷ [])))
+restart_of_the_device_order : (entry_count after_restart_of_the_device.journal r ≡ 2) × (order_now after_restart_of_the_device.journal r ≡ Some (order_of (body r ((plain c) ∷ (plain b) ∷ (plain a) ∷ []))))
 unfolding same_id apply over_limit own_time
 restart_of_the_device_order = (refl, refl)
 
-restart_of_the_device_ends : ((after_restart_of_the_device.pairings 1).peer.upper ≡ Open 1 (SendsEdit r 1)) × ((after_restart_of_the_device.pairings 1).peer.views r ≡ In 1 false) × ((after_restart_of_the_device.pairings 1).gate.upper ≡ None) × ((after_restart_of_the_device.pairings 1).gate.link ≡ (Some 3)) × ((after_restart_of_the_device.pairings 1).gate.out ≡ NotAsking) × ((after_restart_of_the_device.pairings 1).gate.phase r ≡ InStep) × ((after_restart_of_the_device.pairings 1).applied r ≡ 1) × ((after_restart_of_the_device.pairings 1).gate.held r ≡ Some (body r ((plain a) ∷ (plain b) ∷ (plain c) ∷ []))) × ((after_restart_of_the_device.pairings 1).gate.known ≡ (r ∷ []))
+restart_of_the_device_ends : ((after_restart_of_the_device.pairings 1).peer.upper ≡ Open 1 (SendsEdit r 1)) × ((after_restart_of_the_device.pairings 1).peer.views r ≡ In 1 false []) × ((after_restart_of_the_device.pairings 1).gate.upper ≡ None) × ((after_restart_of_the_device.pairings 1).gate.link ≡ (Some 3)) × ((after_restart_of_the_device.pairings 1).gate.out ≡ NotAsking) × ((after_restart_of_the_device.pairings 1).gate.phase r ≡ InStep) × ((after_restart_of_the_device.pairings 1).applied r ≡ 1) × ((after_restart_of_the_device.pairings 1).gate.held r ≡ Some (order_of (body r ((plain a) ∷ (plain b) ∷ (plain c) ∷ [])))) × ((after_restart_of_the_device.pairings 1).gate.known ≡ (r ∷ []))
 unfolding same_id apply over_limit own_time
 restart_of_the_device_ends = (refl, refl, refl, refl, refl, refl, refl, refl, refl)
 
@@ -278,11 +278,11 @@ crossed_outcomes : outcomes (opened) crossed ≡ Outcome.Done ∷ Outcome.Ask r 
 unfolding same_id apply over_limit own_time
 crossed_outcomes = refl
 
-crossed_order : (entry_count after_crossed.journal r ≡ 2) × (order_now after_crossed.journal r ≡ Some (body r ((plain d) ∷ [])))
+crossed_order : (entry_count after_crossed.journal r ≡ 2) × (order_now after_crossed.journal r ≡ Some (order_of (body r ((plain d) ∷ []))))
 unfolding same_id apply over_limit own_time
 crossed_order = (refl, refl)
 
-crossed_ends : ((after_crossed.pairings 1).peer.upper ≡ Open 1 Idle) × ((after_crossed.pairings 1).peer.views r ≡ In 2 false) × ((after_crossed.pairings 1).gate.upper ≡ (Some 1)) × ((after_crossed.pairings 1).gate.link ≡ (Some 2)) × ((after_crossed.pairings 1).gate.out ≡ NotAsking) × ((after_crossed.pairings 1).gate.phase r ≡ InStep) × ((after_crossed.pairings 1).applied r ≡ 2) × ((after_crossed.pairings 1).gate.held r ≡ Some (body r ((plain d) ∷ []))) × ((after_crossed.pairings 1).gate.known ≡ (r ∷ []))
+crossed_ends : ((after_crossed.pairings 1).peer.upper ≡ Open 1 Idle) × ((after_crossed.pairings 1).peer.views r ≡ In 2 false []) × ((after_crossed.pairings 1).gate.upper ≡ (Some 1)) × ((after_crossed.pairings 1).gate.link ≡ (Some 2)) × ((after_crossed.pairings 1).gate.out ≡ NotAsking) × ((after_crossed.pairings 1).gate.phase r ≡ InStep) × ((after_crossed.pairings 1).applied r ≡ 2) × ((after_crossed.pairings 1).gate.held r ≡ Some (order_of (body r ((plain d) ∷ [])))) × ((after_crossed.pairings 1).gate.known ≡ (r ∷ []))
 unfolding same_id apply over_limit own_time
 crossed_ends = (refl, refl, refl, refl, refl, refl, refl, refl, refl)
 
@@ -305,11 +305,11 @@ crossed_held_outcomes : outcomes (opened) crossed_held ≡ Outcome.Done ∷ Outc
 unfolding same_id apply over_limit own_time
 crossed_held_outcomes = refl
 
-crossed_held_order : (entry_count after_crossed_held.journal r ≡ 2) × (order_now after_crossed_held.journal r ≡ Some (body r ((plain d) ∷ [])))
+crossed_held_order : (entry_count after_crossed_held.journal r ≡ 2) × (order_now after_crossed_held.journal r ≡ Some (order_of (body r ((plain d) ∷ []))))
 unfolding same_id apply over_limit own_time
 crossed_held_order = (refl, refl)
 
-crossed_held_ends : ((after_crossed_held.pairings 1).peer.upper ≡ Open 1 Idle) × ((after_crossed_held.pairings 1).peer.views r ≡ Listed 2) × ((after_crossed_held.pairings 1).gate.upper ≡ (Some 1)) × ((after_crossed_held.pairings 1).gate.link ≡ (Some 2)) × ((after_crossed_held.pairings 1).gate.out ≡ NotAsking) × ((after_crossed_held.pairings 1).gate.phase r ≡ OutOfStep) × ((after_crossed_held.pairings 1).applied r ≡ 2) × ((after_crossed_held.pairings 1).gate.held r ≡ Some (body r ((plain d) ∷ []))) × ((after_crossed_held.pairings 1).gate.known ≡ (r ∷ []))
+crossed_held_ends : ((after_crossed_held.pairings 1).peer.upper ≡ Open 1 Idle) × ((after_crossed_held.pairings 1).peer.views r ≡ Listed 2 []) × ((after_crossed_held.pairings 1).gate.upper ≡ (Some 1)) × ((after_crossed_held.pairings 1).gate.link ≡ (Some 2)) × ((after_crossed_held.pairings 1).gate.out ≡ NotAsking) × ((after_crossed_held.pairings 1).gate.phase r ≡ OutOfStep) × ((after_crossed_held.pairings 1).applied r ≡ 2) × ((after_crossed_held.pairings 1).gate.held r ≡ Some (order_of (body r ((plain d) ∷ [])))) × ((after_crossed_held.pairings 1).gate.known ≡ (r ∷ []))
 unfolding same_id apply over_limit own_time
 crossed_held_ends = (refl, refl, refl, refl, refl, refl, refl, refl, refl)
 
@@ -347,11 +347,11 @@ ready_again_outcomes : outcomes (opened) ready_again ≡ Outcome.Command okay �
 unfolding same_id apply over_limit own_time
 ready_again_outcomes = refl
 
-ready_again_order : (entry_count after_ready_again.journal r ≡ 3) × (order_now after_ready_again.journal r ≡ Some (body r ((plain c) ∷ (plain b) ∷ (plain a) ∷ [])))
+ready_again_order : (entry_count after_ready_again.journal r ≡ 3) × (order_now after_ready_again.journal r ≡ Some (order_of (body r ((plain c) ∷ (plain b) ∷ (plain a) ∷ []))))
 unfolding same_id apply over_limit own_time
 ready_again_order = (refl, refl)
 
-ready_again_ends : ((after_ready_again.pairings 1).peer.upper ≡ Open 1 Idle) × ((after_ready_again.pairings 1).peer.views r ≡ In 3 false) × ((after_ready_again.pairings 1).gate.upper ≡ (Some 1)) × ((after_ready_again.pairings 1).gate.link ≡ (Some 2)) × ((after_ready_again.pairings 1).gate.out ≡ NotAsking) × ((after_ready_again.pairings 1).gate.phase r ≡ InStep) × ((after_ready_again.pairings 1).applied r ≡ 3) × ((after_ready_again.pairings 1).gate.held r ≡ Some (body r ((plain c) ∷ (plain b) ∷ (plain a) ∷ []))) × ((after_ready_again.pairings 1).gate.known ≡ (r ∷ []))
+ready_again_ends : ((after_ready_again.pairings 1).peer.upper ≡ Open 1 Idle) × ((after_ready_again.pairings 1).peer.views r ≡ In 3 false []) × ((after_ready_again.pairings 1).gate.upper ≡ (Some 1)) × ((after_ready_again.pairings 1).gate.link ≡ (Some 2)) × ((after_ready_again.pairings 1).gate.out ≡ NotAsking) × ((after_ready_again.pairings 1).gate.phase r ≡ InStep) × ((after_ready_again.pairings 1).applied r ≡ 3) × ((after_ready_again.pairings 1).gate.held r ≡ Some (order_of (body r ((plain c) ∷ (plain b) ∷ (plain a) ∷ [])))) × ((after_ready_again.pairings 1).gate.known ≡ (r ∷ []))
 unfolding same_id apply over_limit own_time
 ready_again_ends = (refl, refl, refl, refl, refl, refl, refl, refl, refl)
 
@@ -373,11 +373,11 @@ no_such_order_outcomes : outcomes (opened) no_such_order ≡ Outcome.Done ∷ Ou
 unfolding same_id apply over_limit own_time
 no_such_order_outcomes = refl
 
-no_such_order_order : (entry_count after_no_such_order.journal r ≡ 1) × (order_now after_no_such_order.journal r ≡ Some (body r ((plain a) ∷ (plain b) ∷ (plain c) ∷ [])))
+no_such_order_order : (entry_count after_no_such_order.journal r ≡ 1) × (order_now after_no_such_order.journal r ≡ Some (order_of (body r ((plain a) ∷ (plain b) ∷ (plain c) ∷ []))))
 unfolding same_id apply over_limit own_time
 no_such_order_order = (refl, refl)
 
-no_such_order_ends : ((after_no_such_order.pairings 1).peer.upper ≡ Open 1 Idle) × ((after_no_such_order.pairings 1).peer.views q ≡ In 0 false) × ((after_no_such_order.pairings 1).peer.views r ≡ In 1 false) × ((after_no_such_order.pairings 1).gate.upper ≡ (Some 1)) × ((after_no_such_order.pairings 1).gate.link ≡ (Some 2)) × ((after_no_such_order.pairings 1).gate.out ≡ NotAsking) × ((after_no_such_order.pairings 1).gate.phase q ≡ InStep) × ((after_no_such_order.pairings 1).applied q ≡ 0) × ((after_no_such_order.pairings 1).gate.held q ≡ None) × ((after_no_such_order.pairings 1).gate.phase r ≡ InStep) × ((after_no_such_order.pairings 1).applied r ≡ 1) × ((after_no_such_order.pairings 1).gate.held r ≡ Some (body r ((plain a) ∷ (plain b) ∷ (plain c) ∷ []))) × ((after_no_such_order.pairings 1).gate.known ≡ (q ∷ r ∷ []))
+no_such_order_ends : ((after_no_such_order.pairings 1).peer.upper ≡ Open 1 Idle) × ((after_no_such_order.pairings 1).peer.views q ≡ In 0 false []) × ((after_no_such_order.pairings 1).peer.views r ≡ In 1 false []) × ((after_no_such_order.pairings 1).gate.upper ≡ (Some 1)) × ((after_no_such_order.pairings 1).gate.link ≡ (Some 2)) × ((after_no_such_order.pairings 1).gate.out ≡ NotAsking) × ((after_no_such_order.pairings 1).gate.phase q ≡ InStep) × ((after_no_such_order.pairings 1).applied q ≡ 0) × ((after_no_such_order.pairings 1).gate.held q ≡ None) × ((after_no_such_order.pairings 1).gate.phase r ≡ InStep) × ((after_no_such_order.pairings 1).applied r ≡ 1) × ((after_no_such_order.pairings 1).gate.held r ≡ Some (order_of (body r ((plain a) ∷ (plain b) ∷ (plain c) ∷ [])))) × ((after_no_such_order.pairings 1).gate.known ≡ (q ∷ r ∷ []))
 unfolding same_id apply over_limit own_time
 no_such_order_ends = (refl, refl, refl, refl, refl, refl, refl, refl, refl, refl, refl, refl, refl)
 
@@ -399,7 +399,7 @@ append_fails_and_is_kept_outcomes : outcomes (opening 1) append_fails_and_is_kep
 unfolding same_id apply over_limit own_time
 append_fails_and_is_kept_outcomes = refl
 
-append_fails_and_is_kept_order : (entry_count after_append_fails_and_is_kept.journal r ≡ 4) × (order_now after_append_fails_and_is_kept.journal r ≡ Some (body r ((plain b) ∷ (plain a) ∷ (plain c) ∷ [])))
+append_fails_and_is_kept_order : (entry_count after_append_fails_and_is_kept.journal r ≡ 4) × (order_now after_append_fails_and_is_kept.journal r ≡ Some (order_of (body r ((plain b) ∷ (plain a) ∷ (plain c) ∷ []))))
 unfolding same_id apply over_limit own_time
 append_fails_and_is_kept_order = (refl, refl)
 
@@ -425,7 +425,7 @@ append_fails_and_is_lost_outcomes : outcomes (opening 1) append_fails_and_is_los
 unfolding same_id apply over_limit own_time
 append_fails_and_is_lost_outcomes = refl
 
-append_fails_and_is_lost_order : (entry_count after_append_fails_and_is_lost.journal r ≡ 3) × (order_now after_append_fails_and_is_lost.journal r ≡ Some (body r ((plain b) ∷ (plain a) ∷ [])))
+append_fails_and_is_lost_order : (entry_count after_append_fails_and_is_lost.journal r ≡ 3) × (order_now after_append_fails_and_is_lost.journal r ≡ Some (order_of (body r ((plain b) ∷ (plain a) ∷ []))))
 unfolding same_id apply over_limit own_time
 append_fails_and_is_lost_order = (refl, refl)
 

@@ -5,7 +5,7 @@ use Rattle.mos_edits.specs.Entries.{Entry}
 use Rattle.mos_machines.specs.Messages.{Message, Tag, Packet, untagged, Step}
 use Rattle.mos_machines.specs.Server.{Upper, upper_link, PeerState, peer_next, peer_answered, peer_hear, is_open}
 use Rattle.mos_machines.specs.Device.{GateState, gate_read, gate_next}
-use Rattle.mos_machines.specs.Messages.Tag.{Untagged, OfEntry, OfAgain, OfList}
+use Rattle.mos_machines.specs.Messages.Tag.{Untagged, OfEntry, OfAgain, OfScript, OfList}
 use Rattle.world_laws.proofs.Channels.{Tagged}
 use Rattle.world_laws.proofs.Invariant.{PairingInvariant}
 use Rattle.world_laws.proofs.PairingRead.{entry_prefix}
@@ -99,6 +99,10 @@ reads_grow_at journal count l v m (OfAgain q k) r lok i u f t = again_applied (g
   where
     again_applied : (x : GateState × Message) → l.applied r ≤ (reads_from l v (l.connections v) (record { message = m; tag = OfAgain q k }) x).0.applied r
     again_applied (g, a) = omega arith
+reads_grow_at journal count l v m (OfScript q j k) r lok i u f t = script_applied (gate_read l.gate l.decks m)
+  where
+    script_applied : (x : GateState × Message) → l.applied r ≤ (reads_from l v (l.connections v) (record { message = m; tag = OfScript q j k }) x).0.applied r
+    script_applied (g, a) = omega arith
 reads_grow_at journal count l v m (OfEntry q k) r lok i u f t =
     subst (λ (p : Packet). l.applied r ≤ (reads_from l v (l.connections v) p (gate_read l.gate l.decks p.message)).0.applied r) (sym t.0)
     (put_grows l.applied q (entry_prefix journal l q k) (prefix_here journal count l v q k i u (f ∙ ap (λ (p : Packet). Some p) t.0)) r (same_id r q) refl)

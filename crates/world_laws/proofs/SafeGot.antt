@@ -1,13 +1,13 @@
 -- What is safe of the event `got d`.
 use Rattle.std.proofs.Common.{◌≡◌, ℕ, ◌≤◌, List, [], ◌∷◌, Bool, true, false, Option, Some, None, arith, refl, if◌then◌else◌, sym, ap, ◌∙◌, subst, inl, inr}
 use Rattle.mos_edits.specs.Texts.{Text, same_id}
-use Rattle.mos_edits.specs.Orders.{Order}
+use Rattle.mos_edits.specs.Orders.{Order, bare, order_of}
 use Rattle.mos_edits.specs.Entries.{Entry, entry_count, order_at}
 use Rattle.mos_machines.specs.Messages.{Status, Message, Tag, Packet, Step}
 use Rattle.mos_machines.specs.Messages.Status.{Okay, NoDeck, NotInStep, StoreFault, Stopped, NotNow, NoRunningOrder, NotSupported, OtherStatus}
 use Rattle.mos_machines.specs.Messages.Message.{RoAck}
 use Rattle.mos_machines.specs.Device.{GateOut, GateState, gate_got, got_by, got_order, is_no_order}
-use Rattle.mos_machines.specs.Messages.Tag.{Untagged, OfEntry, OfAgain, OfList}
+use Rattle.mos_machines.specs.Messages.Tag.{Untagged, OfEntry, OfAgain, OfScript, OfList}
 use Rattle.world_laws.proofs.Replication.{Replication, IsInvariant}
 use Rattle.world_laws.proofs.Channels.{replication, channels, ask_of, Answer_to, IsAnswer}
 use Rattle.mos_machines.specs.Device.Phase.{InStep, Asked}
@@ -42,12 +42,13 @@ list_bound : (journal : List Entry) (count : ℕ) (l : Pairing) (c : ℕ) (p : P
 list_bound journal count l c p i e f q m t =
     let out = got_tag journal l.gate.out p q m (answer_front journal count l c p i e f) t in
     let a : ask_of (channels l) q ≡ AnsweredWith m = ask_got journal (channels l) q p i.ok.channels_ok out (got_front journal count l c p i.ok e f) ∙ (rw t refl) in
-    asked_prefix (replication journal (channels l) q (l.peer.views q) (l.gate.phase q) (l.applied q)) (i.replications q) m a
+    asked_prefix (replication journal (channels l) q (l.peer.views q) (l.gate.phase q) (l.applied q) (i.lacks q)) (i.replications q) m a
 
 prefix_got_grows : (applied : Text → ℕ) (t : Tag) (s : Step) (r : Text) → ((q : Text) (m : ℕ) → t ≡ OfList q m → applied q ≤ m) → applied r ≤ applied_got applied t s r
 prefix_got_grows applied Untagged s r h = omega arith
 prefix_got_grows applied (OfEntry q k) s r h = omega arith
 prefix_got_grows applied (OfAgain q k) s r h = omega arith
+prefix_got_grows applied (OfScript q j k) s r h = omega arith
 prefix_got_grows applied (OfList q k) Unasked r h = omega arith
 prefix_got_grows applied (OfList q k) Taken r h = put_here (same_id r q) refl
   where
@@ -85,8 +86,8 @@ list_taken l v r m None ph =
     let g : got_by l.gate (AsksFor r) (list_of r m None).message ≡ (got_order l.gate r None, Taken) = rw (same-self r) refl in
     subst (λ (x : GateState × Step). GotFacts (gets_from l v (l.connections v) (list_of r m None) x) r m) (sym g) (taken_facts l v r m None (list_of r m None) refl ph)
 list_taken l v r m (Some y) ph =
-    let g : got_by l.gate (AsksFor r) (list_of r m (Some y)).message ≡ (got_order l.gate r (Some y), Taken) = rw (same-self r) refl in
-    subst (λ (x : GateState × Step). GotFacts (gets_from l v (l.connections v) (list_of r m (Some y)) x) r m) (sym g) (taken_facts l v r m (Some y) (list_of r m (Some y)) refl ph)
+    let g : got_by l.gate (AsksFor r) (list_of r m (Some y)).message ≡ (got_order l.gate r (Some (order_of (bare y))), Taken) = rw (same-self r) refl in
+    subst (λ (x : GateState × Step). GotFacts (gets_from l v (l.connections v) (list_of r m (Some y)) x) r m) (sym g) (taken_facts l v r m (Some (order_of (bare y))) (list_of r m (Some y)) refl ph)
 
 got_facts : (journal : List Entry) (count : ℕ) (l : Pairing) (v : ℕ) (p : Packet) (r : Text) (m : ℕ) → PairingInvariant journal count l → l.gate.link ≡ Some v → front (l.connections v).to_device ≡ Some p → p.tag ≡ OfList r m → l.gate.out ≡ AsksFor r → l.gate.phase r ≡ Asked → IsAnswer journal r p
     → GotFacts (gets_from l v (l.connections v) p (got_by l.gate (AsksFor r) p.message)) r m

@@ -8,23 +8,24 @@ use Rattle.mos_machines.specs.Messages.{Status, Tag, Packet, untagged}
 use Rattle.mos_edits.specs.KeyedLists.{Applied}
 use Rattle.mos_machines.specs.Device.{Phase, Decks, read_by, gate_read, is_in, ready_status}
 use Rattle.mos_machines.specs.Messages.Message.{RoEdit, RoAck}
-use Rattle.mos_machines.specs.Messages.Tag.{Untagged, OfEntry, OfAgain, OfList}
+use Rattle.mos_machines.specs.Messages.Tag.{Untagged, OfEntry, OfAgain, OfScript, OfList}
 use Rattle.world_laws.specs.World.{Pairing, front, applied_step, reads_from, reads_front, reads_if, Effect}
 use Rattle.world_laws.proofs.Replication.{Replication, IsInvariant, readable}
 use Rattle.world_laws.proofs.Channels.{replication, channels, transfer_in, in_flight_by, DownOk, Tagged}
 use Rattle.world_laws.proofs.Joining.{readable-in_flight}
-use Rattle.world_laws.proofs.Reading.{prefix_in_step, grows_entry, status_entry}
+use Rattle.world_laws.proofs.Reading.{prefix_in_step, grows_entry, status_entry, lacks_step}
 use Rattle.mos_edits.specs.Entries.Kind.{IsReady}
 use Rattle.mos_machines.specs.Messages.Status.{Okay}
 use Rattle.mos_machines.specs.Device.Phase.{InStep, OutOfStep, Asked, Crossed}
-use Rattle.world_laws.proofs.Replication.Transfer.{TransferEntry, TransferAgain}
+use Rattle.world_laws.proofs.Replication.Transfer.{TransferEntry, TransferAgain, TransferScript}
 use Rattle.world_laws.proofs.Invariant.{PairingInvariant}
 use Rattle.world_laws.specs.World.Effect.{Wrote}
 use Rattle.world_laws.specs.Safe.{IsReadSafe, upper_front, in_step_status}
-use Rattle.world_laws.proofs.PairingRead.{each_entry, each_again, the_entry, entry_result, entry_prefix, again_result, again_facts, down_front}
-use Rattle.mos_machines.specs.Server.{entry_packet, again_packet}
+use Rattle.world_laws.proofs.PairingRead.{each_entry, each_again, the_entry, entry_result, entry_prefix, again_result, again_facts, script_facts, script_kind, script_applies, applied_here, again_applies, down_front}
+use Rattle.mos_machines.specs.Server.{entry_packet, again_packet, script_packet}
 use Rattle.mos_edits.proofs.Identifiers.{same-self}
-use Rattle.mos_edits.proofs.Journals.{JournalOk, order-ready, kind_at, kind_of_at}
+use Rattle.mos_edits.proofs.Journals.{JournalOk, order-ready, kind_at, kind_of_at, kinds_entry_count}
+use Rattle.mos_edits.proofs.Lacking.{scripts-ok, lacking_order, lacking-none}
 
 pub tagged_front : (journal : List Entry) (count : ℕ) (l : Pairing) (v : ℕ) (p : Packet) → PairingInvariant journal count l → l.gate.upper ≡ Some v → front (l.connections v).to_device ≡ Some p → Tagged journal p p.tag
 tagged_front journal count l v p i u f = let d = down_front journal count l v p i.ok u f in subst (λ (ps : List Packet). DownOk journal ps) d i.ok.channels_ok.down
@@ -45,11 +46,23 @@ entry_is journal e r k h = let m : RoEdit e ≡ RoEdit (the_entry journal r k) =
 again_is : (journal : List Entry) (e : Entry) (r : Text) (m : ℕ) → record { message = RoEdit e; tag = OfAgain r m } ≡ again_packet journal r m → e ≡ the_entry journal r (m - 1)
 again_is journal e r m h = let n : RoEdit e ≡ RoEdit (the_entry journal r (m - 1)) = ap (λ (p : Packet). p.message) h in cc
 
+script_is : (journal : List Entry) (e : Entry) (r : Text) (k m : ℕ) → record { message = RoEdit e; tag = OfScript r k m } ≡ script_packet journal r k m → e ≡ the_entry journal r k
+script_is journal e r k m h = let n : RoEdit e ≡ RoEdit (the_entry journal r k) = ap (λ (p : Packet). p.message) h in cc
+
 abbrev pub packet_with : Entry → Tag → Packet
 packet_with e t = record { message = RoEdit e; tag = t }
 
 abbrev pub read_by_packet : Pairing → ℕ → Entry → Tag → Pairing × Effect
 read_by_packet l v e t = reads_from l v (l.connections v) (packet_with e t) (gate_read l.gate l.decks (RoEdit e))
+
+ready_lacks : (phase : Phase) (kd : Kind) (lacks : ℕ → Bool) → kd ≡ IsReady → lacks_step phase kd lacks ≡ lacks
+ready_lacks phase kd lacks e = rw e (by phase)
+  where
+    by : (p : Phase) → lacks_step p IsReady lacks ≡ lacks
+    by InStep = refl
+    by OutOfStep = refl
+    by Asked = refl
+    by Crossed = refl
 
 -- the order released, by an entry
 released_here : (journal : List Entry) (count : ℕ) (l : Pairing) (v : ℕ) (r : Text) (k : ℕ) → JournalOk journal → PairingInvariant journal count l → l.gate.upper ≡ Some v → front (l.connections v).to_device ≡ Some (entry_packet journal r k) → k < entry_count journal r → kind (edit_at journal r k) ≡ IsReady
@@ -59,7 +72,13 @@ released_here journal count l v r k lok i u f b kd fine =
     let status : (read_by (l.gate.phase r) IsReady l.decks (l.gate.held r) (l.gate.wanted r) (edit_at journal r k) (apply r (l.gate.held r) (edit_at journal r k))).status ≡ Okay = rw kd at fine in
     let p = in_step_if_fine (l.gate.phase r) l.decks (l.gate.held r) (l.gate.wanted r) (edit_at journal r k) (apply r (l.gate.held r) (edit_at journal r k)) status in
     let m : entry_prefix journal l r k ≡ k + 1 = marked p kd fine in
-    h ∙ ap (λ (n : ℕ). order_at journal r n) m ∙ order-ready journal lok r k b kd
+    let d = down_front journal count l v (entry_packet journal r k) i.ok u f in
+    let it : transfer_in r (channels l).down ≡ Some (TransferEntry k) = rw d (rw (same-self r) refl) in
+    let rd : readable (in_flight_by journal (channels l) r (channels l).upper) ≡ Some (TransferEntry k) = readable-in_flight journal (channels l) r i.ok.channels_ok ∙ it in
+    let x = prefix_in_step (replication journal (channels l) r (l.peer.views r) (l.gate.phase r) (l.applied r) (i.lacks r)) (i.replications r) k rd IsReady (kind_at journal r k b ∙ ap (λ (z : Kind). Some z) kd) p (λ z. cc) in
+    let lk : lacks_step (l.gate.phase r) (kind (edit_at journal r k)) (i.lacks r) ≡ i.lacks r = ready_lacks (l.gate.phase r) (kind (edit_at journal r k)) (i.lacks r) kd in
+    h ∙ ap (λ (g : ℕ → Bool). lacking_order journal r g (entry_prefix journal l r k)) lk ∙ ap (λ (n : ℕ). lacking_order journal r (i.lacks r) n) m
+    ∙ lacking-none journal r (k + 1) (i.lacks r) (scripts-ok journal lok r (k + 1) (omega (arith, b))) x.1 ∙ order-ready journal lok r k b kd
   where
     marked : l.gate.phase r ≡ InStep → kind (edit_at journal r k) ≡ IsReady → (entry_result journal l r k).status ≡ Okay → applied_step (kind (edit_at journal r k)) (is_in (l.gate.phase r)) (l.applied r) k (entry_result journal l r k).status ≡ k + 1
     marked p kd fine = go (l.gate.phase r) (kind (edit_at journal r k)) (entry_result journal l r k).status p kd fine
@@ -74,12 +93,12 @@ released_again_here journal count l v r m lok i u f fine =
     let d = down_front journal count l v (again_packet journal r m) i.ok u f in
     let it : transfer_in r (channels l).down ≡ Some (TransferAgain m) = rw d (rw (same-self r) refl) in
     let rd : readable (in_flight_by journal (channels l) r (channels l).upper) ≡ Some (TransferAgain m) = readable-in_flight journal (channels l) r i.ok.channels_ok ∙ it in
-    let fs = again_facts (replication journal (channels l) r (l.peer.views r) (l.gate.phase r) (l.applied r)) (i.replications r) m rd in
+    let fs = again_facts (replication journal (channels l) r (l.peer.views r) (l.gate.phase r) (l.applied r) (i.lacks r)) (i.replications r) m rd in
     let kd : (m - 1 < entry_count journal r) × (kind (edit_at journal r (m - 1)) ≡ IsReady) = kind_of_at journal r (m - 1) IsReady fs.2 in
     let status : (read_by (l.gate.phase r) IsReady l.decks (l.gate.held r) (l.gate.wanted r) (edit_at journal r (m - 1)) (apply r (l.gate.held r) (edit_at journal r (m - 1)))).status ≡ Okay = rw kd.1 at fine in
     let p = in_step_if_fine (l.gate.phase r) l.decks (l.gate.held r) (l.gate.wanted r) (edit_at journal r (m - 1)) (apply r (l.gate.held r) (edit_at journal r (m - 1))) status in
-    let suc_m : m - 1 + 1 ≡ l.applied r = let x = fs.3 p in omega (arith, fs, x) in
-    (each_again journal count l v r m lok i u f).1 ∙ ap (λ (n : ℕ). order_at journal r n) (sym suc_m) ∙ order-ready journal lok r (m - 1) kd.0 kd.1
+    let suc_m : m - 1 + 1 ≡ l.applied r = let x = (fs.3 p).0 in omega (arith, fs.0, x) in
+    (each_again journal count l v r m lok i u f).1 ∙ ap (λ (n : ℕ). lacking_order journal r (i.lacks r) n) (sym suc_m) ∙ lacking-none journal r (m - 1 + 1) (i.lacks r) (scripts-ok journal lok r (m - 1 + 1) (omega (arith, kd.0))) (fs.3 p).1 ∙ order-ready journal lok r (m - 1) kd.0 kd.1
 
 status_here : (journal : List Entry) (count : ℕ) (l : Pairing) (v : ℕ) (r : Text) (k : ℕ) → JournalOk journal → PairingInvariant journal count l → l.gate.upper ≡ Some v → front (l.connections v).to_device ≡ Some (entry_packet journal r k) → k < entry_count journal r → l.gate.phase r ≡ InStep
     → (entry_result journal l r k).status ≡ in_step_status (kind (edit_at journal r k)) l.decks
@@ -88,9 +107,9 @@ status_here journal count l v r k lok i u f b ph =
     let it : transfer_in r (channels l).down ≡ Some (TransferEntry k) = rw d (rw (same-self r) refl) in
     let rd : readable (in_flight_by journal (channels l) r (channels l).upper) ≡ Some (TransferEntry k) = readable-in_flight journal (channels l) r i.ok.channels_ok ∙ it in
     let kd = kind_at journal r k b in
-    rw ph (status_entry journal r k (kind (edit_at journal r k)) (l.applied r) l.decks (l.gate.held r) (l.gate.wanted r) (apply r (l.gate.held r) (edit_at journal r k))
-    (λ n. prefix_in_step (replication journal (channels l) r (l.peer.views r) (l.gate.phase r) (l.applied r)) (i.replications r) k rd (kind (edit_at journal r k)) kd ph n)
-    (λ m. (order_at journal r (k + 1), rw (i.holds r, ← m) (lok.applies r k b))))
+    rw ph (status_entry journal r k (kind (edit_at journal r k)) (l.applied r) (i.lacks r) l.decks (l.gate.held r) (l.gate.wanted r) (apply r (l.gate.held r) (edit_at journal r k))
+    (λ n. prefix_in_step (replication journal (channels l) r (l.peer.views r) (l.gate.phase r) (l.applied r) (i.lacks r)) (i.replications r) k rd (kind (edit_at journal r k)) kd ph n)
+    (λ m n. (order_at journal r (k + 1), applied_here journal lok r k b (l.gate.held r) (i.lacks r) (l.applied r) (i.holds r) m n)))
 
 again_status_here : (journal : List Entry) (count : ℕ) (l : Pairing) (v : ℕ) (r : Text) (m : ℕ) → JournalOk journal → PairingInvariant journal count l → l.gate.upper ≡ Some v → front (l.connections v).to_device ≡ Some (again_packet journal r m) → l.gate.phase r ≡ InStep
     → (again_result journal l r m).status ≡ ready_status l.decks
@@ -98,11 +117,23 @@ again_status_here journal count l v r m lok i u f ph =
     let d = down_front journal count l v (again_packet journal r m) i.ok u f in
     let it : transfer_in r (channels l).down ≡ Some (TransferAgain m) = rw d (rw (same-self r) refl) in
     let rd : readable (in_flight_by journal (channels l) r (channels l).upper) ≡ Some (TransferAgain m) = readable-in_flight journal (channels l) r i.ok.channels_ok ∙ it in
-    let fs = again_facts (replication journal (channels l) r (l.peer.views r) (l.gate.phase r) (l.applied r)) (i.replications r) m rd in
+    let fs = again_facts (replication journal (channels l) r (l.peer.views r) (l.gate.phase r) (l.applied r) (i.lacks r)) (i.replications r) m rd in
     let kd : (m - 1 < entry_count journal r) × (kind (edit_at journal r (m - 1)) ≡ IsReady) = kind_of_at journal r (m - 1) IsReady fs.2 in
-    let suc_m : m - 1 + 1 ≡ l.applied r = let x = fs.3 ph in omega (arith, fs, x) in
-    let o : order_at journal r (l.applied r) ≡ order_at journal r (m - 1) = ap (λ (n : ℕ). order_at journal r n) (sym suc_m) ∙ order-ready journal lok r (m - 1) kd.0 kd.1 in
-    rw (ph, kd.1, i.holds r, o, lok.applies r (m - 1) kd.0) refl
+    let a = again_applies journal lok r m fs.0 kd.0 kd.1 (l.gate.held r) (i.lacks r) (l.applied r) (i.holds r) (fs.3 ph).0 (fs.3 ph).1 in
+    rw (ph, kd.1, a) refl
+
+script_status_here : (journal : List Entry) (count : ℕ) (l : Pairing) (v : ℕ) (r : Text) (k m : ℕ) → JournalOk journal → PairingInvariant journal count l → l.gate.upper ≡ Some v → front (l.connections v).to_device ≡ Some (script_packet journal r k m) → l.gate.phase r ≡ InStep
+    → (entry_result journal l r k).status ≡ Okay
+script_status_here journal count l v r k m lok i u f ph =
+    let d = down_front journal count l v (script_packet journal r k m) i.ok u f in
+    let it : transfer_in r (channels l).down ≡ Some (TransferScript k m) = rw d (rw (same-self r) refl) in
+    let rd : readable (in_flight_by journal (channels l) r (channels l).upper) ≡ Some (TransferScript k m) = readable-in_flight journal (channels l) r i.ok.channels_ok ∙ it in
+    let fs = script_facts (replication journal (channels l) r (l.peer.views r) (l.gate.phase r) (l.applied r) (i.lacks r)) (i.replications r) k m rd in
+    let c = kinds_entry_count journal r in
+    let n : m ≤ entry_count journal r = omega (arith, fs.1, c) in
+    let kd = script_kind journal lok r k m n fs.0 in
+    let a = script_applies journal lok r k m n fs.0 (l.gate.held r) (i.lacks r) (l.applied r) (i.holds r) (fs.2 ph) in
+    rw (ph, kd, a) refl
 
 -- the prefix
 pub prefix_here : (journal : List Entry) (count : ℕ) (l : Pairing) (v : ℕ) (q : Text) (k : ℕ) → PairingInvariant journal count l → l.gate.upper ≡ Some v → front (l.connections v).to_device ≡ Some (entry_packet journal q k) → l.applied q ≤ entry_prefix journal l q k
@@ -110,7 +141,7 @@ prefix_here journal count l v q k i u f =
     let d = down_front journal count l v (entry_packet journal q k) i.ok u f in
     let it : transfer_in q (channels l).down ≡ Some (TransferEntry k) = rw d (rw (same-self q) refl) in
     let rd : readable (in_flight_by journal (channels l) q (channels l).upper) ≡ Some (TransferEntry k) = readable-in_flight journal (channels l) q i.ok.channels_ok ∙ it in
-    grows_entry (l.gate.phase q) (kind (edit_at journal q k)) (l.applied q) k (entry_result journal l q k).status (read_bound (replication journal (channels l) q (l.peer.views q) (l.gate.phase q) (l.applied q)) (i.replications q) k rd)
+    grows_entry (l.gate.phase q) (kind (edit_at journal q k)) (l.applied q) k (entry_result journal l q k).status (read_bound (replication journal (channels l) q (l.peer.views q) (l.gate.phase q) (l.applied q) (i.lacks q)) (i.replications q) k rd)
   where
     read_bound : (l : Replication) → IsInvariant l → (k : ℕ) → readable l.in_flight ≡ Some (TransferEntry k) → l.prefix ≤ k
     read_bound l i k r = grind arith
@@ -123,6 +154,7 @@ ReadFacts journal l x e (OfEntry r k) =
 ReadFacts journal l x e (OfAgain r m) =
     (x.1 ≡ Wrote (untagged (RoAck r Okay)) → x.0.gate.held r ≡ order_at journal r (m - 1))
     × (l.gate.phase r ≡ InStep → x.1 ≡ Wrote (untagged (RoAck r (ready_status l.decks))))
+ReadFacts journal l x e (OfScript r k m) = l.gate.phase r ≡ InStep → x.1 ≡ Wrote (untagged (RoAck r Okay))
 ReadFacts journal l x e t = Unit {0}
 
 wrote_status : (r : Text) (a b : Status) → Wrote (untagged (RoAck r a)) ≡ Wrote (untagged (RoAck r b)) → a ≡ b
@@ -143,6 +175,9 @@ facts_here journal count l v e (OfAgain r m) lok i u f t =
       λ w. rw (same-self r) (released_again_here journal count l v r m lok i u g (wrote_status r (again_result journal l r m).status Okay w)),
       λ ph. ap (λ (x : Status). Wrote (untagged (RoAck r x))) (again_status_here journal count l v r m lok i u g ph),
     ))
+facts_here journal count l v e (OfScript r k m) lok i u f t =
+    subst (λ (z : Entry). ReadFacts journal l (read_by_packet l v z (OfScript r k m)) z (OfScript r k m)) (sym (script_is journal e r k m t.0))
+    (let g = f ∙ ap (λ (p : Packet). Some p) t.0 in λ ph. ap (λ (x : Status). Wrote (untagged (RoAck r x))) (script_status_here journal count l v r k m lok i u g ph))
 
 -- what holds of the event
 facts_read : (journal : List Entry) (count : ℕ) (l : Pairing) (e : Entry) (t : Tag) (u : Option ℕ) → JournalOk journal → PairingInvariant journal count l → l.gate.upper ≡ u → upper_front l u ≡ Some (packet_with e t) → ReadFacts journal l (reads_if l l.gate.upper) e t
@@ -152,7 +187,7 @@ facts_read journal count l e t (Some v) lok i u f =
 
 -- an edit that is read is what its tag says
 abbrev IsEntryOf : List Entry → Text → Packet → Type 0
-IsEntryOf journal r p = ((k : ℕ) × (k < entry_count journal r) × (p ≡ entry_packet journal r k)) ⊎ ((m : ℕ) × (p ≡ again_packet journal r m))
+IsEntryOf journal r p = ((k : ℕ) × (k < entry_count journal r) × (p ≡ entry_packet journal r k)) ⊎ ((m : ℕ) × (p ≡ again_packet journal r m)) ⊎ ((k : ℕ) × (m : ℕ) × (k < entry_count journal r) × (p ≡ script_packet journal r k m))
 
 edit_of_tag : (journal : List Entry) (p : Packet) (e : Entry) (t : Tag) → Tagged journal p t → p.message ≡ RoEdit e → IsEntryOf journal e.ro p
 edit_of_tag journal p e Untagged t m = absurd (t e m)
@@ -169,7 +204,15 @@ edit_of_tag journal p e (OfAgain r k) t m =
     let n : RoEdit (record { ro = r; edit = edit_at journal r (k - 1) }) ≡ RoEdit e = sym (ap (λ (x : Packet). x.message) t) ∙ m in
     let y : record { ro = r; edit = edit_at journal r (k - 1) } ≡ e = edit_in n in
     let i : r ≡ e.ro = ap (λ (x : Entry). x.ro) y in
-    subst (λ (z : Text). IsEntryOf journal z p) i (inr (k, t))
+    subst (λ (z : Text). IsEntryOf journal z p) i (inr (inl (k, t)))
+  where
+    edit_in : {x y : Entry} → RoEdit x ≡ RoEdit y → x ≡ y
+    edit_in h = cc
+edit_of_tag journal p e (OfScript r k j) t m =
+    let n : RoEdit (record { ro = r; edit = edit_at journal r k }) ≡ RoEdit e = sym (ap (λ (x : Packet). x.message) t.0) ∙ m in
+    let y : record { ro = r; edit = edit_at journal r k } ≡ e = edit_in n in
+    let i : r ≡ e.ro = ap (λ (x : Entry). x.ro) y in
+    subst (λ (z : Text). IsEntryOf journal z p) i (inr (inr (k, j, t.1, t.0)))
   where
     edit_in : {x y : Entry} → RoEdit x ≡ RoEdit y → x ≡ y
     edit_in h = cc
@@ -185,4 +228,5 @@ consistent_read journal count l r lok i = record {
   at_ready_again = λ m e f. (facts_read journal count l e (OfAgain r m) l.gate.upper lok i refl f).0;
   in_step = λ k e f. (facts_read journal count l e (OfEntry r k) l.gate.upper lok i refl f).1;
   in_step_again = λ m e f. (facts_read journal count l e (OfAgain r m) l.gate.upper lok i refl f).1;
+  in_step_script = λ k m e f. facts_read journal count l e (OfScript r k m) l.gate.upper lok i refl f;
 }

@@ -1,12 +1,14 @@
 -- The invariant makes each world consistent and each event safe; so every run is safe.
-use Rattle.std.proofs.Common.{◌≡◌, ℕ, ◌+◌, ◌≤◌, List, [], ◌∷◌, ◌++◌, Bool, true, false, Option, Some, None, arith, refl, if◌then◌else◌, ◌&&◌, nat_le, sym, ap, subst, inl, inr, eq-eqb}
+use Rattle.std.proofs.Common.{◌≡◌, ℕ, ◌+◌, ◌≤◌, List, [], ◌∷◌, ◌++◌, Bool, true, false, Option, Some, None, arith, refl, if◌then◌else◌, ◌&&◌, nat_le, sym, ap, ◌∙◌, subst, inl, inr, eq-eqb}
 use Rattle.std.proofs.lemmas.Bool.Decides.{nat_tests}
 use Rattle.mos_edits.specs.Texts.{Text, same_id, set_number}
 use Rattle.mos_edits.specs.Entries.Refusal.{Faulty, Full}
-use Rattle.mos_edits.specs.Entries.{Refusal, Entry, entry_count, acceptance}
+use Rattle.mos_edits.specs.Entries.{Refusal, Entry, entry_count, order_at, acceptance}
+use Rattle.mos_edits.proofs.Lacking.{scripts-ok, lacking-none, lacking-within}
+use Rattle.world_laws.proofs.PairingHear.{order_all}
 use Rattle.mos_machines.specs.Messages.Status.{Okay}
 use Rattle.mos_machines.specs.Server.{refusal_status, Upper, Verdict, verdict}
-use Rattle.mos_machines.specs.Server.ServerOut.{Idle, SendsEdit, SendsAgain, SendsBeat}
+use Rattle.mos_machines.specs.Server.ServerOut.{Idle, SendsEdit, SendsAgain, SendsScript, SendsBeat}
 use Rattle.mos_machines.specs.Server.Upper.{Down, Greeting, Open}
 use Rattle.mos_machines.specs.Server.View.{In}
 use Rattle.mos_machines.specs.Device.Phase.{InStep}
@@ -16,7 +18,7 @@ use Rattle.world_laws.specs.World.PairingEvent.{Read, Got, Reboot}
 use Rattle.world_laws.specs.World.WorldEvent.{Command, AtDevice, Lose, FailNext, Restart}
 use Rattle.world_laws.specs.World.Effect.{Impossible, Performed}
 use Rattle.world_laws.specs.Safe.{IsConsistentAt, IsConsistent, IsEventSafe, JournalGrows, IsDeviceSafe, IsStepSafe, IsSafe, is_in_flight}
-use Rattle.world_laws.proofs.Replication.{Replication, IsInvariant, NoEntry}
+use Rattle.world_laws.proofs.Replication.{Replication, IsInvariant, IsComplete, NoEntry}
 use Rattle.world_laws.proofs.Channels.{replication, channels, in_flight_by, upper_part}
 use Rattle.world_laws.proofs.Invariant.{PairingInvariant}
 use Rattle.world_laws.proofs.SafeRead.{consistent_read}
@@ -33,20 +35,31 @@ quiet_in_flight journal l r (Open c Idle) h = tt
 quiet_in_flight journal l r (Open c SendsBeat) h = tt
 quiet_in_flight journal l r (Open c (SendsEdit q k)) h = let n : same_id q r ≡ false = same-false q r h in rw n tt
 quiet_in_flight journal l r (Open c (SendsAgain q m)) h = let n : same_id q r ≡ false = same-false q r h in rw n tt
+quiet_in_flight journal l r (Open c (SendsScript q k m)) h = let n : same_id q r ≡ false = same-false q r h in rw n tt
 
-quiet_prefix : (l : Replication) → IsInvariant l → (n : ℕ) (again : Bool) → l.view ≡ In n again → NoEntry l.in_flight → l.phase ≡ InStep → l.prefix ≡ n
+quiet_prefix : (l : Replication) → IsInvariant l → (n : ℕ) (again : Bool) → l.view ≡ In n again [] → NoEntry l.in_flight → l.phase ≡ InStep → (l.prefix ≡ n) × IsComplete l
 quiet_prefix l i n again v t p = grind arith
 
-consistent_at : (journal : List Entry) (count : ℕ) (l : Pairing) (r : Text) → PairingInvariant journal count l → IsConsistentAt journal l r
-consistent_at journal count l r i = record {
-  within = let m = (i.replications r).prefix in let n = kinds_entry_count journal r in omega (arith, m, n);
-  held = i.holds r;
-  quiet = λ n again v o p. quiet_prefix (replication journal (channels l) r (l.peer.views r) (l.gate.phase r) (l.applied r)) (i.replications r) n again v (quiet_in_flight journal l r l.peer.upper o) p;
-  newest = λ v o p. quiet_prefix (replication journal (channels l) r (l.peer.views r) (l.gate.phase r) (l.applied r)) (i.replications r) (entry_count journal r) false v (quiet_in_flight journal l r l.peer.upper o) p;
+prefix_within : (journal : List Entry) (count : ℕ) (l : Pairing) (r : Text) → PairingInvariant journal count l → l.applied r ≤ entry_count journal r
+prefix_within journal count l r i = let m = (i.replications r).prefix in let n = kinds_entry_count journal r in omega (arith, m, n)
+
+-- in step with nothing lacking, the order is held as it is
+quiet_held : (journal : List Entry) (count : ℕ) (l : Pairing) (r : Text) (n : ℕ) → JournalOk journal → (i : PairingInvariant journal count l) → (l.applied r ≡ n) × ((j : ℕ) → i.lacks r j ≡ false) → (l.applied r ≡ n) × (l.gate.held r ≡ order_at journal r n)
+quiet_held journal count l r n lok i x = (
+  x.0,
+  i.holds r ∙ lacking-none journal r (l.applied r) (i.lacks r) (scripts-ok journal lok r (l.applied r) (prefix_within journal count l r i)) x.1 ∙ ap (λ (m : ℕ). order_at journal r m) x.0,
+)
+
+consistent_at : (journal : List Entry) (count : ℕ) (l : Pairing) (r : Text) → JournalOk journal → PairingInvariant journal count l → IsConsistentAt journal l r
+consistent_at journal count l r lok i = record {
+  within = prefix_within journal count l r i;
+  held = rw (i.holds r) (lacking-within journal r (l.applied r) (i.lacks r) (scripts-ok journal lok r (l.applied r) (prefix_within journal count l r i)));
+  quiet = λ n again v o p. quiet_held journal count l r n lok i (quiet_prefix (replication journal (channels l) r (l.peer.views r) (l.gate.phase r) (l.applied r) (i.lacks r)) (i.replications r) n again v (quiet_in_flight journal l r l.peer.upper o) p);
+  newest = λ v o p. let x = quiet_held journal count l r (entry_count journal r) lok i (quiet_prefix (replication journal (channels l) r (l.peer.views r) (l.gate.phase r) (l.applied r) (i.lacks r)) (i.replications r) (entry_count journal r) false v (quiet_in_flight journal l r l.peer.upper o) p) in (x.0, x.1 ∙ order_all journal r);
 }
 
 consistent : (w : World) → WorldInvariant w → IsConsistent w
-consistent w i d r = consistent_at w.journal w.count (w.pairings d) r (i.pairings d)
+consistent w i d r = consistent_at w.journal w.count (w.pairings d) r i.journal (i.pairings d)
 
 -- what an event at a device does to its pairing
 other_event : (journal : List Entry) (c : ℕ) (l : Pairing) (e : PairingEvent) (r : Text) → (e ≡ Read → ⊥) → (e ≡ Got → ⊥) → (e ≡ Reboot → ⊥) → l.applied r ≤ (pairing_step journal c l e).0.applied r

@@ -24,6 +24,7 @@ use Rattle.mos_edits.proofs.Journals.{JournalOk, grown_push, journal_ok_push}
 inv_count : (journal : List Entry) (count k : ℕ) (l : Pairing) → PairingInvariant journal count l → PairingInvariant journal (count + k) l
 inv_count journal count k l i = record {
   ok = record { unaccepted = i.ok.unaccepted; fresh = λ c h. i.ok.fresh c (omega arith); upper = i.ok.upper; read = i.ok.read; linked = i.ok.linked; dialed = i.ok.dialed; silent = i.ok.silent; channels_ok = i.ok.channels_ok };
+  lacks = i.lacks;
   replications = i.replications;
   holds = i.holds;
 }
@@ -41,7 +42,7 @@ pairing_keeps journal count l Back ok i = inv_count journal count 0 (pairing_ste
 pairing_keeps journal count l (Admit c) ok i = inv_count journal count 0 (pairing_step journal (count + 1) l (Admit c)).0 (keeps_admits journal count (count + 1) l c i)
 pairing_keeps journal count l Ask ok i = inv_count journal count 0 (pairing_step journal (count + 1) l Ask).0 (keeps_asks journal count (count + 1) l i)
 pairing_keeps journal count l Hear ok i = inv_count journal count 0 (pairing_step journal (count + 1) l Hear).0 (keeps_hears journal count (count + 1) l i)
-pairing_keeps journal count l Got ok i = inv_count journal count 0 (pairing_step journal (count + 1) l Got).0 (keeps_gets journal count (count + 1) l i)
+pairing_keeps journal count l Got ok i = inv_count journal count 0 (pairing_step journal (count + 1) l Got).0 (keeps_gets journal count (count + 1) l ok i)
 pairing_keeps journal count l Hangup ok i = inv_count journal count 0 (pairing_step journal (count + 1) l Hangup).0 (keeps_hangs_up journal count (count + 1) l i)
 pairing_keeps journal count l Miss ok i = inv_count journal count 0 (pairing_step journal (count + 1) l Miss).0 (keeps_misses journal count (count + 1) l i)
 pairing_keeps journal count l Beat ok i = inv_count journal count 0 (pairing_step journal (count + 1) l Beat).0 (keeps_beating journal count (count + 1) l i)
@@ -123,6 +124,7 @@ opening_inv devices = record {
         silent = λ e. refl;
         channels_ok = record { down = tt; upper_part = refl; requests = refl; answer = refl; one = inl refl; heard = tt; live = λ h. refl };
       };
-      replications = λ r. record { prefix = omega arith; read = tt; in_flight = refl; view = tt; ask = λ x. x; heard = λ x y. cc };
+      lacks = λ r j. false;
+      replications = λ r. record { prefix = omega arith; read = tt; in_flight = refl; view = tt; ask = λ x. x; lacking = λ j h. absurd (cc); heard = λ x y. cc };
       holds = λ r. refl;
     }

@@ -3,7 +3,7 @@ use Rattle.std.specs.Prelude.{ℕ, List as Listing, [], ◌∷◌, length}
 use Rattle.mos_edits.specs.Texts.{Text}
 use Rattle.mos_machines.specs.Messages.{Message, Tag, status_text}
 use Rattle.mos_machines.specs.Messages.Message.{Heartbeat as BeatMessage, RoAck, RoReq, RoReqAll, RoList, RoListAll}
-use Rattle.mos_machines.specs.Messages.Tag.{OfEntry, OfAgain, OfList}
+use Rattle.mos_machines.specs.Messages.Tag.{OfEntry, OfAgain, OfScript, OfList}
 use Rattle.mos_machines.specs.Messages.Step.{Taken as IsTaken, Unasked as IsUnasked}
 use Rattle.world_laws.specs.World.{World, WorldEvent, Effect, world_step}
 use Rattle.world_laws.specs.World.Effect.{Impossible as IsImpossible, Commanded, Connected, Performed, NothingSent, Wrote, Stepped}
@@ -18,6 +18,7 @@ pub data Outcome : Type 0 where
   Heartbeat : Outcome
   Edit : (ro : Text) (k : ℕ) → Outcome
   Again : (ro : Text) (m : ℕ) → Outcome
+  Script : (ro : Text) (k m : ℕ) → Outcome
   AskAll : Outcome
   Ask : (ro : Text) → Outcome
   ListAll : (n : ℕ) → Outcome
@@ -29,6 +30,7 @@ pub data Outcome : Type 0 where
 abbrev pub written : Tag → Message → Outcome
 written (OfEntry r k) message = Edit r k
 written (OfAgain r m) message = Again r m
+written (OfScript r k m) message = Script r k m
 written (OfList r m) (RoList q order) = List r m
 written tag (BeatMessage time) = Heartbeat
 written tag (RoAck r status) = Ack r (status_text status)

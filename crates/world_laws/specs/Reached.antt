@@ -1,7 +1,7 @@
 -- Worlds that a run ends in.
 use Rattle.std.specs.Prelude.{◌≡◌, ℕ, List, Some}
 use Rattle.mos_machines.specs.Server.{upper_link}
-use Rattle.world_laws.specs.World.{World, WorldEvent, Pairing, Opener, opening, run}
+use Rattle.world_laws.specs.World.{World, WorldEvent, Pairing, opening, run}
 use Rattle.world_laws.specs.World.Opener.{TheServer, TheDevice}
 
 -- some run ends in this world

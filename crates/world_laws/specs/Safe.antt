@@ -1,16 +1,18 @@
--- What holds of every run: each replica is the server's order after a prefix of its accepted edits.
+-- What holds of every run: each replica is, but for scripts still to come, the server's order after a prefix of its accepted
+-- edits.
 use Rattle.std.specs.Prelude.{◌≡◌, ℕ, ◌<◌, ◌-◌, ◌≤◌, ◌⊎◌, List, [], ◌∷◌, ◌++◌, Bool, true, false, Option, Some, None}
 use Rattle.mos_edits.specs.Texts.{Text, same_id}
 use Rattle.mos_edits.specs.Orders.{Order}
-use Rattle.mos_edits.specs.Entries.{Kind, kind, Entry, entry_count, order_at}
+use Rattle.mos_edits.specs.Entries.{Kind, kind, Entry, entry_count, order_at, order_now}
+use Rattle.mos_edits.specs.Scripts.{IsWithin}
 use Rattle.mos_edits.specs.Entries.Kind.{IsReady}
 use Rattle.mos_machines.specs.Messages.{Status, Message, Packet, untagged}
 use Rattle.mos_machines.specs.Messages.Status.{Okay, NoRunningOrder}
 use Rattle.mos_machines.specs.Messages.Message.{RoEdit, RoAck, RoList}
-use Rattle.mos_machines.specs.Messages.Tag.{OfEntry, OfAgain, OfList}
-use Rattle.mos_machines.specs.Server.{Upper, entry_packet, again_packet, list_of}
+use Rattle.mos_machines.specs.Messages.Tag.{OfEntry, OfAgain, OfScript, OfList}
+use Rattle.mos_machines.specs.Server.{Upper, entry_packet, again_packet, script_packet, list_of}
 use Rattle.mos_machines.specs.Server.Upper.{Open}
-use Rattle.mos_machines.specs.Server.ServerOut.{SendsEdit, SendsAgain}
+use Rattle.mos_machines.specs.Server.ServerOut.{SendsEdit, SendsAgain, SendsScript}
 use Rattle.mos_machines.specs.Server.View.{In}
 use Rattle.mos_machines.specs.Device.{GateState, Decks, ready_status}
 use Rattle.mos_machines.specs.Device.Phase.{InStep, Asked}
@@ -28,21 +30,22 @@ IsInStep g r = g.phase r ≡ InStep
 abbrev pub released : List Entry → Text → ℕ → Option Order
 released journal r k = order_at journal r k
 
--- an edit or READY of the order is in flight to the device
+-- an edit, READY or script of the order is in flight to the device
 abbrev pub is_in_flight : Text → Upper → Bool
 is_in_flight r (Open c (SendsEdit q k)) = same_id r q
 is_in_flight r (Open c (SendsAgain q m)) = same_id r q
+is_in_flight r (Open c (SendsScript q k m)) = same_id r q
 is_in_flight r u = false
 
--- Of each world, device and order: what the device holds is the order after the prefix of its entries that the device has
--- applied, which is not longer than they are. Where the server takes the device to hold the order after `n` entries,
--- nothing of the order is in flight to it and the device is in step, that prefix has length `n`; where the server is in
--- step too, it is all of them.
+-- Of each world, device and order: what the device holds is within the order after the prefix of its entries that the device
+-- has applied, which is not longer than they are: it may only lack scripts. Where the server takes the device to hold the order
+-- after `n` entries, no script is due, nothing of the order is in flight to it and the device is in step, that prefix has
+-- length `n`, and the device holds the order after it, scripts included; where the server is in step too, it is all of them.
 pub record IsConsistentAt (journal : List Entry) (l : Pairing) (r : Text) : Type 0 where
   pub within : l.applied r ≤ entry_count journal r
-  pub held : l.gate.held r ≡ order_at journal r (l.applied r)
-  pub quiet : (n : ℕ) (again : Bool) → l.peer.views r ≡ In n again → is_in_flight r l.peer.upper ≡ false → IsInStep l.gate r → l.applied r ≡ n
-  pub newest : l.peer.views r ≡ In (entry_count journal r) false → is_in_flight r l.peer.upper ≡ false → IsInStep l.gate r → l.applied r ≡ entry_count journal r
+  pub held : IsWithin (l.gate.held r) (order_at journal r (l.applied r))
+  pub quiet : (n : ℕ) (again : Bool) → l.peer.views r ≡ In n again [] → is_in_flight r l.peer.upper ≡ false → IsInStep l.gate r → (l.applied r ≡ n) × (l.gate.held r ≡ order_at journal r n)
+  pub newest : l.peer.views r ≡ In (entry_count journal r) false [] → is_in_flight r l.peer.upper ≡ false → IsInStep l.gate r → (l.applied r ≡ entry_count journal r) × (l.gate.held r ≡ order_now journal r)
 
 abbrev pub IsConsistent : World → Type 0
 IsConsistent w = (d : ℕ) (r : Text) → IsConsistentAt w.journal (w.pairings d) r
@@ -57,15 +60,16 @@ abbrev pub in_step_status : Kind → Decks → Status
 in_step_status IsReady decks = ready_status decks
 in_step_status k decks = Okay
 
--- An edit that a device reads is an entry of its order, or a READY of it that is sent again. A device that answers `OK` to a
--- READY, sent first or again, holds the order that it releases. A device in step answers `OK` to each entry of the order, but
--- for `NO DECK`.
+-- An edit that a device reads is an entry of its order, or a READY or a script of it that is sent again. A device that answers
+-- `OK` to a READY, sent first or again, holds the order that it releases, scripts included. A device in step answers `OK` to
+-- each entry of the order and to each script sent again, but for `NO DECK` to a READY.
 pub record IsReadSafe (journal : List Entry) (l l' : Pairing) (o : Effect) (r : Text) : Type 0 where
-  pub edits : (p : Packet) (e : Entry) → upper_front l l.gate.upper ≡ Some p → p.message ≡ RoEdit e → e.ro ≡ r → ((k : ℕ) × (k < entry_count journal r) × (p ≡ entry_packet journal r k)) ⊎ ((m : ℕ) × (p ≡ again_packet journal r m))
+  pub edits : (p : Packet) (e : Entry) → upper_front l l.gate.upper ≡ Some p → p.message ≡ RoEdit e → e.ro ≡ r → ((k : ℕ) × (k < entry_count journal r) × (p ≡ entry_packet journal r k)) ⊎ ((m : ℕ) × (p ≡ again_packet journal r m)) ⊎ ((k : ℕ) × (m : ℕ) × (k < entry_count journal r) × (p ≡ script_packet journal r k m))
   pub at_ready : (k : ℕ) (e : Entry) → upper_front l l.gate.upper ≡ Some (record { message = RoEdit e; tag = OfEntry r k }) → kind e.edit ≡ IsReady → o ≡ Wrote (untagged (RoAck r Okay)) → l'.gate.held r ≡ released journal r k
   pub at_ready_again : (m : ℕ) (e : Entry) → upper_front l l.gate.upper ≡ Some (record { message = RoEdit e; tag = OfAgain r m }) → o ≡ Wrote (untagged (RoAck r Okay)) → l'.gate.held r ≡ released journal r (m - 1)
   pub in_step : (k : ℕ) (e : Entry) → upper_front l l.gate.upper ≡ Some (record { message = RoEdit e; tag = OfEntry r k }) → IsInStep l.gate r → o ≡ Wrote (untagged (RoAck r (in_step_status (kind e.edit) l.decks)))
   pub in_step_again : (m : ℕ) (e : Entry) → upper_front l l.gate.upper ≡ Some (record { message = RoEdit e; tag = OfAgain r m }) → IsInStep l.gate r → o ≡ Wrote (untagged (RoAck r (ready_status l.decks)))
+  pub in_step_script : (k m : ℕ) (e : Entry) → upper_front l l.gate.upper ≡ Some (record { message = RoEdit e; tag = OfScript r k m }) → IsInStep l.gate r → o ≡ Wrote (untagged (RoAck r Okay))
 
 -- a roList, or that there is no order
 abbrev pub IsList : Message → Type 0

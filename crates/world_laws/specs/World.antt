@@ -155,7 +155,7 @@ rest [] = []
 rest (p ∷ ps) = ps
 
 -- The applied prefix after a device read an edit and answered: entry `k` answered `OK`, in step or as a whole-order edit,
--- or a READY answered `NO DECK` in step, makes it k + 1. A READY sent again leaves it.
+-- or a READY answered `NO DECK` in step, makes it k + 1. A READY or a script sent again leaves it.
 abbrev pub applied_step : Kind → Bool → ℕ → ℕ → Status → ℕ
 applied_step kind in_step prefix k Okay = if in_step || is_whole kind then k + 1 else prefix
 applied_step kind in_step prefix k NoDeck = if in_step then k + 1 else prefix

@@ -1,5 +1,5 @@
 //! The world of one server, its gateways and the connections between them, and the law that holds of every run of it:
-//! each replica is the server's order after a prefix of its accepted edits.
+//! each replica is, but for scripts still to come, the server's order after a prefix of its accepted edits.
 #![tactic(auto)]
 
 ghost use Rattle.std.specs.Prelude.{◌≡◌, ℕ, ◌+◌, List, Bool, true};
@@ -14,8 +14,9 @@ ghost use Rattle.mos_machines.specs.Views.{IsServerWithin};
 /// Prefix consistency: every run is safe, and the world that it ends in is consistent, for any number of devices and any list
 /// of commands, deliveries, cut and lost connections, failed appends and restarts.
 ///
-/// So what a gateway holds of a running order is at each moment the server's order after a prefix of its accepted edits; that
-/// prefix gets shorter only where the gateway restarts; where both ends are in step and nothing is in flight it is the whole;
+/// So what a gateway holds of a running order is at each moment, but for scripts still to come, the server's order after a
+/// prefix of its accepted edits; that prefix gets shorter only where the gateway restarts; where both ends are in step and
+/// nothing is in flight it is the whole, scripts included;
 /// and READY is acknowledged only while the gateway holds exactly the order that it releases. The edits may be any: none of
 /// this asks that they are sound.
 pub fn prefix_consistency()

@@ -23,8 +23,10 @@ use Rattle.mos_edits.specs.KeyedLists.{Applied, ListAction, find, put_for, act_l
 use Rattle.mos_edits.specs.KeyedLists.Applied.{Done, Fault}
 use Rattle.mos_edits.specs.KeyedLists.ListAction.{Insert, Replace, Move, Delete}
 use Rattle.mos_edits.specs.Actions.{act, act_in, put_items}
-use Rattle.mos_edits.specs.Orders.{Item, Story, Order, shape, form_of, with_stories, patched, apply}
+use Rattle.mos_edits.specs.Orders.{Item, Story, Order, OrderBody, order_of, bare, shape, form_of, scripts_after, with_stories, patched, apply}
 use Rattle.mos_edits.specs.declared.edit.Edit.{Edit}
+use Rattle.mos_edits.specs.Sizes.{send_units}
+use Rattle.mos_machines.proofs.SizeLemmas.{script-units}
 use Rattle.written_laws.specs.Lengths.{IsShort, HasShortTarget, HasShortIds}
 use Rattle.written_laws.proofs.Sums.{total, total-find, total-put_for, Within, within-more, within-act_list}
 use Rattle.written_laws.proofs.Sizes.{short-must, units-with, id_units, item_weight, story_weight, ids-total, items-total, stories-total, item-id, story-id, story-items, patch-units}
@@ -175,9 +177,14 @@ short-air NotReady = omega arith
 -- an order that is there has at most `n` code units between its tags
 abbrev pub FitsIn : ℕ → Option Order → Type 0
 FitsIn n None = Unit {0}
-FitsIn n (Some o) = units_in (body_events o) ≤ n
+FitsIn n (Some o) = units_in (body_events (bare o)) ≤ n
 
-body-units : (o : Order) → units_in (body_events o) ≡ units_in (header_events o.header) + total story_weight o.stories
+-- a script has at most `n` code units
+abbrev pub FitsSend : ℕ → Edit → Type 0
+FitsSend n (edits.Script script) = send_units script ≤ n
+FitsSend n e = Unit {0}
+
+body-units : (o : OrderBody) → units_in (body_events o) ≡ units_in (header_events o.header) + total story_weight o.stories
 unfolding body_events
 body-units o =
     let e = units_in-append (header_events o.header) (stories_events o.stories) in
@@ -196,7 +203,7 @@ acted n ro action stories ys h b a r s =
     let c : length (event_text (closes (codes "roElementAction"))) ≤ 100 = omega arith in
     omega (arith, t, f, e, i, w, c)
 
-whole-units : (n : ℕ) (body : Order) → units_in (body_events body) ≤ n → (units_in (message_events (edit_message (edits.Create body))) ≤ n + 10000) × (units_in (message_events (edit_message (edits.Replace body))) ≤ n + 10000)
+whole-units : (n : ℕ) (body : OrderBody) → units_in (body_events body) ≤ n → (units_in (message_events (edit_message (edits.Create body))) ≤ n + 10000) × (units_in (message_events (edit_message (edits.Replace body))) ≤ n + 10000)
 unfolding message_events
 whole-units n body h = (
   let t = units_in_element (codes "roCreate") (body_events body) refl in omega (arith, t, h),
@@ -212,36 +219,38 @@ air-units ro air s =
     let k = short-must fields.RoAir 5 (air_text air) refl (short-air air) in
     omega (arith, t, e, i, k)
 
-pub edit-within : (n : ℕ) (r : Text) (o p : Option Order) (e : Edit) → apply r o e ≡ Done p → FitsIn n o → FitsIn n p → HasShortIds e → units_in (message_events (edit_message e)) ≤ n + 10000
+pub edit-within : (n : ℕ) (r : Text) (o p : Option Order) (e : Edit) → apply r o e ≡ Done p → FitsIn n o → FitsIn n p → HasShortIds e → FitsSend n e → units_in (message_events (edit_message e)) ≤ n + 10000
 unfolding apply message_events
-edit-within n r None p (edits.Create body) h b a s = let p_is : Some body ≡ p = cc in (whole-units n body (subst (FitsIn n) (sym p_is) a)).0
-edit-within n r None p (edits.Replace body) h b a s = absurd (cc)
-edit-within n r None p (edits.Delete ro) h b a s = absurd (cc)
-edit-within n r None p (edits.Metadata patch) h b a s = absurd (cc)
-edit-within n r None p (edits.Act ro action) h b a s = absurd (cc)
-edit-within n r None p (edits.Air ro air) h b a s = absurd (cc)
-edit-within n r (Some o) p (edits.Create body) h b a s = absurd (cc)
-edit-within n r (Some o) p (edits.Replace body) h b a s = let p_is : Some body ≡ p = cc in (whole-units n body (subst (FitsIn n) (sym p_is) a)).1
-edit-within n r (Some o) p (edits.Delete ro) h b a s =
+edit-within n r None p (edits.Create body) h b a s f = let p_is : Some (order_of body) ≡ p = cc in (whole-units n body (subst (FitsIn n) (sym p_is) a)).0
+edit-within n r None p (edits.Replace body) h b a s f = absurd (cc)
+edit-within n r None p (edits.Delete ro) h b a s f = absurd (cc)
+edit-within n r None p (edits.Metadata patch) h b a s f = absurd (cc)
+edit-within n r None p (edits.Act ro action) h b a s f = absurd (cc)
+edit-within n r None p (edits.Air ro air) h b a s f = absurd (cc)
+edit-within n r None p (edits.Script script) h b a s f = absurd (cc)
+edit-within n r (Some o) p (edits.Create body) h b a s f = absurd (cc)
+edit-within n r (Some o) p (edits.Replace body) h b a s f = let p_is : Some (order_of body) ≡ p = cc in (whole-units n body (subst (FitsIn n) (sym p_is) a)).1
+edit-within n r (Some o) p (edits.Delete ro) h b a s f =
     let t = units_in_element (codes "roDelete") (must fields.RoID ro) refl in
     let i = short-must fields.RoID 4 ro refl s in
     omega (arith, t, i)
-edit-within n r (Some o) p (edits.Metadata patch) h b a s =
-    let p_is : Some (record { header = patched patch o.header; stories = o.stories }) ≡ p = cc in
+edit-within n r (Some o) p (edits.Metadata patch) h b a s f =
+    let p_is : Some (record { header = patched patch o.header; stories = o.stories; scripts = o.scripts }) ≡ p = cc in
     let q : units_in (body_events (record { header = patched patch o.header; stories = o.stories })) ≤ n = subst (FitsIn n) (sym p_is) a in
     let u = body-units (record { header = patched patch o.header; stories = o.stories }) in
     let t = units_in_element (codes "roMetadataReplace") (patch_events patch) refl in
     let w = patch-units patch o.header in
     let i = short-must fields.RoID 4 patch.ro refl s in
     omega (arith, q, u, t, w, i)
-edit-within n r (Some o) p (edits.Act ro action) h b a s = go (act shape (form_of action) o.stories) refl h
+edit-within n r (Some o) p (edits.Act ro action) h b a s f = go (act shape (form_of action) o.stories) refl h
   where
-    go : (x : Applied (List Story)) → act shape (form_of action) o.stories ≡ x → with_stories o.header x ≡ Done p → units_in (message_events (edit_message (edits.Act ro action))) ≤ n + 10000
+    go : (x : Applied (List Story)) → act shape (form_of action) o.stories ≡ x → with_stories o.header (scripts_after (λ script. script) (edits.Act ro action) o.scripts) x ≡ Done p → units_in (message_events (edit_message (edits.Act ro action))) ≤ n + 10000
     go (Fault f) e k = absurd (cc)
     go (Done ys) e k =
-        let p_is : Some (record { header = o.header; stories = ys }) ≡ p = cc in
+        let p_is : Some (record { header = o.header; stories = ys; scripts = scripts_after (λ script. script) (edits.Act ro action) o.scripts }) ≡ p = cc in
         let q : units_in (body_events (record { header = o.header; stories = ys })) ≤ n = subst (FitsIn n) (sym p_is) a in
         let u = body-units (record { header = o.header; stories = ys }) in
-        let v = body-units o in
+        let v = body-units (bare o) in
         acted n ro action o.stories ys e (omega (arith, v, b)) (omega (arith, u, q)) s.0 s.1
-edit-within n r (Some o) p (edits.Air ro air) h b a s = let u = air-units ro air s in omega (arith, u)
+edit-within n r (Some o) p (edits.Air ro air) h b a s f = let u = air-units ro air s in omega (arith, u)
+edit-within n r (Some o) p (edits.Script script) h b a s f = let u = script-units script in omega (arith, u, f)

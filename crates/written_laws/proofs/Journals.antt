@@ -1,12 +1,13 @@
 -- Sound edits leave sound orders.
 use Rattle.std.proofs.Common.{ℕ, Bool, true, false, List, [], ◌∷◌, Option, Some, None, if◌then◌else◌}
 use Rattle.std.specs.List.{AllByRecursion}
-use Rattle.mos_edits.specs.Texts.{Text, same_id}
+use Rattle.mos_values.specs.Distinct.{story_ids}
+use Rattle.mos_edits.specs.Texts.{has_id, Text, same_id}
 use Rattle.mos_edits.specs.KeyedLists.{Applied, find, act_list}
 use Rattle.mos_edits.specs.KeyedLists.Applied.{Done, Fault}
 use Rattle.mos_edits.specs.Actions.{Action, act, act_in, put_items}
 use Rattle.mos_edits.specs.Actions.Action.{OnStories, OnItems}
-use Rattle.mos_edits.specs.Orders.{Item, Story, Order, Header, HeaderPatch, shape, form_of, with_stories, apply}
+use Rattle.mos_edits.specs.Orders.{Item, Story, Order, Header, HeaderPatch, StorySend, shape, form_of, scripts_after, with_stories, with_script, apply}
 use Rattle.mos_edits.specs.declared.edit.Edit.{Edit}
 use Rattle.mos_edits.specs.Entries.{Entry, entries, edit_at, no_edit, result_or, order_from, order_after, order_now, listed, with_header, headers_of, headers}
 use Rattle.mos_values.specs.declared.action.Action as values
@@ -60,9 +61,9 @@ sound-act action stories a h = all-act IsSoundStory IsSoundItem (λ s i. i.1) so
 
 -- ---- edits
 
-sound-stories : (h : Header) (x : Applied (List Story)) → ((stories : List Story) → AreSoundStories stories → IsSoundBody (record { header = h; stories = stories })) → WhereDone AreSoundStories x → WhereDone IsSoundOrder (with_stories h x)
-sound-stories h (Done stories) f a = f stories a
-sound-stories h (Fault x) f a = tt
+sound-stories : (h : Header) (scripts : List (Text × StorySend)) (x : Applied (List Story)) → ((stories : List Story) → AreSoundStories stories → IsSoundBody (record { header = h; stories = stories })) → WhereDone AreSoundStories x → WhereDone IsSoundOrder (with_stories h scripts x)
+sound-stories h scripts (Done stories) f a = f stories a
+sound-stories h scripts (Fault x) f a = tt
 
 sound-apply : (r : Text) (o : Option Order) (e : Edit) → IsSoundOrder o → IsSoundEdit e → WhereDone IsSoundOrder (apply r o e)
 unfolding apply IsSound
@@ -72,12 +73,18 @@ sound-apply r None (edits.Delete ro) a b = tt
 sound-apply r None (edits.Metadata patch) a b = tt
 sound-apply r None (edits.Act ro action) a b = tt
 sound-apply r None (edits.Air ro air) a b = tt
+sound-apply r None (edits.Script script) a b = tt
 sound-apply r (Some o) (edits.Create body) a b = tt
 sound-apply r (Some o) (edits.Replace body) a b = b
 sound-apply r (Some o) (edits.Delete ro) a b = tt
 sound-apply r (Some o) (edits.Metadata patch) a b = (sound-patched patch o.header b a.0, a.1)
-sound-apply r (Some o) (edits.Act ro action) a b = sound-stories o.header (act shape (form_of action) o.stories) (λ stories h. (a.0, h)) (sound-act action o.stories b a.1)
+sound-apply r (Some o) (edits.Act ro action) a b = sound-stories o.header (scripts_after (λ script. script) (edits.Act ro action) o.scripts) (act shape (form_of action) o.stories) (λ stories h. (a.0, h)) (sound-act action o.stories b a.1)
 sound-apply r (Some o) (edits.Air ro air) a b = a
+sound-apply r (Some o) (edits.Script script) a b = go (has_id script.story (story_ids o.stories))
+  where
+    go : (c : Bool) → WhereDone IsSoundOrder (with_script o script c)
+    go true = a
+    go false = tt
 
 -- What each edit keeps of an order holds after all of them.
 kept-result : (R : Option Order → Type 0) (o : Option Order) (x : Applied (Option Order)) → R o → WhereDone R x → R (result_or o x)

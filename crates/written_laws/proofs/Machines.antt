@@ -2,14 +2,14 @@
 use Rattle.std.proofs.Common.{ℕ, ◌-◌, Bool, true, false, List, [], ◌∷◌, Option, Some, None, if◌then◌else◌}
 use Rattle.mos_edits.specs.Texts.{Text, set_order}
 use Rattle.mos_edits.specs.Orders.{Order}
-use Rattle.mos_edits.specs.Entries.{Entry, entry_count, order_now, acceptance}
+use Rattle.mos_edits.specs.Entries.{Entry, entry_count, order_now, acceptance, in_force}
 use Rattle.mos_fields.specs.declared.time.MosTime.{MosTime}
 use Rattle.mos_machines.specs.Messages.{Message, Packet, untagged, is_link}
 use Rattle.mos_machines.specs.Messages.Message.{Heartbeat, RoEdit, RoAck, RoReq, RoReqAll, RoList, RoListAll, RoElementStat, OtherMessage}
 use Rattle.mos_machines.specs.Messages.Status.{NotNow}
 use Rattle.mos_machines.specs.Values.{message_of}
 use Rattle.mos_machines.specs.Server.{ServerOut, Upper, PeerState, peer_answered, peer_next, next_by, sent, beat_or_due, first_due, peer_hear, peer_settled, is_busy, settled, list_of, Verdict, verdict}
-use Rattle.mos_machines.specs.Server.ServerOut.{Idle, SendsEdit, SendsAgain, SendsBeat}
+use Rattle.mos_machines.specs.Server.ServerOut.{Idle, SendsEdit, SendsAgain, SendsScript, SendsBeat}
 use Rattle.mos_machines.specs.Server.Upper.{Down, Greeting, Open}
 use Rattle.mos_machines.specs.Server.View.{Listed}
 use Rattle.mos_machines.specs.Server.Verdict.{Takes, Fails, Refuses}
@@ -33,6 +33,7 @@ sound-sent journal now s c Idle a = tt
 sound-sent journal now s c SendsBeat a = tt
 sound-sent journal now s c (SendsEdit r k) a = sound-edit journal r k a
 sound-sent journal now s c (SendsAgain r m) a = sound-edit journal r (m - 1) a
+sound-sent journal now s c (SendsScript r k m) a = sound-edit journal r k a
 
 next-by : (journal : List Entry) (now : MosTime) (s : PeerState) (u : Upper) → HasSoundEdits journal → HoldsIn IsSoundPacket (next_by journal now s u).1
 next-by journal now s Down a = tt
@@ -40,6 +41,7 @@ next-by journal now s (Greeting c) a = tt
 next-by journal now s (Open c Idle) a = sound-sent journal now s c (beat_or_due s.note (first_due s.views (λ r. 0) journal)) a
 next-by journal now s (Open c (SendsEdit r k)) a = tt
 next-by journal now s (Open c (SendsAgain r m)) a = tt
+next-by journal now s (Open c (SendsScript r k m)) a = tt
 next-by journal now s (Open c SendsBeat) a = tt
 
 pub sound-next : (journal : List Entry) (now : MosTime) (s : PeerState) → HasSoundEdits journal → HoldsIn IsSoundPacket (peer_next journal now s).1
@@ -62,7 +64,7 @@ sound-requested journal s r a = go (is_busy r s.upper) (sound-list r (entry_coun
         if b
         then (peer_settled journal false s, untagged (RoAck r NotNow))
         else (
-          record { upper = s.upper; note = s.note; link = s.link; views = set_order (λ q. settled journal false q (s.views q)) r (Listed (entry_count journal r)) },
+          record { upper = s.upper; note = s.note; link = s.link; views = set_order (λ q. settled journal false q (s.views q)) r (Listed (entry_count journal r) (in_force journal r (entry_count journal r))) },
           list_of r (entry_count journal r) (order_now journal r),
         ))
     go true i = tt

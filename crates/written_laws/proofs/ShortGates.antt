@@ -2,7 +2,7 @@
 use Rattle.std.proofs.Common.{ℕ, Bool, true, false, List, [], ◌∷◌, Option, Some, None, if◌then◌else◌}
 use Rattle.std.specs.List.{AllByRecursion}
 use Rattle.mos_edits.specs.Texts.{Text, same_id}
-use Rattle.mos_edits.specs.Orders.{Order, HeaderPatch}
+use Rattle.mos_edits.specs.Orders.{Order, OrderBody, order_of, HeaderPatch}
 use Rattle.mos_edits.specs.Entries.{insert_id, is_before}
 use Rattle.mos_machines.specs.Messages.{Message, untagged, Step}
 use Rattle.mos_machines.specs.Messages.Status.{NotSupported}
@@ -107,8 +107,8 @@ IsGot x = IsShortGate x.0
 got-list : (g : GateState) (r : Text) (o : Option Order) → IsShort r → IsShortGate g → IsShortGate (got_order g r o)
 got-list g r o h k = (short-insert r g.known h k.0, tt)
 
-got-listed : (b : Bool) (g : GateState) (r : Text) (o : Order) → IsShort r → IsShortGate g → IsGot (if b then (got_order g r (Some o), Taken) else gate_unasked g)
-got-listed true g r o h k = got-list g r (Some o) h k
+got-listed : (b : Bool) (g : GateState) (r : Text) (o : OrderBody) → IsShort r → IsShortGate g → IsGot (if b then (got_order g r (Some (order_of o)), Taken) else gate_unasked g)
+got-listed true g r o h k = got-list g r (Some (order_of o)) h k
 got-listed false g r o h k = (k.0, tt)
 
 got-refused : (b c : Bool) (g : GateState) (r : Text) → IsShort r → IsShortGate g → IsGot (if b then (if c then (got_order g r None, Taken) else (got_refusal g r, Taken)) else gate_unasked g)

@@ -6,9 +6,9 @@ use Rattle.mos_fields.specs.declared.air.Air.TheVariants.{NotReady}
 use Rattle.mos_fields.specs.declared.field.Field.TheVariants as fields
 use Rattle.mos_edits.specs.Texts.{set_order}
 use Rattle.mos_edits.specs.KeyedLists.ActFault.{Missing, AlreadyThere}
-use Rattle.mos_edits.specs.Orders.{Order}
+use Rattle.mos_edits.specs.Orders.{Order, bare}
 use Rattle.mos_edits.specs.declared.edit.Edit.{Edit}
-use Rattle.mos_edits.specs.Entries.{Entry, entries, edit_at, no_edit, order_now, entry_count, acceptance}
+use Rattle.mos_edits.specs.Entries.{Entry, entries, edit_at, no_edit, order_now, entry_count, acceptance, in_force}
 use Rattle.mos_edits.specs.Sizes.{list_limit}
 use Rattle.mos_edits.proofs.Journals.{accepted_applies}
 use Rattle.mos_machines.specs.Messages.{Status, status_text, Message, message_ro, Packet, untagged}
@@ -16,7 +16,7 @@ use Rattle.mos_machines.specs.Messages.Status.{Okay, NoDeck, NotInStep, Faulty, 
 use Rattle.mos_machines.specs.Messages.Message.{Heartbeat, RoEdit, RoAck, RoReq, RoReqAll, RoList, RoListAll, RoElementStat, OtherMessage}
 use Rattle.mos_machines.specs.Values.{edit_message, ack, message_of, IsWrittenStatus}
 use Rattle.mos_machines.specs.Server.{ServerOut, Upper, View, PeerState, due_at, first_of_two, first_due, beat_or_due, sent, next_by, peer_next, is_busy, settled, peer_settled, list_of, peer_hear}
-use Rattle.mos_machines.specs.Server.ServerOut.{Idle, SendsEdit, SendsAgain, SendsBeat}
+use Rattle.mos_machines.specs.Server.ServerOut.{Idle, SendsEdit, SendsAgain, SendsScript, SendsBeat}
 use Rattle.mos_machines.specs.Server.Upper.{Down, Greeting, Open}
 use Rattle.mos_machines.specs.Server.View.{Out, Listed, In, From}
 use Rattle.mos_values.specs.MessageViews.{message_events}
@@ -117,7 +117,7 @@ journal-grows journal e i k a =
     let l : AreLimited (journal ++ e ∷ []) = all-append KeepsFieldLimits journal (e ∷ []) i.limited (k, tt) in
     let w = edit-within list_limit e.ro (order_now journal e.ro) (order_now (journal ++ e ∷ []) e.ro) e.edit (accepted_applies journal e a)
     (fits-in (order_now journal e.ro) (i.within.orders e.ro) (small-now journal e.ro i.limited))
-    (fits-in (order_now (journal ++ e ∷ []) e.ro) (accepted-within journal e a).0 (small-now (journal ++ e ∷ []) e.ro l)) k.1 in
+    (fits-in (order_now (journal ++ e ∷ []) e.ro) (accepted-within journal e a).0 (small-now (journal ++ e ∷ []) e.ro l)) k.1 (accepted-within journal e a).2 in
     record {
       within = within-push journal e i.within a;
       limited = l;
@@ -136,17 +136,23 @@ bounded-edit journal r k i h =
 abbrev IsShortOut : ServerOut → Type 0
 IsShortOut (SendsEdit r k) = IsShort r
 IsShortOut (SendsAgain r m) = IsShort r
+IsShortOut (SendsScript r k m) = IsShort r
 IsShortOut o = Unit {0}
 
 short-due : (r : Text) (v : View) (k : ℕ) → IsShort r → IsShortOut (due_at r v k)
 short-due r Out k h = tt
-short-due r (Listed m) k h = tt
-short-due r (In n true) k h = go (n == k + 1)
+short-due r (Listed m ks) k h = tt
+short-due r (In n a (j ∷ js)) k h = go (n == k + 1)
+  where
+    go : (b : Bool) → IsShortOut (if b then SendsScript r j n else Idle)
+    go true = h
+    go false = tt
+short-due r (In n true []) k h = go (n == k + 1)
   where
     go : (b : Bool) → IsShortOut (if b then SendsAgain r n else Idle)
     go true = h
     go false = tt
-short-due r (In n false) k h = go (n == k)
+short-due r (In n false []) k h = go (n == k)
   where
     go : (b : Bool) → IsShortOut (if b then SendsEdit r k else Idle)
     go true = h
@@ -161,6 +167,7 @@ short-first : (a b : ServerOut) → IsShortOut a → IsShortOut b → IsShortOut
 short-first Idle b h k = k
 short-first (SendsEdit r m) b h k = h
 short-first (SendsAgain r m) b h k = h
+short-first (SendsScript r j m) b h k = h
 short-first SendsBeat b h k = tt
 
 short-first_due : (views : Text → View) (before : Text → ℕ) (journal : List Entry) → AreLimited journal → IsShortOut (first_due views before journal)
@@ -174,6 +181,7 @@ short-beat true Idle h = tt
 short-beat false Idle h = tt
 short-beat note (SendsEdit r k) h = h
 short-beat note (SendsAgain r m) h = h
+short-beat note (SendsScript r k m) h = h
 short-beat note SendsBeat h = tt
 
 bounded-sent : (journal : List Entry) (s : PeerState) (c : ℕ) (o : ServerOut) → IsBoundedJournal journal → IsShortOut o → HoldsIn IsBoundedPacket (sent journal own_time s c o).1
@@ -181,6 +189,7 @@ bounded-sent journal s c Idle i h = tt
 bounded-sent journal s c SendsBeat i h = bounded-beat
 bounded-sent journal s c (SendsEdit r k) i h = bounded-edit journal r k i h
 bounded-sent journal s c (SendsAgain r m) i h = bounded-edit journal r (m - 1) i h
+bounded-sent journal s c (SendsScript r k m) i h = bounded-edit journal r k i h
 
 next-by : (journal : List Entry) (s : PeerState) (u : Upper) → IsBoundedJournal journal → HoldsIn IsBoundedPacket (next_by journal own_time s u).1
 next-by journal s Down i = tt
@@ -190,6 +199,7 @@ next-by journal s (Open c Idle) i =
     bounded-sent journal s c (beat_or_due s.note due) i (short-beat s.note due (short-first_due s.views (λ r. 0) journal i.limited))
 next-by journal s (Open c (SendsEdit r k)) i = tt
 next-by journal s (Open c (SendsAgain r m)) i = tt
+next-by journal s (Open c (SendsScript r k m)) i = tt
 next-by journal s (Open c SendsBeat) i = tt
 
 pub bounded-next : (journal : List Entry) (s : PeerState) → IsBoundedJournal journal → HoldsIn IsBoundedPacket (peer_next journal own_time s).1
@@ -197,7 +207,7 @@ bounded-next journal s i = next-by journal s s.upper i
 
 bounded-list : (r : Text) (m : ℕ) (o : Option Order) → IsShort r → IsWithinLimit o → IsSmallIfThere o → IsBoundedPacket (list_of r m o)
 bounded-list r m None h w s = bounded-ack r NoRunningOrder h tt
-bounded-list r m (Some o) h w s = (list-units o s w, h, tt)
+bounded-list r m (Some o) h w s = (list-units (bare o) s w, h, tt)
 
 abbrev IsHeard : PeerState × Packet → Type 0
 IsHeard x = IsBoundedPacket x.1
@@ -210,7 +220,7 @@ bounded-requested journal s r i h = go (is_busy r s.upper) (bounded-list r (entr
         if b
         then (peer_settled journal false s, untagged (RoAck r NotNow))
         else (
-          record { upper = s.upper; note = s.note; link = s.link; views = set_order (λ q. settled journal false q (s.views q)) r (Listed (entry_count journal r)) },
+          record { upper = s.upper; note = s.note; link = s.link; views = set_order (λ q. settled journal false q (s.views q)) r (Listed (entry_count journal r) (in_force journal r (entry_count journal r))) },
           list_of r (entry_count journal r) (order_now journal r),
         ))
     go true k = bounded-ack r NotNow h tt

@@ -1,11 +1,12 @@
 -- Edits within the limits of fields leave orders within them.
-use Rattle.std.proofs.Common.{List, [], ◌∷◌, Option, Some, None}
+use Rattle.std.proofs.Common.{Bool, true, false, List, [], ◌∷◌, Option, Some, None}
 use Rattle.std.specs.List.{AllByRecursion}
-use Rattle.mos_edits.specs.Texts.{Text}
+use Rattle.mos_edits.specs.Texts.{Text, has_id}
+use Rattle.mos_values.specs.Distinct.{story_ids}
 use Rattle.mos_edits.specs.KeyedLists.{Applied}
 use Rattle.mos_edits.specs.KeyedLists.Applied.{Done, Fault}
 use Rattle.mos_edits.specs.Actions.{act}
-use Rattle.mos_edits.specs.Orders.{Item, Story, Order, Header, HeaderPatch, edit_ro, shape, form_of, with_stories, apply}
+use Rattle.mos_edits.specs.Orders.{Item, Story, Order, Header, HeaderPatch, StorySend, edit_ro, shape, form_of, scripts_after, with_stories, with_script, apply}
 use Rattle.mos_edits.specs.declared.edit.Edit.{Edit}
 use Rattle.mos_edits.specs.Entries.{Entry, entries, order_now, listed, with_header, headers_of, headers}
 use Rattle.mos_values.specs.declared.action.Action as values
@@ -59,9 +60,9 @@ IsLimited (Some o) = AllByRecursion HasSmallItems o.stories × IsShort o.header.
 abbrev IsLimitedEdit : Edit → Type 0
 IsLimitedEdit e = IsSmallEdit e × IsShort (edit_ro e)
 
-limited-stories : (h : Header) (x : Applied (List Story)) → IsShort h.ro → WhereDone (AllByRecursion HasSmallItems) x → WhereDone IsLimited (with_stories h x)
-limited-stories h (Done stories) r a = (a, r)
-limited-stories h (Fault f) r a = tt
+limited-stories : (h : Header) (scripts : List (Text × StorySend)) (x : Applied (List Story)) → IsShort h.ro → WhereDone (AllByRecursion HasSmallItems) x → WhereDone IsLimited (with_stories h scripts x)
+limited-stories h scripts (Done stories) r a = (a, r)
+limited-stories h scripts (Fault f) r a = tt
 
 limited-apply : (r : Text) (o : Option Order) (e : Edit) → IsLimited o → IsLimitedEdit e → WhereDone IsLimited (apply r o e)
 unfolding apply
@@ -71,13 +72,19 @@ limited-apply r None (edits.Delete ro) a b = tt
 limited-apply r None (edits.Metadata patch) a b = tt
 limited-apply r None (edits.Act ro action) a b = tt
 limited-apply r None (edits.Air ro air) a b = tt
+limited-apply r None (edits.Script script) a b = tt
 limited-apply r (Some o) (edits.Create body) a b = tt
 limited-apply r (Some o) (edits.Replace body) a b = (stories-all body.stories b.0, b.1)
 limited-apply r (Some o) (edits.Delete ro) a b = tt
 limited-apply r (Some o) (edits.Metadata patch) a b = a
 limited-apply r (Some o) (edits.Act ro action) a b =
-    limited-stories o.header (act shape (form_of action) o.stories) a.1 (all-act HasSmallItems IsSmallItem (λ s i. i) (λ s items i j. j) (form_of action) o.stories (small-brought action b.0) a.0)
+    limited-stories o.header (scripts_after (λ script. script) (edits.Act ro action) o.scripts) (act shape (form_of action) o.stories) a.1 (all-act HasSmallItems IsSmallItem (λ s i. i) (λ s items i j. j) (form_of action) o.stories (small-brought action b.0) a.0)
 limited-apply r (Some o) (edits.Air ro air) a b = a
+limited-apply r (Some o) (edits.Script script) a b = go (has_id script.story (story_ids o.stories))
+  where
+    go : (c : Bool) → WhereDone IsLimited (with_script o script c)
+    go true = a
+    go false = tt
 
 -- ---- journals
 

@@ -1,7 +1,7 @@
 -- Journals, orders and answers whose messages have an encoding.
 use Rattle.std.specs.Prelude.{List, Option, Some, None}
 use Rattle.std.specs.List.{AllByRecursion}
-use Rattle.mos_edits.specs.Orders.{Order}
+use Rattle.mos_edits.specs.Orders.{Order, bare}
 use Rattle.mos_edits.specs.declared.edit.Edit.{Edit}
 use Rattle.mos_edits.specs.Entries.{Entry}
 use Rattle.mos_machines.specs.Messages.{Packet}
@@ -19,10 +19,10 @@ IsSoundEdit e = IsSound (edit_message e)
 abbrev pub HasSoundEdits : List Entry → Type 0
 HasSoundEdits journal = AllByRecursion (λ e. IsSoundEdit e.edit) journal
 
--- an order that is there is sound
+-- an order that is there is sound, but for its scripts
 abbrev pub IsSoundOrder : Option Order → Type 0
 IsSoundOrder None = Unit {0}
-IsSoundOrder (Some o) = IsSoundBody o
+IsSoundOrder (Some o) = IsSoundBody (bare o)
 
 -- the message that a machine wrote is sound
 abbrev pub IsSoundPacket : Packet → Type 0

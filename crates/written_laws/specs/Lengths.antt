@@ -1,12 +1,12 @@
 -- Edits and envelopes with short IDs, and orders that a message can hold.
 use Rattle.std.specs.Prelude.{ℕ, ◌≤◌, length, Option, Some, None}
 use Rattle.mos_fields.specs.Characters.{Text}
-use Rattle.mos_edits.specs.Orders.{Order, edit_ro}
+use Rattle.mos_edits.specs.Orders.{Order, bare, edit_ro}
 use Rattle.mos_edits.specs.declared.edit.Edit.{Edit}
 use Rattle.mos_edits.specs.Entries.{Entry}
 use Rattle.mos_values.specs.declared.action.Action.{Action}
 use Rattle.mos_values.specs.declared.action.Action.TheVariants.{InsertStories, ReplaceStory, InsertItems, ReplaceItem, MoveStories, MoveItems, DeleteStories, DeleteItems, SwapStories, SwapItems}
-use Rattle.mos_edits.specs.declared.edit.Edit.TheVariants.{Create, Replace, Delete, Metadata, Act, Air}
+use Rattle.mos_edits.specs.declared.edit.Edit.TheVariants.{Create, Replace, Delete, Metadata, Act, Air, Script}
 use Rattle.mos_values.specs.declared.message.Envelope.{Envelope}
 use Rattle.mos_values.specs.MessageViews.{envelope_events}
 use Rattle.mos_values.specs.Units.{units_in}
@@ -41,7 +41,7 @@ HasShortTarget (DeleteItems story sources) = IsShort story
 HasShortTarget (SwapStories first second) = IsShort first × IsShort second
 HasShortTarget (SwapItems story first second) = IsShort story × IsShort first × IsShort second
 
--- the roID of an edit that brings no order, and the target of its action
+-- the roID of an edit that brings no order and no script, and the target of its action
 abbrev pub HasShortIds : Edit → Type 0
 HasShortIds (Create body) = Unit {0}
 HasShortIds (Replace body) = Unit {0}
@@ -49,6 +49,7 @@ HasShortIds (Delete ro) = IsShort ro
 HasShortIds (Metadata patch) = IsShort patch.ro
 HasShortIds (Act ro action) = IsShort ro × HasShortTarget action
 HasShortIds (Air ro air) = IsShort ro
+HasShortIds (Script script) = Unit {0}
 
 -- the numbers of samples that an edit brings fit 32 bits
 abbrev pub IsSmallAction : Action → Type 0
@@ -71,7 +72,7 @@ KeepsFieldLimits e = IsSmallEdit e.edit × HasShortIds e.edit × IsShort e.ro ×
 -- an order that is there has numbers of samples that fit 32 bits
 abbrev pub IsSmallIfThere : Option Order → Type 0
 IsSmallIfThere None = Unit {0}
-IsSmallIfThere (Some o) = IsSmallOrder o
+IsSmallIfThere (Some o) = IsSmallOrder (bare o)
 
 -- the canonical encoding of the envelope isn't too long
 abbrev pub IsNotTooLong : Envelope → Type 0

@@ -6,7 +6,7 @@
 ghost use Rattle.std.specs.Prelude.{◌≡◌, ℕ, List, [], ◌∷◌, ◌++◌, Bool, Option, Some, None};
 ghost use Rattle.std.specs.List.{AllByRecursion};
 ghost use Rattle.mos_fields.specs.Characters.{Text};
-ghost use Rattle.mos_edits.specs.Orders.{Order};
+ghost use Rattle.mos_edits.specs.Orders.{Order, bare};
 ghost use Rattle.mos_edits.specs.declared.edit.Edit.{Edit};
 ghost use Rattle.mos_edits.specs.Entries.{Entry, order_after, order_now, headers, acceptance, IsAccepted};
 ghost use Rattle.mos_machines.specs.Steps.{ServerState, ServerEvent, server_step, DeviceEvent, device_step};
@@ -55,7 +55,7 @@ pub fn worlds_send_sound_messages()
 /// every value in memory.
 pub fn accepted_edits_fit_messages()
     ensures edit { (journal : List Entry) (e : Entry) (v : Envelope) → IsAccepted [] journal → acceptance journal e ≡ None → IsSmallIfThere (order_now journal e.ro) → IsSmallIfThere (order_now (journal ++ e ∷ []) e.ro) → v.message ≡ edit_message e.edit → HasShortNames v → HasShortIds e.edit → IsNotTooLong v }
-    ensures order { (journal : List Entry) (r : Text) (o : Order) (v : Envelope) → IsAccepted [] journal → order_now journal r ≡ Some o → IsSmallOrder o → v.message ≡ RoList o → HasShortNames v → IsNotTooLong v }
+    ensures order { (journal : List Entry) (r : Text) (o : Order) (v : Envelope) → IsAccepted [] journal → order_now journal r ≡ Some o → IsSmallOrder (bare o) → v.message ≡ RoList (bare o) → HasShortNames v → IsNotTooLong v }
     ensures orders { (journal : List Entry) (v : Envelope) → IsAccepted [] journal → v.message ≡ RoListAll (headers journal) → HasShortNames v → IsNotTooLong v }
 {}
 
