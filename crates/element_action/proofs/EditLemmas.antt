@@ -4,16 +4,19 @@ use Rattle.mos_edits.specs.Texts.{Text}
 use Rattle.mos_edits.specs.KeyedLists.ActFault.{Missing}
 use Rattle.mos_edits.specs.KeyedLists.Applied.{Done, Fault}
 use Rattle.mos_edits.specs.Actions.{act}
-use Rattle.mos_edits.specs.Orders.{Order, HeaderPatch, shape, form_of, patched, with_stories, apply}
+use Rattle.mos_edits.specs.Orders.{Order, OrderBody, StorySend, HeaderPatch, order_of, taken_out, with_script, shape, form_of, patched, with_stories, apply}
 use Rattle.mos_values.specs.declared.action.Action as values
 use Rattle.mos_edits.specs.declared.edit.Edit.TheVariants as edit
 use Rattle.mos_fields.specs.declared.air.Air.{Air}
+use Rattle.mos_edits.specs.Texts.{has_id}
+use Rattle.mos_values.specs.Distinct.{story_ids}
+use Rattle.order_table.specs.Rows.{without_rows}
 
-pub replace_none : (r : Text) (body : Order) → apply r None (edit.Replace body) ≡ Fault (Missing r)
+pub replace_none : (r : Text) (body : OrderBody) → apply r None (edit.Replace body) ≡ Fault (Missing r)
 unfolding apply
 replace_none r body = refl
 
-pub replace_there : (r : Text) (o body : Order) → apply r (Some o) (edit.Replace body) ≡ Done (Some body)
+pub replace_there : (r : Text) (o : Order) (body : OrderBody) → apply r (Some o) (edit.Replace body) ≡ Done (Some (order_of body))
 unfolding apply
 replace_there r o body = refl
 
@@ -37,7 +40,7 @@ pub act_none : (r q : Text) (a : values.Action) → apply r None (edit.Act q a) 
 unfolding apply
 act_none r q a = refl
 
-pub act_there : (r q : Text) (o : Order) (a : values.Action) → apply r (Some o) (edit.Act q a) ≡ with_stories o.header (act shape (form_of a) o.stories)
+pub act_there : (r q : Text) (o : Order) (a : values.Action) → apply r (Some o) (edit.Act q a) ≡ with_stories o.header (without_rows (taken_out (form_of a)) o.scripts) (act shape (form_of a) o.stories)
 unfolding apply
 act_there r q o a = refl
 
@@ -48,3 +51,11 @@ air_none r q a = refl
 pub air_there : (r q : Text) (o : Order) (a : Air) → apply r (Some o) (edit.Air q a) ≡ Done (Some o)
 unfolding apply
 air_there r q o a = refl
+
+pub script_none : (r : Text) (s : StorySend) → apply r None (edit.Script s) ≡ Fault (Missing r)
+unfolding apply
+script_none r s = refl
+
+pub script_there : (r : Text) (o : Order) (s : StorySend) → apply r (Some o) (edit.Script s) ≡ with_script o s (has_id s.story (story_ids o.stories))
+unfolding apply
+script_there r o s = refl

@@ -5,7 +5,7 @@ use Rattle.mos_edits.specs.Texts.{Text}
 use Rattle.mos_edits.specs.KeyedLists.{ActFault as EditFault, Applied, ListAction, first_of, lacking, done_unless, list_fault, list_result}
 use Rattle.mos_edits.specs.Actions.{act}
 use Rattle.mos_edits.specs.Actions.Action.{OnItems}
-use Rattle.mos_edits.specs.Orders.{Item, Story, Order, Header, shape, with_stories}
+use Rattle.mos_edits.specs.Orders.{Item, Story, Order, Header, StorySend, shape, with_stories}
 use Rattle.mos_values.specs.Distinct.{story_ids, item_ids}
 use Rattle.element_action.specs.Levels.{edit_story}
 use Rattle.mos_edits.specs.KeyedLists.Applied.{Done, Fault}
@@ -44,16 +44,16 @@ pub item_done : (story : Text) (action : ListAction Item) (ss ys : List Story) �
 item_done story action ss ys h e = act_items story action ss ∙ ap (λ p. done_unless p (edit_story story (list_result shape.item_id action) ss)) h ∙ ap (λ l. Done l) (sym e)
 
 -- an action of an order that is there
-pub cause_of_order : (takes : Bool) (h : Header) (d : Applied (List Story)) (f : ActFault) → IsCause takes d f → IsCause takes (with_stories h d) f
-cause_of_order takes h d (Missing id) c = ap (λ p. with_stories h p) c
-cause_of_order takes h d (AlreadyThere id) c = ap (λ p. with_stories h p) c
-cause_of_order true h d NoMemory c = tt
-cause_of_order false h (Done ss) NoMemory c = absurd c
-cause_of_order false h (Fault f) NoMemory c = tt
+pub cause_of_order : (takes : Bool) (h : Header) (rows : List (Text × StorySend)) (d : Applied (List Story)) (f : ActFault) → IsCause takes d f → IsCause takes (with_stories h rows d) f
+cause_of_order takes h rows d (Missing id) c = ap (λ p. with_stories h rows p) c
+cause_of_order takes h rows d (AlreadyThere id) c = ap (λ p. with_stories h rows p) c
+cause_of_order true h rows d NoMemory c = tt
+cause_of_order false h rows (Done ss) NoMemory c = absurd c
+cause_of_order false h rows (Fault f) NoMemory c = tt
 
-pub applied_there : (takes : Bool) (d : Applied (Option Order)) (e : Applied (List Story)) (o : Option Order) (before after : Order) (r : Result (Unit {0}) ActFault)
-    → d ≡ with_stories before.header e → o ≡ Some before → OnOk r (with_stories before.header e ≡ Done (Some after)) → IfErr r (λ f. IsCause takes e f) → OnErr r (after ≡ before)
+pub applied_there : (takes : Bool) (d : Applied (Option Order)) (rows : List (Text × StorySend)) (e : Applied (List Story)) (o : Option Order) (before after : Order) (r : Result (Unit {0}) ActFault)
+    → d ≡ with_stories before.header rows e → o ≡ Some before → OnOk r (with_stories before.header rows e ≡ Done (Some after)) → IfErr r (λ f. IsCause takes e f) → OnErr r (after ≡ before)
     → IsApplied takes d o (Some after) r
-applied_there takes d e o before after (Ok x) is there ok cause err = is ∙ ok
-applied_there takes d e o before after (Err f) is there ok cause err =
-    (subst (λ (p : Applied (Option Order)). IsCause takes p f) (sym is) (cause_of_order takes before.header e f cause), ap (λ (p : Order). Some p) err ∙ sym there)
+applied_there takes d rows e o before after (Ok x) is there ok cause err = is ∙ ok
+applied_there takes d rows e o before after (Err f) is there ok cause err =
+    (subst (λ (p : Applied (Option Order)). IsCause takes p f) (sym is) (cause_of_order takes before.header rows e f cause), ap (λ (p : Order). Some p) err ∙ sym there)

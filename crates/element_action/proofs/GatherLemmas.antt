@@ -1,5 +1,5 @@
 -- Elements that are put together before a place.
-use Rattle.std.proofs.Common.{◌≡◌, ℕ, zero, suc, ◌+◌, ◌-◌, ◌<◌, ◌≤◌, List, [], ◌∷◌, ◌++◌, length, slice_get, get_or, remove, take, drop, map, Bool, true, false, not, ◌&&◌, ◌||◌, Option, Some, None, arith, refl, if◌then◌else◌, sym, ap, ◌∙◌, subst, append_assoc, length-append}
+use Rattle.std.proofs.Common.{◌≡◌, ℕ, zero, suc, ◌+◌, ◌-◌, ◌<◌, ◌≤◌, List, [], ◌∷◌, ◌++◌, length, slice_get, get_or, take, drop, map, Bool, true, false, not, ◌&&◌, ◌||◌, Option, Some, None, arith, refl, if◌then◌else◌, sym, ap, ◌∙◌, subst, append_assoc, length-append}
 use Rattle.std.proofs.lemmas.List.{map-append, append-nil, take-map, drop-map, take-append-drop, take_all, drop_all, length-map, drop_more}
 use Rattle.std.specs.List.Sorted.{IsPermutation}
 use Rattle.std.proofs.lemmas.List.Sorted.{IsPermutation-trans, IsPermutation-append_comm, IsPermutation-append_left}
@@ -91,7 +91,7 @@ module _ {X : Type 0} (key : X → Text) where
       go true r = r
       go false r = rw (s.0) (ap (λ l. x ∷ l) r)
 
-  gathered_end : (ss : List Text) (ps xs : List X) → without key ss (take (length xs) xs) ++ (ps ++ without key ss (drop (length xs) xs)) ≡ without key ss xs ++ ps
+  pub gathered_end : (ss : List Text) (ps xs : List X) → without key ss (take (length xs) xs) ++ (ps ++ without key ss (drop (length xs) xs)) ≡ without key ss xs ++ ps
   gathered_end ss ps xs =
       let le : length xs ≤ length xs = omega arith in
       (λ j. without key ss (take_all (length xs) xs le j) ++ (ps ++ without key ss (drop_all (length xs) xs le j))) ∙ ap (λ l. without key ss xs ++ l) (append-nil ps)
@@ -153,12 +153,6 @@ others_end gone there k list whole le h = sym (append-nil list) ∙ ap (λ l. li
 
 pub all_end : (there : List Text) (k : ℕ) (list whole : List Text) → length there ≤ k → list ++ drop k there ≡ whole → list ≡ whole
 all_end there k list whole le h = sym (append-nil list) ∙ ap (λ l. list ++ l) (sym (drop_all k there le)) ∙ h
-
--- one at the end less
-pub taken_less : {X : Type 0} (xs : List X) (n : ℕ) → n < length xs → remove (take (suc n) xs) n ≡ take n xs
-taken_less [] n lt = absurd (omega (arith, lt))
-taken_less (x ∷ xs) zero lt = refl
-taken_less (x ∷ xs) (suc n) lt = ap (λ l. x ∷ l) (taken_less xs n (omega (arith, lt)))
 
 -- without one that isn't among them, and with one that is
 pub other_kept : (id : Text) (gone : List Text) → has_id id gone ≡ false → without (λ x. x) gone (id ∷ []) ≡ id ∷ []

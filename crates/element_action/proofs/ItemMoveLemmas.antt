@@ -11,7 +11,8 @@ use Rattle.running_order.specs.Places.{place_of, items_at, edit_items, item_plac
 use Rattle.element_action.specs.Levels.{edit_story}
 use Rattle.element_action.specs.Targets.{brought, gathered, place_in, target_place_of}
 use Rattle.element_action.proofs.PlaceLemmas.{place_stands, stands_within}
-use Rattle.element_action.proofs.GatherLemmas.{fewer, moved_together, removed_together, taken_less}
+use Rattle.running_order.proofs.Lists.{taken_less}
+use Rattle.element_action.proofs.GatherLemmas.{fewer, moved_together, removed_together}
 use Rattle.element_action.proofs.ItemLemmas.{items_in, edit_found, items_found, edit_same}
 
 -- the stories and their identifiers stay

@@ -13,3 +13,4 @@ pub mod CheckLemmas
 mod ArrangeLemmas
 mod GatherLemmas
 mod ItemMoveLemmas
+mod ScriptLemmas

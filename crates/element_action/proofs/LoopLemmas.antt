@@ -7,7 +7,7 @@ use Rattle.element_action.specs.Targets.{moved, moved_all}
 use Rattle.element_action.proofs.PlaceLemmas.{without_none}
 use Rattle.element_action.proofs.MoveLemmas.{without_twice}
 
-next : (ids : List Text) (k : ℕ) (id : Text) → k < length ids → id ≡ get_or ids k id → drop k ids ≡ id ∷ drop (k + 1) ids
+pub next : (ids : List Text) (k : ℕ) (id : Text) → k < length ids → id ≡ get_or ids k id → drop k ids ≡ id ∷ drop (k + 1) ids
 next ids k id lt at = drop_more ids k id lt ∙ ap (λ u. u ∷ drop (k + 1) ids) (sym at)
 
 module _ {X : Type 0} (key : X → Text) where

@@ -1,12 +1,11 @@
 -- The place of an identifier, and what stands there.
-use Rattle.std.proofs.Common.{◌≡◌, ℕ, zero, suc, ◌+◌, ◌<◌, List, [], ◌∷◌, ◌++◌, length, slice_get, get_or, remove, Bool, true, false, ◌||◌, cond, Some, None, arith, refl, if◌then◌else◌, sym, ap, ◌∙◌, subst}
+use Rattle.std.proofs.Common.{◌≡◌, ℕ, zero, suc, ◌<◌, List, [], ◌∷◌, ◌++◌, length, slice_get, get_or, remove, Bool, true, false, ◌||◌, Some, None, arith, refl, if◌then◌else◌, sym, ap, ◌∙◌, subst}
 use Rattle.std.proofs.lemmas.List.Quantifiers.{position-Some}
-use Rattle.std.proofs.lemmas.Iterator.Adapters.{position_from-zero}
-use Rattle.std.specs.List.{position_from}
 use Rattle.std.specs.Option.{is_some}
 use Rattle.mos_edits.specs.Texts.{Text, same_id, has_id}
 use Rattle.mos_edits.specs.KeyedLists.{ids, find, without, put_for, put_at}
 use Rattle.running_order.specs.Places.{place_of, put_in, put_over}
+use Rattle.running_order.proofs.Scripts.{place-has}
 use Rattle.mos_edits.proofs.Identifiers.{same-true, same-self, same-sym}
 use Rattle.mos_edits.proofs.Distinct.{IsDistinct}
 
@@ -25,16 +24,8 @@ module _ {X : Type 0} (key : X → Text) where
   pub place_stands : (t : Text) (xs : List X) (n : ℕ) → place_of t (ids key xs) ≡ Some n → Stands t xs n
   place_stands t xs n h = let p = position-Some (same_id t) (ids key xs) n t h in stands_by t xs n t p.0 p.1 p.2
 
-  place_from : (t : Text) (xs : List X) (k : ℕ) → is_some (position_from (same_id t) k (ids key xs)) ≡ has_id t (ids key xs)
-  place_from t [] k = refl
-  place_from t (x ∷ xs) k = go (same_id t (key x)) (place_from t xs (k + 1))
-    where
-      go : (b : Bool) → is_some (position_from (same_id t) (k + 1) (ids key xs)) ≡ has_id t (ids key xs) → is_some (cond b (Some k) (position_from (same_id t) (k + 1) (ids key xs))) ≡ b || has_id t (ids key xs)
-      go true h = refl
-      go false h = h
-
   pub place_has : (t : Text) (xs : List X) → is_some (place_of t (ids key xs)) ≡ has_id t (ids key xs)
-  place_has t xs = ap (λ o. is_some o) (position_from-zero (same_id t) (ids key xs)) ∙ place_from t xs 0
+  place_has t xs = place-has t (ids key xs)
 
   pub place_none : (t : Text) (xs : List X) → place_of t (ids key xs) ≡ None → has_id t (ids key xs) ≡ false
   place_none t xs h = sym (place_has t xs) ∙ ap (λ o. is_some o) h
@@ -100,11 +91,3 @@ module _ {X : Type 0} (key : X → Text) where
       go : (b : Bool) → (has_id t (ids key xs) ≡ false → put_for key t new xs ≡ xs) → b || has_id t (ids key xs) ≡ false → (if b then new ++ xs else x ∷ put_for key t new xs) ≡ x ∷ xs
       go true r h = absurd (cc)
       go false r h = ap (λ l. x ∷ l) (r h)
-
--- whether an identifier has a place among identifiers
-pub place_among : (t : Text) (ts : List Text) → is_some (place_of t ts) ≡ has_id t ts
-place_among t ts = subst (λ (l : List Text). is_some (place_of t l) ≡ has_id t l) (same ts) (place_has (λ x. x) t ts)
-  where
-    same : (l : List Text) → ids (λ x. x) l ≡ l
-    same [] = refl
-    same (x ∷ l) = ap (λ r. x ∷ r) (same l)

@@ -1,5 +1,6 @@
 -- What a call answers whose definition gives a result or a fault.
-use Rattle.std.specs.Prelude.{◌≡◌, List, Bool, true, false, Option, Result, Ok, Err}
+use Rattle.std.specs.Prelude.{◌≡◌, List, [], ◌∷◌, Bool, true, false, Option, Result, Ok, Err}
+use Rattle.mos_edits.specs.Texts.{Text}
 use Rattle.mos_edits.specs.KeyedLists.{ActFault as EditFault, Applied, ListAction}
 use Rattle.mos_edits.specs.KeyedLists.ListAction.{Insert, Replace}
 use Rattle.mos_edits.specs.Actions.{Action}
@@ -8,6 +9,7 @@ use Rattle.mos_edits.specs.KeyedLists.Applied.{Done, Fault}
 use Rattle.mos_edits.specs.Orders.{Story, Order, form_of}
 use Rattle.mos_edits.specs.declared.edit.Edit.{Edit}
 use Rattle.mos_edits.specs.declared.edit.Edit.TheVariants as edit
+use Rattle.order_table.specs.Rows.{without_rows}
 use Rattle.element_action.specs.declared.first_fault.FirstFault.{FirstFault}
 use Rattle.element_action.specs.declared.first_fault.FirstFault.TheVariants as first
 use Rattle.element_action.specs.declared.fault.ActFault.{ActFault}
@@ -24,7 +26,7 @@ IsTold f (Missing id) = f ≡ EditFault.Missing id
 IsTold f (AlreadyThere id) = f ≡ EditFault.AlreadyThere id
 IsTold f NoMemory = Unit {0}
 
--- Which actions and edits take memory for their result: those that put something in, and a patch of the header.
+-- Which actions and edits take memory for their result: those that put something in, a script too, and a patch of the header.
 abbrev pub puts_in : {X : Type 0} → ListAction X → Bool
 puts_in (Insert target sources) = true
 puts_in (Replace target sources) = true
@@ -61,10 +63,16 @@ abbrev pub IsChecked : {X : Type 0} → Applied X → Result (Unit {0}) ActFault
 IsChecked defined (Ok x) = HasResult defined
 IsChecked defined (Err f) = IsCause true defined f
 
--- Ok with the result of the definition, and the header as it was; or the definition's fault, and the order as it was
-abbrev pub IsAnswer : Bool → Applied (List Story) → Order → Order → Result (Unit {0}) ActFault → Type 0
-IsAnswer takes defined before after (Ok x) = (defined ≡ Done after.stories) × (after.header ≡ before.header)
-IsAnswer takes defined before after (Err f) = IsCause takes defined f × (after ≡ before)
+-- the rows of scripts where the stories with these identifiers go
+abbrev pub rows_left : {X : Type 0} → List Text → List (Text × X) → List (Text × X)
+rows_left [] rows = rows
+rows_left (id ∷ ids) rows = without_rows (id ∷ ids) rows
+
+-- Ok with the result of the definition, the header as it was, and the scripts without those of the stories that go; or the
+-- definition's fault, and the order as it was
+abbrev pub IsAnswer : Bool → List Text → Applied (List Story) → Order → Order → Result (Unit {0}) ActFault → Type 0
+IsAnswer takes gone defined before after (Ok x) = (defined ≡ Done after.stories) × (after.header ≡ before.header) × (after.scripts ≡ rows_left gone before.scripts)
+IsAnswer takes gone defined before after (Err f) = IsCause takes defined f × (after ≡ before)
 
 -- the same of an order that is there or not
 abbrev pub IsApplied : Bool → Applied (Option Order) → Option Order → Option Order → Result (Unit {0}) ActFault → Type 0

@@ -8,10 +8,10 @@ ghost use Rattle.element_action.specs.Answers.{IsCause};
 
 use crate::checks::check;
 use crate::edits::apply;
-use crate::fault::ActFault;
+use crate::fault::{ActFault, missing_story};
 use mos_edits::Edit;
 use mos_fields::{Id, NoMemory};
-use mos_values::Action;
+use mos_values::{Action, StorySend};
 use running_order::Order;
 use std::alloc::Global;
 
@@ -22,12 +22,24 @@ fn check_act(alloc: Global, order: &Order, ro: &Id, action: &Action) -> Result<(
     check(alloc, order, action)
 }
 
+// The first fault of a roStorySend to an order that is there.
+fn check_script(order: &Order, script: &StorySend) -> Result<(), ActFault>
+    ensures { IfErr result (IsCause true (apply_of script.now.ro (Some order.now) (edit.Script script.now))) }
+{
+    if order.has_story(&script.story) {
+        Ok(())
+    } else {
+        Err(missing_story(&script.story))
+    }
+}
+
 // The first fault of an edit of an order that is there, where it can be told by looking at the stories alone.
 fn check_there(alloc: Global, order: &Order, edit: &Edit) -> Result<(), ActFault>
     ensures { IfErr result (IsCause true (apply_of (edit_ro edit.now) (Some order.now) edit.now)) }
 {
     match edit {
         Edit::Act { ro, action } => check_act(alloc, order, ro, action),
+        Edit::Script(script) => check_script(order, script.as_ref()),
         _ => Ok(()),
     }
 }
@@ -70,8 +82,8 @@ fn applied_to_copy(
 
 /// What an edit makes of an order that is there or not, which stays as it is.
 ///
-/// The faults are those of `apply`. The order is copied once, and not at all where a roElementAction is refused.
-/// `NoMemory` may come in place of each answer.
+/// The faults are those of `apply`. The order is copied once, and not at all where a roElementAction or a roStorySend is
+/// refused. `NoMemory` may come in place of each answer.
 pub fn applied(alloc: Global, order: Option<&Order>, edit: &Edit) -> Result<Option<Order>, ActFault>
     ensures ok { IfOk result (λ o. apply_of (edit_ro edit.now) (option_copied order.entry) edit.now ≡ Done o) }
     ensures fault { IfErr result (IsCause true (apply_of (edit_ro edit.now) (option_copied order.entry) edit.now)) }

@@ -1,15 +1,15 @@
 //! Edits of an order that is there or not.
-ghost use Rattle.std.specs.Prelude.{◌≡◌, true, false, OnOk, OnErr, IfErr};
+ghost use Rattle.std.specs.Prelude.{◌≡◌, Some, true, false, OnOk, OnErr, IfErr};
 ghost use Rattle.mos_edits.specs.KeyedLists.Applied.{Done};
 ghost use Rattle.mos_edits.specs.Orders.{apply as apply_of, edit_ro, form_of};
 ghost use Rattle.mos_edits.specs.declared.edit.Edit.TheVariants as edit;
 ghost use Rattle.element_action.specs.Answers.{IsApplied, IsCause, edit_takes_memory, takes_memory};
 
 use crate::actions::act;
-use crate::fault::{ActFault, missing_order, order_there};
+use crate::fault::{ActFault, missing_order, missing_story, order_there};
 use mos_edits::Edit;
 use mos_fields::{Air, Id};
-use mos_values::{Action, HeaderPatch, OrderBody};
+use mos_values::{Action, Boxed, HeaderPatch, OrderBody, StorySend};
 use running_order::Order;
 use std::alloc::Global;
 
@@ -90,6 +90,27 @@ fn release(order: &Option<Order>, ro: &Id, _air: Air) -> Result<(), ActFault>
     }
 }
 
+// roStorySend to an order that is there: the script of its story.
+fn put_script(order: &mut Order, script: &Boxed<StorySend>) -> Result<(), ActFault>
+    ensures { IsApplied true (apply_of script.now.ro (Some order.old) (edit.Script script.now)) (Some order.old) (Some order.new) result }
+{
+    if order.share_script(script)? {
+        Ok(())
+    } else {
+        Err(missing_story(&script.as_ref().story))
+    }
+}
+
+// roStorySend: the script is put on its story in place of a former one.
+fn send_script(order: &mut Option<Order>, script: &Boxed<StorySend>) -> Result<(), ActFault>
+    ensures { IsApplied true (apply_of script.now.ro order.old (edit.Script script.now)) order.old order.new result }
+{
+    match order {
+        None => Err(missing_order(&script.as_ref().ro)),
+        Some(there) => put_script(there, script),
+    }
+}
+
 // The edit, by its kind.
 fn apply_by_kind(alloc: Global, order: &mut Option<Order>, edit: &Edit) -> Result<(), ActFault>
     ensures { IsApplied (edit_takes_memory edit.now) (apply_of (edit_ro edit.now) order.old edit.now) order.old order.new result }
@@ -101,13 +122,15 @@ fn apply_by_kind(alloc: Global, order: &mut Option<Order>, edit: &Edit) -> Resul
         Edit::Metadata(patch) => patch_header(order, patch.as_ref()),
         Edit::Act { ro, action } => act_on(alloc, order, ro, action),
         Edit::Air { ro, air } => release(order, ro, *air),
+        Edit::Script(script) => send_script(order, script),
     }
 }
 
 /// Applies one edit to an order that is there or not.
 ///
 /// `AlreadyThere` of its roID comes exactly where roCreate meets an order, `Missing` of its roID exactly where another
-/// edit meets none; a roElementAction of an order that is there has the faults of `act`. roReadyToAir changes nothing.
+/// edit meets none; a roElementAction of an order that is there has the faults of `act`, and a roStorySend is `Missing` of
+/// its storyID exactly where the story isn't there. roReadyToAir changes nothing.
 /// `NoMemory` may come in place of a fault, for its ID, and in place of the result of an edit that puts something in or
 /// changes the header. After each error the order is as it was, or still not there.
 pub fn apply(alloc: Global, order: &mut Option<Order>, edit: &Edit) -> Result<(), ActFault>

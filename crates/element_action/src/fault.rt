@@ -75,6 +75,13 @@ pub fn missing_order(ro: &Id) -> ActFault
     }
 }
 
+/// The fault that a story isn't there.
+pub fn missing_story(story: &Id) -> ActFault
+    ensures { IsTold (Missing story.now) result }
+{
+    missing_order(story)
+}
+
 /// The fault that an order is there already.
 pub fn order_there(ro: &Id) -> ActFault
     ensures { IsTold (AlreadyThere ro.now) result }

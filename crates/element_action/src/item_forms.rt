@@ -1,5 +1,5 @@
 //! The five forms of action on the items of a story.
-ghost use Rattle.std.specs.Prelude.{true, false};
+ghost use Rattle.std.specs.Prelude.{[], true, false};
 ghost use Rattle.mos_edits.specs.KeyedLists.ListAction.{Insert, Replace, Move, Delete, Swap};
 ghost use Rattle.mos_edits.specs.Actions.{act as act_of};
 ghost use Rattle.mos_edits.specs.Actions.Action.{OnItems};
@@ -27,7 +27,7 @@ pub fn insert(
     target: &OptId,
     sources: &Items,
 ) -> Result<(), ActFault>
-    ensures { IsAnswer true (act_of shape (OnItems story.now (Insert target.now sources.now)) order.old.stories) order.old order.new result }
+    ensures { IsAnswer true [] (act_of shape (OnItems story.now (Insert target.now sources.now)) order.old.stories) order.old order.new result }
 {
     let ids = ids_of_items(alloc, sources)?;
     match find_insert_fault(alloc, order, Level::Items(story), target, ids.as_slice()) {
@@ -44,7 +44,7 @@ pub fn replace(
     target: &OptId,
     sources: &Items,
 ) -> Result<(), ActFault>
-    ensures { IsAnswer true (act_of shape (OnItems story.now (Replace target.now sources.now)) order.old.stories) order.old order.new result }
+    ensures { IsAnswer true [] (act_of shape (OnItems story.now (Replace target.now sources.now)) order.old.stories) order.old order.new result }
 {
     let ids = ids_of_items(alloc, sources)?;
     match find_replace_fault(alloc, order, Level::Items(story), target, ids.as_slice()) {
@@ -61,7 +61,7 @@ pub fn shift<'a>(
     target: &'a OptId,
     sources: &'a OptIds,
 ) -> Result<(), ActFault>
-    ensures { IsAnswer false (act_of shape (OnItems story.now (Move target.now sources.now)) order.old.stories) order.old order.new result }
+    ensures { IsAnswer false [] (act_of shape (OnItems story.now (Move target.now sources.now)) order.old.stories) order.old order.new result }
 {
     let ids = sources.as_slice();
     match find_move_fault(alloc, order, Level::Items(story), target, ids) {
@@ -80,7 +80,7 @@ pub fn delete<'a>(
     story: &'a OptId,
     sources: &'a OptIds,
 ) -> Result<(), ActFault>
-    ensures { IsAnswer false (act_of shape (OnItems story.now (Delete sources.now)) order.old.stories) order.old order.new result }
+    ensures { IsAnswer false [] (act_of shape (OnItems story.now (Delete sources.now)) order.old.stories) order.old order.new result }
 {
     let ids = sources.as_slice();
     match find_delete_fault(alloc, order, Level::Items(story), ids) {
@@ -99,7 +99,7 @@ pub fn swap<'a>(
     first: &'a OptId,
     second: &'a OptId,
 ) -> Result<(), ActFault>
-    ensures { IsAnswer false (act_of shape (OnItems story.now (Swap first.now second.now)) order.old.stories) order.old order.new result }
+    ensures { IsAnswer false [] (act_of shape (OnItems story.now (Swap first.now second.now)) order.old.stories) order.old order.new result }
 {
     match find_swap_fault(order, Level::Items(story), first, second) {
         Some(fault) => Err(told(fault)),

@@ -3,9 +3,10 @@
 //! Only what puts stories in takes memory.
 ghost use Rattle.std.specs.Prelude.{◌≡◌, [], ◌∷◌, ◌++◌, Some, None, OnOk, OnErr, true};
 ghost use Rattle.mos_edits.specs.Texts.{has_id};
-ghost use Rattle.mos_edits.specs.KeyedLists.{first_repeated, put_before, put_for, without, exchanged};
+ghost use Rattle.mos_edits.specs.KeyedLists.{first_missing, first_repeated, put_before, put_for, without, exchanged};
 ghost use Rattle.mos_edits.specs.Orders.{shape};
 ghost use Rattle.mos_values.specs.Distinct.{story_ids};
+ghost use Rattle.order_table.specs.Rows.{without_rows};
 ghost use Rattle.element_action.specs.Levels.{beside};
 ghost use Rattle.element_action.specs.Targets.{moved, moved_all};
 
@@ -26,16 +27,17 @@ pub fn put_stories(order: &mut Order, target: &OptId, stories: &Stories) -> Resu
     order.insert_stories(at, stories)
 }
 
-/// Puts copies of stories in place of the target. Where memory runs out, the order stays as it was.
+/// Puts copies of stories in place of the target, whose script goes with it. Where memory runs out, the order stays as it was.
 pub fn put_stories_for(order: &mut Order, target: &OptId, stories: &Stories) -> Result<(), NoMemory>
-    requires { first_repeated (beside (Some target.now) (story_ids order.old.stories)) [] (story_ids stories.now) ≡ None }
-    ensures ok { OnOk result (order.new ≡ record order.old { stories = put_for shape.story_id target.now stories.now order.old.stories }) }
+    requires there { has_id target.now (story_ids order.old.stories) ≡ true }
+    requires beside { first_repeated (beside (Some target.now) (story_ids order.old.stories)) [] (story_ids stories.now) ≡ None }
+    ensures ok { OnOk result (order.new ≡ record order.old { stories = put_for shape.story_id target.now stories.now order.old.stories; scripts = without_rows (target.now ∷ []) order.old.scripts }) }
     ensures err { OnErr result (order.new ≡ order.old) }
 {
     order.has_distinct_stories();
     match order.story_place(target) {
         Some(at) => order.replace_story(at, stories),
-        None => Ok(()),
+        None => unreachable!(),
     }
 }
 
@@ -62,20 +64,22 @@ pub fn move_stories(order: &mut Order, target: &OptId, ids: &[OptId])
     }
 }
 
-// Removes one story.
+// Removes one story, and its script.
 fn remove_story(order: &mut Order, id: &OptId)
-    ensures { order.new ≡ record order.old { stories = without shape.story_id (id.now ∷ []) order.old.stories } }
+    requires { has_id id.now (story_ids order.old.stories) ≡ true }
+    ensures { order.new ≡ record order.old { stories = without shape.story_id (id.now ∷ []) order.old.stories; scripts = without_rows (id.now ∷ []) order.old.scripts } }
 {
     order.has_distinct_stories();
     match order.story_place(id) {
         Some(at) => order.remove_story(at),
-        None => {}
+        None => unreachable!(),
     }
 }
 
-/// Removes stories.
+/// Removes stories, and their scripts.
 pub fn remove_stories(order: &mut Order, ids: &[OptId])
-    ensures { order.new ≡ record order.old { stories = without shape.story_id ids.now order.old.stories } }
+    requires { first_missing (story_ids order.old.stories) [] ids.now ≡ None }
+    ensures { order.new ≡ record order.old { stories = without shape.story_id ids.now order.old.stories; scripts = without_rows ids.now order.old.scripts } }
 {
     for id in ids {
         remove_story(order, id);

@@ -1,5 +1,5 @@
 //! The five forms of action on stories.
-ghost use Rattle.std.specs.Prelude.{true, false};
+ghost use Rattle.std.specs.Prelude.{[], ◌∷◌, true, false};
 ghost use Rattle.mos_edits.specs.KeyedLists.ListAction.{Insert, Replace, Move, Delete, Swap};
 ghost use Rattle.mos_edits.specs.Actions.{act as act_of};
 ghost use Rattle.mos_edits.specs.Actions.Action.{OnStories};
@@ -26,7 +26,7 @@ pub fn insert(
     target: &OptId,
     sources: &Stories,
 ) -> Result<(), ActFault>
-    ensures { IsAnswer true (act_of shape (OnStories (Insert target.now sources.now)) order.old.stories) order.old order.new result }
+    ensures { IsAnswer true [] (act_of shape (OnStories (Insert target.now sources.now)) order.old.stories) order.old order.new result }
 {
     let ids = ids_of_stories(alloc, sources)?;
     match find_insert_fault(alloc, order, Level::Stories, target, ids.as_slice()) {
@@ -42,7 +42,7 @@ pub fn replace(
     target: &OptId,
     sources: &Stories,
 ) -> Result<(), ActFault>
-    ensures { IsAnswer true (act_of shape (OnStories (Replace target.now sources.now)) order.old.stories) order.old order.new result }
+    ensures { IsAnswer true (target.now ∷ []) (act_of shape (OnStories (Replace target.now sources.now)) order.old.stories) order.old order.new result }
 {
     let ids = ids_of_stories(alloc, sources)?;
     match find_replace_fault(alloc, order, Level::Stories, target, ids.as_slice()) {
@@ -58,7 +58,7 @@ pub fn shift<'a>(
     target: &'a OptId,
     sources: &'a OptIds,
 ) -> Result<(), ActFault>
-    ensures { IsAnswer false (act_of shape (OnStories (Move target.now sources.now)) order.old.stories) order.old order.new result }
+    ensures { IsAnswer false [] (act_of shape (OnStories (Move target.now sources.now)) order.old.stories) order.old order.new result }
 {
     let ids = sources.as_slice();
     match find_move_fault(alloc, order, Level::Stories, target, ids) {
@@ -72,7 +72,7 @@ pub fn shift<'a>(
 
 /// Removes stories.
 pub fn delete(alloc: Global, order: &mut Order, sources: &OptIds) -> Result<(), ActFault>
-    ensures { IsAnswer false (act_of shape (OnStories (Delete sources.now)) order.old.stories) order.old order.new result }
+    ensures { IsAnswer false sources.now (act_of shape (OnStories (Delete sources.now)) order.old.stories) order.old order.new result }
 {
     let ids = sources.as_slice();
     match find_delete_fault(alloc, order, Level::Stories, ids) {
@@ -86,7 +86,7 @@ pub fn delete(alloc: Global, order: &mut Order, sources: &OptIds) -> Result<(), 
 
 /// Exchanges two stories.
 pub fn swap<'a>(order: &mut Order, first: &'a OptId, second: &'a OptId) -> Result<(), ActFault>
-    ensures { IsAnswer false (act_of shape (OnStories (Swap first.now second.now)) order.old.stories) order.old order.new result }
+    ensures { IsAnswer false [] (act_of shape (OnStories (Swap first.now second.now)) order.old.stories) order.old order.new result }
 {
     match find_swap_fault(order, Level::Stories, first, second) {
         Some(fault) => Err(told(fault)),

@@ -5,6 +5,7 @@ ghost use Rattle.std.specs.Prelude.{◌≡◌, ◌<◌, ◌≤◌, ◌+◌, ◌-
 ghost use Rattle.mos_edits.specs.KeyedLists.{lacking_place, first_missing, picked, put_before, without};
 ghost use Rattle.mos_edits.specs.Orders.{Story, shape};
 ghost use Rattle.mos_values.specs.Distinct.{story_ids};
+ghost use Rattle.order_table.specs.Rows.{without_rows};
 ghost use Rattle.element_action.specs.Targets.{brought, gathered};
 
 use crate::gathering::gather;
@@ -81,17 +82,6 @@ fn gather_stories(
     Ok(())
 }
 
-// Removes so many stories at the end.
-fn drop_last(order: &mut Order, count: usize)
-    requires { count ≤ length order.old.stories }
-    ensures { order.new ≡ record order.old { stories = take (length order.old.stories - count) order.old.stories } }
-{
-    let end = order.len();
-    for k in 0..count {
-        order.remove_story(end - 1 - k);
-    }
-}
-
 // Moves many stories before the target, or to the end, at once.
 fn move_at_once(
     alloc: Global,
@@ -124,23 +114,23 @@ pub fn move_all(alloc: Global, order: &mut Order, target: &OptId, sources: &[Opt
     }
 }
 
-// Removes many stories at once.
+// Removes many stories at once, and their scripts.
 fn remove_at_once(alloc: Global, order: &mut Order, sources: &[OptId]) -> Result<(), NoMemory>
     requires { first_missing (story_ids order.old.stories) [] sources.now ≡ None }
-    ensures ok { OnOk result (order.new ≡ record order.old { stories = without shape.story_id sources.now order.old.stories }) }
+    ensures ok { OnOk result (order.new ≡ record order.old { stories = without shape.story_id sources.now order.old.stories; scripts = without_rows sources.now order.old.scripts }) }
     ensures err { OnErr result (order.new ≡ order.old) }
 {
     let end = order.len();
-    let count = sources.len();
     gather_stories(alloc, order, end, sources)?;
-    drop_last(order, count);
+    let left = order.len() - sources.len();
+    order.truncate(left);
     Ok(())
 }
 
-/// Removes stories.
+/// Removes stories, and their scripts.
 pub fn remove_all(alloc: Global, order: &mut Order, sources: &[OptId])
     requires { first_missing (story_ids order.old.stories) [] sources.now ≡ None }
-    ensures { order.new ≡ record order.old { stories = without shape.story_id sources.now order.old.stories } }
+    ensures { order.new ≡ record order.old { stories = without shape.story_id sources.now order.old.stories; scripts = without_rows sources.now order.old.scripts } }
 {
     if are_few(sources) {
         remove_stories(order, sources);

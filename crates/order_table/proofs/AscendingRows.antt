@@ -1,12 +1,13 @@
 -- Ascending rows: where one stands, what a written row makes of them, and what stays.
-use Rattle.std.proofs.Common.{◌≡◌, ℕ, zero, suc, ◌+◌, ◌<◌, ◌≤◌, Bool, true, false, List, [], ◌∷◌, length, get_or, set, insert, slice_get, Option, Some, None, Result, Ok, Err, OnOk, OnErr, refl, sym, ap, ◌∙◌, subst, if◌then◌else◌, arith}
+use Rattle.std.proofs.Common.{◌≡◌, ℕ, zero, suc, ◌+◌, ◌<◌, ◌≤◌, Bool, true, false, List, [], ◌∷◌, length, get_or, set, insert, remove, slice_get, Option, Some, None, Result, Ok, Err, OnOk, OnErr, cond, refl, sym, ap, ◌∙◌, subst, if◌then◌else◌, arith}
+use Rattle.std.specs.List.{filter}
 use Rattle.mos_edits.specs.Texts.{Text, same_id}
 use Rattle.mos_edits.proofs.Identifiers.{same-true, same-sym}
 use Rattle.mos_edits.specs.Entries.{is_before, insert_id}
-use Rattle.mos_machines.specs.Tables.{put_row, row_ids, map_rows}
-use Rattle.mos_machines.proofs.RowTables.{ids-put, ids-map}
+use Rattle.mos_edits.specs.Rows.{put_row, row_ids, map_rows}
+pub use Rattle.mos_edits.proofs.Rows.{put-ascending}
 use Rattle.std.proofs.lemmas.Option.{slice_get_within, get_or_from_slice_get}
-use Rattle.order_table.specs.Rows.{IsBeforeAll, IsAscending, find_row, count_before, is_row_of, IsThere, IsMissing, put_rows}
+use Rattle.order_table.specs.Rows.{IsBeforeAll, IsAscending, find_row, count_before, is_row_of, IsThere, IsMissing, put_rows, without_rows}
 use Rattle.order_table.proofs.Order.{before-self, before-trans, before-differs, behind}
 
 pub before-all : (r x : Text) (xs : List Text) → is_before r x ≡ true → IsBeforeAll x xs → IsBeforeAll r xs
@@ -124,6 +125,37 @@ module _ {X : Type 0} where
       by true f g i = above f (i g) (same_id r y.0) (is_before r y.0) refl refl
       by false f g i = let k : y ≡ x = cc in here (subst (λ (z : Text × X). same_id r z.0 ≡ true) (sym k) s) (sym k) (same_id r y.0) refl
 
+  -- a roID that is in no row takes none out
+  pub without-none : (r : Text) (rows : List (Text × X)) → find_row r rows ≡ None → without_rows (r ∷ []) rows ≡ rows
+  without-none r [] e = refl
+  without-none r (x ∷ xs) e = by (same_id r x.0) (same-sym x.0 r) e (without-none r xs)
+    where
+      by : (b : Bool) → same_id x.0 r ≡ b → (if b then Some x.1 else find_row r xs) ≡ None → (find_row r xs ≡ None → without_rows (r ∷ []) xs ≡ xs) → without_rows (r ∷ []) (x ∷ xs) ≡ x ∷ xs
+      by true s e i = absurd (cc)
+      by false s e i = rw s (ap (λ (ys : List (Text × X)). x ∷ ys) (i e))
+
+  -- a row that is there is taken out at its place
+  pub without-there : (r : Text) (rows : List (Text × X)) (x : Text × X) → IsAscending (row_ids rows) → slice_get rows (count_before r (row_ids rows)) ≡ Some x → same_id r x.0 ≡ true → without_rows (r ∷ []) rows ≡ remove rows (count_before r (row_ids rows))
+  without-there r [] x h e s = absurd (cc)
+  without-there r (y ∷ ys) x h e s = by (is_before y.0 r) refl e (λ g. without-there r ys x h.1 g s)
+    where
+      above : is_before y.0 r ≡ true → without_rows (r ∷ []) ys ≡ remove ys (count_before r (row_ids ys)) → without_rows (r ∷ []) (y ∷ ys) ≡ y ∷ remove ys (count_before r (row_ids ys))
+      above f i =
+          let n : same_id y.0 r ≡ false = same-sym y.0 r ∙ before-differs y.0 r f in
+          rw n (ap (λ (zs : List (Text × X)). y ∷ zs) i)
+
+      here : same_id r y.0 ≡ true → without_rows (r ∷ []) (y ∷ ys) ≡ ys
+      here f =
+          let t : same_id y.0 r ≡ true = same-sym y.0 r ∙ f in
+          let b : IsBeforeAll r (row_ids ys) = subst (λ (z : Text). IsBeforeAll z (row_ids ys)) (sym (same-true r y.0 f)) h.0 in
+          rw t (without-none r ys (find-none r ys b))
+
+      by : (b : Bool) → is_before y.0 r ≡ b → slice_get (y ∷ ys) (if b then suc (count_before r (row_ids ys)) else zero) ≡ Some x
+          → (slice_get ys (count_before r (row_ids ys)) ≡ Some x → without_rows (r ∷ []) ys ≡ remove ys (count_before r (row_ids ys)))
+          → without_rows (r ∷ []) (y ∷ ys) ≡ remove (y ∷ ys) (if b then suc (count_before r (row_ids ys)) else zero)
+      by true f g i = above f (i g)
+      by false f g i = let k : y ≡ x = cc in here (subst (λ (z : Text × X). same_id r z.0 ≡ true) (sym k) s)
+
 -- what the row at the place of a roID tells
 module _ {X : Type 0} (r : Text) (rows : List (Text × X)) (h : IsAscending (row_ids rows)) where
   there-by : (o : Option (Text × X)) → slice_get rows (count_before r (row_ids rows)) ≡ o → is_row_of r o ≡ true → IsThere r rows (count_before r (row_ids rows))
@@ -135,6 +167,7 @@ module _ {X : Type 0} (r : Text) (rows : List (Text × X)) (h : IsAscending (row
         within = slice_get_within rows (count_before r (row_ids rows)) x e;
         found = λ d. found ∙ ap (λ (z : Text × X). Some z.1) (sym (is d));
         written = λ d v. put-there r v rows x h e t ∙ ap (λ (z : Text × X). set rows (count_before r (row_ids rows)) (z.0, v)) (sym (is d));
+        removed = without-there r rows x h e t;
       }
 
   pub there : is_row_of r (slice_get rows (count_before r (row_ids rows))) ≡ true → IsThere r rows (count_before r (row_ids rows))
@@ -151,6 +184,7 @@ module _ {X : Type 0} (r : Text) (rows : List (Text × X)) (h : IsAscending (row
         within = count-within r rows;
         missing = none;
         written = λ v. put-new r v rows h none;
+        removed = without-none r rows none;
       }
 
 -- a change of every row, one after the other
@@ -203,12 +237,31 @@ insert-ascending r (x ∷ xs) h = by (same_id r x) refl (is_before r x) refl (in
     by false s true e i = ((e, before-all r x xs e h.0), h)
     by false s false e i = (insert-before x r xs h.0 (further s e), i)
 
--- roIDs still ascend after a row was written, and after a change of every row
-pub put-ascending : {X : Type 0} (r : Text) (v : X) (rows : List (Text × X)) → IsAscending (row_ids rows) → IsAscending (row_ids (put_row r v rows))
-put-ascending r v rows h = subst IsAscending (sym (ids-put rows r v)) (insert-ascending r (row_ids rows) h)
+ids-map : {X Y : Type 0} (f : Text → X → Y) (rows : List (Text × X)) → row_ids (map_rows f rows) ≡ row_ids rows
+ids-map f [] = refl
+ids-map f (x ∷ xs) = ap (λ (zs : List Text). x.0 ∷ zs) (ids-map f xs)
 
+-- roIDs still ascend after a change of every row
 pub map-ascending : {X : Type 0} (f : Text → X → X) (rows : List (Text × X)) → IsAscending (row_ids rows) → IsAscending (row_ids (map_rows f rows))
 map-ascending f rows h = subst IsAscending (sym (ids-map f rows)) h
+
+-- rows of which some are left out
+module _ {X : Type 0} (keeps : Text → Bool) where
+  filter-before : (x : Text) (rows : List (Text × X)) → IsBeforeAll x (row_ids rows) → IsBeforeAll x (row_ids (filter (λ row. keeps row.0) rows))
+  filter-before x [] h = tt
+  filter-before x (y ∷ ys) h = by (keeps y.0) (filter-before x ys h.1)
+    where
+      by : (c : Bool) → IsBeforeAll x (row_ids (filter (λ row. keeps row.0) ys)) → IsBeforeAll x (row_ids (cond c (y ∷ filter (λ row. keeps row.0) ys) (filter (λ row. keeps row.0) ys)))
+      by true i = (h.0, i)
+      by false i = i
+
+  pub filter-ascending : (rows : List (Text × X)) → IsAscending (row_ids rows) → IsAscending (row_ids (filter (λ row. keeps row.0) rows))
+  filter-ascending [] h = tt
+  filter-ascending (x ∷ xs) h = by (keeps x.0) (filter-ascending xs h.1)
+    where
+      by : (c : Bool) → IsAscending (row_ids (filter (λ row. keeps row.0) xs)) → IsAscending (row_ids (cond c (x ∷ filter (λ row. keeps row.0) xs) (filter (λ row. keeps row.0) xs)))
+      by true i = (filter-before x.0 xs h.0, i)
+      by false i = i
 
 -- a row was written, or there was no memory
 pub ascending-after : {X A B : Type 0} (r : Text) (v : X) (old new : List (Text × X)) (o : Result A B) → OnOk o (new ≡ put_row r v old) → OnErr o (new ≡ old) → IsAscending (row_ids old) → IsAscending (row_ids new)

@@ -3,7 +3,7 @@ use Rattle.std.proofs.Common.{◌≡◌, Bool, true, false, List, [], ◌∷◌,
 use Rattle.mos_edits.specs.Texts.{Text, same_id}
 use Rattle.mos_edits.proofs.Identifiers.{same-true, same-self}
 use Rattle.mos_edits.specs.Entries.{is_before, insert_id}
-use Rattle.mos_machines.specs.Tables.{look, put_row, row_ids, map_rows}
+use Rattle.mos_edits.specs.Rows.{look, put_row, row_ids, map_rows}
 use Rattle.order_table.specs.Rows.{IsBeforeAll, IsAscending, find_row, value_or}
 use Rattle.order_table.proofs.AscendingRows.{before-all, find-none}
 

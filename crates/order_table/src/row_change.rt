@@ -1,6 +1,6 @@
 //! Changes of every row.
 ghost use Rattle.std.specs.Prelude.{◌≡◌};
-ghost use Rattle.mos_machines.specs.Tables.{map_rows};
+ghost use Rattle.mos_edits.specs.Rows.{map_rows};
 
 use mos_fields::Id;
 

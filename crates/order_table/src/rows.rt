@@ -1,26 +1,28 @@
-//! Ascending rows: looking one up, and writing one.
-ghost use Rattle.std.specs.Prelude.{◌≡◌, ◌+◌, ◌<◌, ◌≤◌, slice_get, OnOk, OnErr, Some, IsSome, MatchResult, vec_len};
+//! Ascending rows: looking one up, writing one, and taking one out.
+ghost use Rattle.std.specs.Prelude.{◌≡◌, ◌+◌, ◌<◌, ◌≤◌, [], ◌∷◌, ◌++◌, slice_get, IfOk, OnOk, OnErr, Some, IsSome, MatchResult, vec_len};
 ghost use Rattle.std.specs.Option.{option_copied};
 ghost use Rattle.std.specs.Vec.{vec_capacity};
-ghost use Rattle.mos_machines.specs.Tables.{row_ids, put_row};
-ghost use Rattle.order_table.specs.Rows.{IsAscending, find_row, is_row_of, IsThere, IsMissing, put_rows};
+ghost use Rattle.mos_edits.specs.Rows.{row_ids, put_row};
+ghost use Rattle.order_table.specs.Rows.{IsAscending, find_row, is_row_of, IsThere, IsMissing, put_rows, without_rows};
 
-use crate::place::{is_same, place_of};
-use mos_fields::{Id, NoMemory};
+use crate::place::{is_text_of, place_of};
+use mos_fields::{Id, NoMemory, Text, let_go};
+use mos_values::TryClone;
+use std::alloc::Global;
 use std::mem::swap;
 
 // Whether the row at a place has this roID.
-fn is_there<T>(rows: &[(Id, T)], place: usize, ro: &Id) -> bool
+fn is_there<T>(rows: &[(Id, T)], place: usize, ro: &Text) -> bool
     ensures { result ≡ is_row_of ro.now (slice_get rows.now place) }
 {
     match rows.get(place) {
-        Some(row) => is_same(ro, &row.0),
+        Some(row) => is_text_of(ro, &row.0),
         None => false,
     }
 }
 
 // The place of the row of this roID, or else the place that it would have.
-pub fn search<T>(rows: &[(Id, T)], ro: &Id) -> Result<usize, usize>
+pub fn search<T>(rows: &[(Id, T)], ro: &Text) -> Result<usize, usize>
     requires { IsAscending (row_ids rows.now) }
     ensures { MatchResult result (IsThere ro.now rows.now) (IsMissing ro.now rows.now) }
 {
@@ -33,7 +35,7 @@ pub fn search<T>(rows: &[(Id, T)], ro: &Id) -> Result<usize, usize>
 }
 
 // The value in the row of this roID.
-pub fn find_in<'a, T>(rows: &'a [(Id, T)], ro: &Id) -> Option<&'a T>
+pub fn find_in<'a, T>(rows: &'a [(Id, T)], ro: &Text) -> Option<&'a T>
     requires { IsAscending (row_ids rows.now) }
     ensures { option_copied result ≡ find_row ro.now rows.now }
 {
@@ -50,7 +52,7 @@ pub fn exchange_in<T>(rows: &mut [(Id, T)], ro: &Id, value: &mut T)
     ensures table { rows.new ≡ put_row ro.now value.old rows.old }
     ensures value { find_row ro.now rows.old ≡ Some value.new }
 {
-    if let Ok(place) = search(rows, ro) {
+    if let Ok(place) = search(rows, ro.text()) {
         swap(&mut rows[place].1, value);
     }
 }
@@ -61,11 +63,41 @@ pub fn put_in<T: Drop>(rows: &mut Vec<(Id, T)>, ro: &Id, value: T) -> Result<(),
     ensures ok { OnOk result (rows.new.items ≡ put_row ro.now value rows.old.items) }
     ensures err { OnErr result (rows.new.items ≡ rows.old.items) }
 {
-    match search(rows, ro) {
+    match search(rows, ro.text()) {
         Ok(place) => rows[place].1 = value,
         Err(place) => rows.insert(place, (ro.try_clone()?, value))?,
     }
     Ok(())
+}
+
+// Takes out the row of this roID, where there is one.
+pub fn remove_in<T: Drop>(rows: &mut Vec<(Id, T)>, ro: &Text)
+    requires { IsAscending (row_ids rows.old.items) }
+    ensures { rows.new.items ≡ without_rows (ro.now ∷ []) rows.old.items }
+{
+    match search(rows, ro) {
+        Ok(place) => let_go(rows.remove(place)),
+        Err(_) => {}
+    }
+}
+
+// A copy of a row at the end.
+fn push_copy<T: TryClone>(rows: &mut Vec<(Id, T)>, row: &(Id, T)) -> Result<(), NoMemory>
+    ensures { OnOk result (rows.new.items ≡ rows.old.items ++ row.now ∷ []) }
+{
+    rows.push((row.0.try_clone()?, row.1.try_clone()?))?;
+    Ok(())
+}
+
+// The same rows again.
+pub fn copies_of<T: TryClone>(alloc: Global, rows: &[(Id, T)]) -> Result<Vec<(Id, T)>, NoMemory>
+    ensures { IfOk result (λ v. v.items ≡ rows.now) }
+{
+    let mut copies = Vec::with_capacity(alloc, rows.len())?;
+    for row in rows {
+        push_copy(&mut copies, row)?;
+    }
+    Ok(copies)
 }
 
 // Puts a value into the row of this roID, where there is room for one more row.
@@ -76,7 +108,7 @@ fn put_within<T: Drop>(rows: &mut Vec<(Id, T)>, ro: Id, value: T)
     ensures len { vec_len rows.new ≤ vec_len rows.old + 1 }
     ensures capacity { vec_capacity rows.old ≤ vec_capacity rows.new }
 {
-    match search(rows, &ro) {
+    match search(rows, ro.text()) {
         Ok(place) => rows[place].1 = value,
         Err(place) => rows.insert(place, (ro, value)).unwrap(),
     }

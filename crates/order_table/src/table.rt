@@ -1,12 +1,15 @@
 //! A table by roID.
-ghost use Rattle.std.specs.Prelude.{◌≡◌, [], OnOk, OnErr, IsSome, Some};
+ghost use Rattle.std.specs.Prelude.{◌≡◌, [], ◌∷◌, IfOk, OnOk, OnErr, IsSome, Some};
+ghost use Rattle.std.specs.List.{filter};
 ghost use Rattle.std.specs.Option.{option_copied};
-ghost use Rattle.mos_machines.specs.Tables.{row_ids, put_row, map_rows};
-ghost use Rattle.order_table.specs.Rows.{IsAscending, find_row, put_rows};
+ghost use Rattle.mos_edits.specs.Rows.{row_ids, put_row, map_rows};
+ghost use Rattle.order_table.specs.Rows.{IsAscending, find_row, put_rows, without_rows};
 
 use crate::row_change::{RowChange, change_rows};
-use crate::rows::{exchange_in, find_in, put_all_in, put_in};
-use mos_fields::{Id, NoMemory};
+use crate::row_test::{RowTest, retain_in};
+use crate::rows::{copies_of, exchange_in, find_in, put_all_in, put_in, remove_in};
+use mos_fields::{Id, NoMemory, Text};
+use mos_values::TryClone;
 use std::alloc::Global;
 use std::marker::Model;
 
@@ -20,7 +23,7 @@ pub struct OrderTable<T> {
 
 impl<T> Model for OrderTable<T> {
     ghost use Rattle.std.specs.Prelude.{List, ℕ};
-    ghost use Rattle.mos_machines.specs.Tables.{row_ids};
+    ghost use Rattle.mos_edits.specs.Rows.{row_ids};
     ghost use Rattle.order_table.specs.Rows.{IsAscending};
 
     ghost Value = { List (List ℕ × T) };
@@ -63,6 +66,13 @@ impl<T> OrderTable<T> {
     pub fn find(&self, ro: &Id) -> Option<&T>
         ensures { option_copied result ≡ find_row ro.now self.now }
     {
+        find_in(&self.rows, ro.text())
+    }
+
+    /// The same by a text, which may be no roID. It takes no memory.
+    pub fn find_text(&self, ro: &Text) -> Option<&T>
+        ensures { option_copied result ≡ find_row ro.now self.now }
+    {
         find_in(&self.rows, ro)
     }
 
@@ -92,6 +102,28 @@ impl<T: Drop> OrderTable<T> {
     {
         put_in(&mut self.rows, ro, value)
     }
+
+    /// Takes out the row of this roID, where there is one. It takes no memory.
+    pub fn remove(&mut self, ro: &Id)
+        ensures { self.new ≡ without_rows (ro.now ∷ []) self.old }
+    {
+        self.remove_text(ro.text());
+    }
+
+    /// The same by a text, which may be no roID. It takes no memory.
+    pub fn remove_text(&mut self, ro: &Text)
+        ensures { self.new ≡ without_rows (ro.now ∷ []) self.old }
+    {
+        remove_in(&mut self.rows, ro);
+    }
+
+    /// Takes out each row that the test doesn't keep. The rows are gone over once. It takes no memory.
+    pub fn retain<C: RowTest>(&mut self, test: &C)
+        ensures { self.new ≡ filter (λ row. C.kept test.now row.0) self.old }
+    {
+        retain_in(&mut self.rows, test);
+    }
+
     /// Puts values into the rows of their roIDs, one after the other. Without memory for all of them the table stays as it
     /// was, and they are dropped.
     pub fn put_all(&mut self, new: Vec<(Id, T)>) -> Result<(), NoMemory>
@@ -99,5 +131,16 @@ impl<T: Drop> OrderTable<T> {
         ensures err { OnErr result (self.new ≡ self.old) }
     {
         put_all_in(&mut self.rows, new)
+    }
+}
+
+impl<T: TryClone> OrderTable<T> {
+    /// The same table again. The only error is that memory runs out.
+    pub fn try_clone(&self) -> Result<Self, NoMemory>
+        ensures { IfOk result (λ t. t ≡ self.now) }
+    {
+        Ok(OrderTable {
+            rows: copies_of(self.allocator(), &self.rows)?,
+        })
     }
 }

@@ -4,3 +4,4 @@ pub mod Ids
 pub mod Entries
 pub mod SizeLemmas
 mod Turns
+pub mod Scripts

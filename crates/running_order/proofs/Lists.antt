@@ -101,3 +101,9 @@ pub got : {X : Type 0} (xs : List X) (i : ℕ) (x : X) → slice_get xs i ≡ So
 got [] i x h = absurd (cc)
 got (y ∷ ys) zero x h = cc
 got (y ∷ ys) (suc i) x h = got ys i x h
+
+-- one item less at the end
+pub taken_less : {X : Type 0} (xs : List X) (n : ℕ) → n < length xs → remove (take (suc n) xs) n ≡ take n xs
+taken_less [] n lt = absurd (omega (arith, lt))
+taken_less (x ∷ xs) zero lt = refl
+taken_less (x ∷ xs) (suc n) lt = ap (λ l. x ∷ l) (taken_less xs n (omega (arith, lt)))

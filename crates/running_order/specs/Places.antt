@@ -28,6 +28,12 @@ items_at [] i = []
 items_at (s ∷ ss) zero = s.items
 items_at (s ∷ ss) (suc i) = items_at ss i
 
+-- the storyID of the story at a place, where one stands there
+abbrev pub ids_at : List Story → ℕ → List Text
+ids_at [] i = []
+ids_at (s ∷ ss) zero = s.id ∷ []
+ids_at (s ∷ ss) (suc i) = ids_at ss i
+
 -- the stories with that edit of the items of the story at a place
 abbrev pub edit_items : List Story → ℕ → (List Item → List Item) → List Story
 edit_items [] i edit = []

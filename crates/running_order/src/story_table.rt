@@ -1,7 +1,8 @@
 //! Stories in order, with their places by table.
-ghost use Rattle.std.specs.Prelude.{◌≡◌, ℕ, ◌<◌, ◌≤◌, ◌+◌, ◌++◌, [], ◌∷◌, length, take, drop, remove, swap, slice_get, IfOk, OnOk, OnErr, IfSome};
+ghost use Rattle.std.specs.Prelude.{◌≡◌, ℕ, ◌<◌, ◌≤◌, ◌+◌, ◌++◌, [], ◌∷◌, length, take, drop, remove, swap, slice_get, not, IfOk, OnOk, OnErr, IfSome};
 ghost use Rattle.std.specs.Option.{option_copied};
 ghost use Rattle.indexmap.specs.IndexMap.{index_map_len, move_index};
+ghost use Rattle.mos_edits.specs.Texts.{has_id};
 ghost use Rattle.mos_values.specs.Distinct.{AreDistinct, item_ids, story_ids};
 ghost use Rattle.mos_values.specs.Units.{capped, units_in};
 ghost use Rattle.mos_values.specs.Views.{stories_events};
@@ -91,6 +92,17 @@ impl StoryTable {
         ensures within { IfSome result (λ i. i < length self.now) }
     {
         self.table.get_index_of(id.units())
+    }
+
+    /// Whether none of the stories from a place on has this storyID. Takes no memory.
+    pub fn has_none_from(&self, left: usize, id: &Text) -> bool
+        ensures { result ≡ not (has_id id.now (story_ids (drop left self.now))) }
+    {
+        self.has_distinct_ids();
+        match self.place(id) {
+            Some(at) => at < left,
+            None => true,
+        }
     }
 
     /// The story at a place, with the table of its items.

@@ -1,7 +1,7 @@
 use Rattle.std.proofs.Common.{true, Some, refl, sym, ap, subst, ◌∙◌}
 use Rattle.mos_edits.specs.KeyedLists.ActFault.{AlreadyThere}
 use Rattle.mos_edits.specs.KeyedLists.Applied.{Done}
-use Rattle.mos_edits.specs.Orders.{Order, apply}
+use Rattle.mos_edits.specs.Orders.{Order, OrderBody, apply}
 use Rattle.mos_edits.proofs.Applying.{apply-create, apply-created}
 use Rattle.mos_edits.specs.declared.edit.Edit.TheVariants as edit
 use Rattle.element_action.specs.Answers.{IsTold}
@@ -14,7 +14,7 @@ returns-in-Some c =
     let ro = body.header.ro in (
       told_cause true (apply ro c.args.order.now (edit.Create body)) (AlreadyThere ro) c.order_there.result
           (ap (λ o. apply ro o (edit.Create body)) c.in-Some.is ∙ apply-created ro c.in-Some.field-0 body)
-          (subst (λ (b : Order). IsTold (AlreadyThere b.header.ro) c.order_there.result) c.body.view_is c.order_there.ensures),
+          (subst (λ (b : OrderBody). IsTold (AlreadyThere b.header.ro) c.order_there.result) c.body.view_is c.order_there.ensures),
       refl,
     )
 

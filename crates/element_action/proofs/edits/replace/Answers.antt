@@ -1,7 +1,7 @@
 use Rattle.std.proofs.Common.{true, Some, refl, sym, ap, subst, ◌∙◌}
 use Rattle.mos_edits.specs.KeyedLists.ActFault.{Missing}
 use Rattle.mos_edits.specs.KeyedLists.Applied.{Done}
-use Rattle.mos_edits.specs.Orders.{Order, apply}
+use Rattle.mos_edits.specs.Orders.{Order, OrderBody, apply}
 use Rattle.mos_edits.specs.declared.edit.Edit.TheVariants as edit
 use Rattle.element_action.specs.Answers.{IsTold}
 use Rattle.element_action.proofs.FormLemmas.{told_cause}
@@ -14,7 +14,7 @@ returns-in-None c =
     let ro = body.header.ro in (
       told_cause true (apply ro c.args.order.now (edit.Replace body)) (Missing ro) c.missing_order.result
           (ap (λ o. apply ro o (edit.Replace body)) c.in-None.is ∙ replace_none ro body)
-          (subst (λ (b : Order). IsTold (Missing b.header.ro) c.missing_order.result) c.body.view_is c.missing_order.ensures),
+          (subst (λ (b : OrderBody). IsTold (Missing b.header.ro) c.missing_order.result) c.body.view_is c.missing_order.ensures),
       refl,
     )
 

@@ -16,6 +16,7 @@ loop-id-preserved c =
     let id = c.id-item.result in
     record {
       header = ap (λ (o : Order). o.header) c.move_item.ensures ∙ c.loop-id.invariant.header;
+      scripts = ap (λ (o : Order). o.scripts) c.move_item.ensures ∙ c.loop-id.invariant.scripts;
       rest = ap (λ (o : Order). edit_story story (moved_all shape.item_id target (drop (k + 1) ids)) o.stories) c.move_item.ensures
           ∙ edit_twice story ss (moved shape.item_id target id) (moved_all shape.item_id target (drop (k + 1) ids))
           ∙ (λ j. edit_story story (λ items. moves_next shape.item_id target ids k id items c.loop-id-test.true c.id-item.is j) ss) ∙ c.loop-id.invariant.rest;
@@ -27,4 +28,4 @@ returns c =
     let ss = c.loop-id.order.stories in
     let done = (λ j. edit_story story (λ items. moves_end shape.item_id c.args.target.now c.args.ids.now c.loop-id.id-index items c.loop-id-test.false j) ss) ∙ edit_nothing story ss in
     let rest = sym done ∙ c.loop-id.invariant.rest in
-    λ j. record { header = c.loop-id.invariant.header j; stories = rest j }
+    λ j. record { header = c.loop-id.invariant.header j; stories = rest j; scripts = c.loop-id.invariant.scripts j }

@@ -37,4 +37,4 @@ returns-in-None c =
     let first = lacking (story_ids ss) story in
     let found = sym (c.find_delete_fault.ensures ∙ ap (λ l. first_of first (first_missing there [] l)) c.as_slice-ids.ensures) ∙ ap (λ o. option_map named o) c.in-None.is in
     let left = ap (λ (o : Order). o.stories) c.remove_all.ensures ∙ ap (λ l. edit_story story (without shape.item_id l) ss) c.as_slice-ids.ensures in
-    (item_done story (Delete c.args.sources.now) ss c.remove_all.new.order.stories found left, ap (λ (o : Order). o.header) c.remove_all.ensures)
+    (item_done story (Delete c.args.sources.now) ss c.remove_all.new.order.stories found left, ap (λ (o : Order). o.header) c.remove_all.ensures, ap (λ (o : Order). o.scripts) c.remove_all.ensures)

@@ -31,4 +31,5 @@ returns c =
     let found = sym (c.find_insert_fault.ensures ∙ ap (λ l. first_of first (first_of (lacking_target there t) (first_repeated there [] l))) ids) ∙ ap (λ o. option_map named o) c.in-None.is in (
       item_done story (Insert t c.args.sources.now) ss c.put_items.new.order.stories found (ap (λ (o : Order). o.stories) c.in_ok-put_items-in-None.ensures.ok),
       ap (λ (o : Order). o.header) c.in_ok-put_items-in-None.ensures.ok,
+      ap (λ (o : Order). o.scripts) c.in_ok-put_items-in-None.ensures.ok,
     )

@@ -32,4 +32,5 @@ returns c =
     let found = sym (c.find_replace_fault.ensures ∙ ap (λ l. first_of first (first_of (lacking there t) (first_repeated (beside (Some t) there) [] l))) ids) ∙ ap (λ o. option_map named o) c.in-None.is in (
       item_done story (Replace t c.args.sources.now) ss c.put_items_for.new.order.stories found (ap (λ (o : Order). o.stories) c.in_ok-put_items_for-in-None.ensures.ok),
       ap (λ (o : Order). o.header) c.in_ok-put_items_for-in-None.ensures.ok,
+      ap (λ (o : Order). o.scripts) c.in_ok-put_items_for-in-None.ensures.ok,
     )

@@ -53,4 +53,4 @@ returns-in-None c =
     sym (c.find_move_fault.ensures ∙ ap (λ l. first_of first (first_of (lacking_place there l t) (first_missing there [] l))) c.as_slice-ids.ensures) ∙ ap (λ o. option_map named o) c.in-None.is in
     let left = ap (λ (o : Order). o.stories) c.move_all.ensures
     ∙ ap (λ l. edit_story story (λ old. put_before shape.item_id t (picked shape.item_id l old) (without shape.item_id l old)) ss) c.as_slice-ids.ensures in
-    (item_done story (Move t ids) ss c.move_all.new.order.stories found left, ap (λ (o : Order). o.header) c.move_all.ensures)
+    (item_done story (Move t ids) ss c.move_all.new.order.stories found left, ap (λ (o : Order). o.header) c.move_all.ensures, ap (λ (o : Order). o.scripts) c.move_all.ensures)

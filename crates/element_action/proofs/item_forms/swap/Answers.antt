@@ -16,4 +16,5 @@ returns-in-None c =
     let found = sym c.find_swap_fault.ensures ∙ ap (λ o. option_map named o) c.in-None.is in (
       item_done c.args.story.now (Swap c.args.first.now c.args.second.now) c.args.order.now.stories c.swap_items.new.order.stories found (ap (λ (o : Order). o.stories) c.swap_items.ensures),
       ap (λ (o : Order). o.header) c.swap_items.ensures,
+      ap (λ (o : Order). o.scripts) c.swap_items.ensures,
     )

@@ -1,6 +1,6 @@
 use Rattle.std.proofs.Common.{◌≡◌, ◌+◌, ◌<◌, List, length, take, refl, sym, ap, subst, ◌∙◌, arith}
 use Rattle.std.specs.List.Sorted.{IsPermutation}
-use Rattle.mos_edits.specs.Orders.{Item, Order, Story, shape}
+use Rattle.mos_edits.specs.Orders.{Item, Order, shape}
 use Rattle.running_order.specs.Places.{items_at, edit_items}
 use Rattle.element_action.specs.Targets.{brought}
 use Rattle.element_action.proofs.ArrangeLemmas.{next, arranged, brought_long}
@@ -8,7 +8,7 @@ use Rattle.element_action.proofs.ItemMoveLemmas.{edited_at, edited_long, edited_
 use Rattle.element_action.proofs.item_moves.arrange.Goals as goal
 
 pub loop-k-init : goal.loop-k-init
-loop-k-init c = record { header = refl; is = sym (edited_none c.args.order.now.stories c.args.i); long = refl; rest = λ ys p q. (p, refl) }
+loop-k-init c = record { header = refl; scripts = refl; is = sym (edited_none c.args.order.now.stories c.args.i); long = refl; rest = λ ys p q. (p, refl) }
 
 pub item_count-count-requires : goal.item_count-count-requires
 item_count-count-requires c =
@@ -39,6 +39,7 @@ loop-k-preserved c =
     let at = ap (λ l. items_at l i) is ∙ edited_at ss i change within in
     record {
       header = ap (λ (o : Order). o.header) c.bring.ensures ∙ c.loop-k.invariant.header;
+      scripts = ap (λ (o : Order). o.scripts) c.bring.ensures ∙ c.loop-k.invariant.scripts;
       is = edited_next first ss c.bring.new.order.stories i change within c.loop-k.invariant.is is;
       long = ap length at ∙ brought_long shape.item_id k id (items_at ss i) ∙ c.loop-k.invariant.long;
       rest = λ ys p q.
@@ -55,4 +56,4 @@ returns c =
     let r = c.loop-k.invariant.rest ys p q in
     let e = arranged shape.item_id (items_at ss i) ys c.args.ids.now c.loop-k.k r.0 r.1 q c.loop-k-test.false in
     let is = c.loop-k.invariant.is ∙ (λ j. edit_items c.args.order.now.stories i (λ old. e j)) in
-    λ j. record { header = c.loop-k.invariant.header j; stories = is j }
+    λ j. record { header = c.loop-k.invariant.header j; stories = is j; scripts = c.loop-k.invariant.scripts j }

@@ -1,4 +1,4 @@
-use Rattle.std.proofs.Common.{◌≡◌, ◌+◌, ◌-◌, ◌<◌, ◌≤◌, suc, length, take, refl, sym, ap, ◌∙◌, arith}
+use Rattle.std.proofs.Common.{◌≡◌, ◌+◌, ◌-◌, ◌≤◌, suc, length, take, refl, ap, ◌∙◌, arith}
 use Rattle.mos_edits.specs.Orders.{Order}
 use Rattle.running_order.specs.Places.{items_at, edit_items}
 use Rattle.element_action.proofs.ItemMoveLemmas.{edited_long, edited_same, none_dropped, dropped_next, dropped_within}
@@ -8,6 +8,7 @@ pub loop-k-init : goal.loop-k-init
 loop-k-init c =
     record {
       header = refl;
+      scripts = refl;
       bound = omega arith;
       rest = none_dropped c.args.order.now.stories c.args.i (c.item_count-end.result - 0) (omega (arith, c.item_count-end.ensures.count));
     }
@@ -39,6 +40,7 @@ loop-k-preserved c =
     let less : at ≡ end - (k + 1) = omega (arith, c.loop-k-test.true, c.item_count-end.ensures.count, c.requires.within) in
     record {
       header = ap (λ (o : Order). o.header) c.remove_item.ensures ∙ c.loop-k.invariant.header;
+      scripts = ap (λ (o : Order). o.scripts) c.remove_item.ensures ∙ c.loop-k.invariant.scripts;
       bound = omega (arith, c.loop-k-test.true);
       rest = dropped_next first c.loop-k.order.stories c.remove_item.new.self.stories i (end - k) at more le c.loop-k.invariant.rest (ap (λ (o : Order). o.stories) c.remove_item.ensures)
           ∙ (λ j. edit_items first i (λ old. take (less j) old));
@@ -54,4 +56,4 @@ returns c =
     let count = c.args.count in
     let same : end - k ≡ length all - count = omega (arith, c.loop-k-test.false, c.loop-k.invariant.bound, c.item_count-end.ensures.count, c.requires.within) in
     let is = c.loop-k.invariant.rest ∙ edited_same first i (λ old. take (end - k) old) (λ old. take (length old - count) old) (ap (λ n. take n all) same) in
-    λ j. record { header = c.loop-k.invariant.header j; stories = is j }
+    λ j. record { header = c.loop-k.invariant.header j; stories = is j; scripts = c.loop-k.invariant.scripts j }

@@ -1,4 +1,4 @@
-use Rattle.std.proofs.Common.{List, [], sym, ap, ◌∙◌}
+use Rattle.std.proofs.Common.{List, [], ap, ◌∙◌}
 use Rattle.mos_edits.specs.Orders.{Order, Story, shape}
 use Rattle.mos_values.specs.Distinct.{item_ids}
 use Rattle.element_action.specs.Levels.{edit_story}

@@ -1,6 +1,6 @@
-use Rattle.std.proofs.Common.{◌≡◌, List, length, sym, ap, ◌∙◌}
+use Rattle.std.proofs.Common.{List, sym, ap, ◌∙◌}
 use Rattle.mos_edits.specs.KeyedLists.{picked, put_before, without}
-use Rattle.mos_edits.specs.Orders.{Item, Story, shape}
+use Rattle.mos_edits.specs.Orders.{Story, shape}
 use Rattle.running_order.proofs.Lists.{OnOk-map}
 use Rattle.element_action.specs.Targets.{place_in}
 use Rattle.element_action.proofs.ItemSteps.{no_story, at_within}

@@ -1,6 +1,5 @@
-use Rattle.std.proofs.Common.{sym, ap, ◌∙◌, ◌<◌, length, arith}
+use Rattle.std.proofs.Common.{ap, ◌∙◌, length, arith}
 use Rattle.mos_edits.specs.Orders.{Order, shape}
-use Rattle.running_order.specs.Places.{items_at}
 use Rattle.element_action.specs.Targets.{gathered}
 use Rattle.element_action.proofs.ItemMoveLemmas.{edited_long, story_within, fewer_left, removed_once}
 use Rattle.element_action.proofs.item_moves.remove_at.Goals as goal
@@ -29,4 +28,5 @@ returns-clause-ok c =
     let left = ap (λ (o : Order). o.stories) c.drop_last.ensures
     ∙ removed_once c.args.story.now c.args.order.now.stories c.args.i c.requires.here c.gather_items.new.order.stories c.item_count-end.result c.args.sources.now c.item_count-end.ensures.count c.requires.there is in
     let head = ap (λ (o : Order). o.header) c.drop_last.ensures ∙ ap (λ (o : Order). o.header) c.in_ok-gather_items.ensures.ok in
-    λ j. record { header = head j; stories = left j }
+    let rows = ap (λ (o : Order). o.scripts) c.drop_last.ensures ∙ ap (λ (o : Order). o.scripts) c.in_ok-gather_items.ensures.ok in
+    λ j. record { header = head j; stories = left j; scripts = rows j }

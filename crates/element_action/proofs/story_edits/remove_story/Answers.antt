@@ -1,19 +1,24 @@
-use Rattle.std.proofs.Common.{List, sym, ap, ◌∙◌}
-use Rattle.mos_edits.specs.Orders.{Story, shape}
+use Rattle.std.proofs.Common.{sym, ◌∙◌}
+use Rattle.mos_edits.specs.Orders.{shape}
 use Rattle.mos_edits.proofs.Distinct.{is-distinct}
 use Rattle.mos_values.specs.Distinct.{story_ids}
-use Rattle.element_action.proofs.PlaceLemmas.{place_stands, place_none, remove_place, without_absent}
+use Rattle.order_table.specs.Rows.{without_rows}
+use Rattle.element_action.proofs.PlaceLemmas.{place_stands, place_none, remove_place}
+use Rattle.element_action.proofs.ScriptLemmas.{stands_ids}
 use Rattle.element_action.proofs.story_edits.remove_story.Goals as goal
 
-pub returns-in-Some : goal.returns-in-Some
-returns-in-Some c =
-    let ss = c.args.order.now.stories in
-    let there = place_stands shape.story_id c.args.id.now ss c.in-Some.at (sym c.story_place.ensures.place ∙ c.in-Some.is) in
-    c.remove_story.ensures
-    ∙ ap (λ (l : List Story). record c.args.order.now { stories = l }) (remove_place shape.story_id c.args.id.now ss c.in-Some.at (is-distinct (story_ids ss) c.has_distinct_stories.ensures) there)
-
-pub returns-in-None : goal.returns-in-None
-returns-in-None c =
+pub unreachable-requires : goal.unreachable-requires
+unreachable-requires c =
     let ss = c.args.order.now.stories in
     let absent = place_none shape.story_id c.args.id.now ss (sym c.story_place.ensures.place ∙ c.in-None.is) in
-    ap (λ (l : List Story). record c.args.order.now { stories = l }) (sym (without_absent shape.story_id c.args.id.now ss absent))
+    let there = c.requires in
+    absurd (cc)
+
+pub returns : goal.returns
+returns c =
+    let ss = c.args.order.now.stories in
+    let id = c.args.id.now in
+    let there = place_stands shape.story_id id ss c.in-Some.at (sym c.story_place.ensures.place ∙ c.in-Some.is) in
+    let left = remove_place shape.story_id id ss c.in-Some.at (is-distinct (story_ids ss) c.has_distinct_stories.ensures) there in
+    let gone = stands_ids id ss c.in-Some.at there in
+    c.remove_story.ensures ∙ (λ j. record c.args.order.now { stories = left j; scripts = without_rows (gone j) c.args.order.now.scripts })

@@ -35,4 +35,5 @@ returns-in-None c =
           ∙ ap (λ l. Done l)
           (sym (ap (λ (o : Order). o.stories) c.move_all.ensures ∙ ap (λ l. put_before shape.story_id t (picked shape.story_id l ss) (without shape.story_id l ss)) c.as_slice-ids.ensures)),
       ap (λ (o : Order). o.header) c.move_all.ensures,
+      ap (λ (o : Order). o.scripts) c.move_all.ensures,
     )

@@ -1,5 +1,5 @@
 use Rattle.std.proofs.Common.{◌-◌, ◌≤◌, length}
-use Rattle.mos_machines.specs.Tables.{row_ids}
+use Rattle.mos_edits.specs.Rows.{row_ids}
 use Rattle.order_table.specs.Rows.{count_before}
 use Rattle.order_table.proofs.place.place_of.Given as goal
 

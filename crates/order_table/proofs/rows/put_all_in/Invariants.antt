@@ -1,7 +1,7 @@
 use Rattle.std.proofs.Common.{◌≡◌, ◌+◌, ◌≤◌, length, vec_len}
 use Rattle.std.specs.Vec.{vec_capacity}
 use Rattle.std.specs.Vec.Iter.{into_iter_items}
-use Rattle.mos_machines.specs.Tables.{row_ids}
+use Rattle.mos_edits.specs.Rows.{row_ids}
 use Rattle.order_table.specs.Rows.{IsAscending, put_rows}
 use Rattle.order_table.proofs.rows.put_all_in.Given as goal
 

@@ -1,6 +1,6 @@
 use Rattle.std.proofs.Common.{sym, ap, ◌∙◌, subst}
 use Rattle.std.proofs.lemmas.List.{with_items_is}
-use Rattle.mos_machines.specs.Tables.{row_ids, map_rows}
+use Rattle.mos_edits.specs.Rows.{row_ids, map_rows}
 use Rattle.order_table.specs.Rows.{IsAscending}
 use Rattle.order_table.proofs.AscendingRows.{map-ascending}
 use Rattle.order_table.proofs.table.OrderTable.change_all.Goals as goal

@@ -1,6 +1,6 @@
 use Rattle.std.proofs.Common.{sym, ap, ◌∙◌, ◌≡◌, ◌<◌, length, subst}
 use Rattle.mos_values.specs.Units.{capped}
-use Rattle.mos_values.specs.OrderValue.{OrderBody}
+use Rattle.mos_edits.specs.Orders.{Order}
 use Rattle.running_order.specs.Places.{items_at}
 use Rattle.running_order.proofs.SizeLemmas.{size-move_item}
 use Rattle.running_order.proofs.order.Order.move_item.Goals as goal
@@ -8,5 +8,5 @@ use Rattle.running_order.proofs.order.Order.move_item.Goals as goal
 pub invariant_of-self : goal.invariant_of-self
 invariant_of-self c =
     let old = c.self.inside.stories in
-    let seen : c.args.self.now.stories ≡ old = ap (λ (o : OrderBody). o.stories) (sym c.self.view_is) in
+    let seen : c.args.self.now.stories ≡ old = ap (λ (o : Order). o.stories) (sym c.self.view_is) in
     (c.self.invariant.0, c.self.invariant.1 ∙ ap capped (sym (size-move_item old c.move_item.new.self c.args.story c.args.from c.args.to (subst (λ l. c.args.story < length l) seen c.requires.story) (subst (λ l. c.args.from < length (items_at l c.args.story)) seen c.requires.from) (subst (λ l. c.args.to < length (items_at l c.args.story)) seen c.requires.to) c.move_item.ensures)))

@@ -1,7 +1,7 @@
 use Rattle.std.proofs.Common.{refl}
 use Rattle.running_order.specs.Sizes.{story_size, size_at}
 use Rattle.running_order.proofs.SizeLemmas.{edited-remove}
-use Rattle.running_order.proofs.order.Order.remove_story.Goals as goal
+use Rattle.running_order.proofs.order.Order.take_out.Goals as goal
 
 pub invariant_of-self : goal.invariant_of-self
 invariant_of-self c =
