@@ -29,6 +29,8 @@ pub enum Tag {
     Edit { ro: Id, k: u64 },
     /// The READY before entry `m` of an order's journal, sent again.
     Again { ro: Id, m: u64 },
+    /// The script of entry `k` of an order's journal, sent again after a list of `m` entries.
+    Script { ro: Id, k: u64, m: u64 },
     /// A request of an order.
     Ask { ro: Id },
     /// A request of the list of all orders.

@@ -4,7 +4,7 @@ ghost use Rattle.mos_machines.specs.Values.{edit_message};
 ghost use Rattle.mos_values.specs.Sound.{IsSound};
 
 use crate::actions::is_sound_action;
-use crate::orders::{is_sound_body, is_sound_patch};
+use crate::orders::{is_sound_body, is_sound_patch, is_sound_send};
 use mos_edits::Edit;
 
 /// Whether the message of the edit has an encoding, as `is_sound` says of it.
@@ -20,5 +20,6 @@ pub fn is_sound_edit(edit: &Edit) -> bool
         Edit::Act { ro: _, action } => is_sound_action(action),
         Edit::Delete(_) => true,
         Edit::Air { ro: _, air: _ } => true,
+        Edit::Script(script) => is_sound_send(script.as_ref()),
     }
 }

@@ -5,7 +5,7 @@ use Rattle.mos_edits.specs.Texts.{Text, same_id, set_order}
 use Rattle.mos_edits.specs.KeyedLists.Applied.{Done}
 use Rattle.mos_edits.specs.Orders.{Order, HeaderPatch, apply}
 use Rattle.mos_edits.specs.declared.edit.Edit.{Edit}
-use Rattle.mos_edits.specs.Entries.{Entry, entry_of, IsEntry, result_or, order_now, refusal, over_limit, over_list, over, acceptance, IsAccepted}
+use Rattle.mos_edits.specs.Entries.{Entry, entry_of, IsEntry, result_or, order_now, refusal, over_limit, over_list, over_send, over, acceptance, IsAccepted}
 use Rattle.mos_edits.specs.Sizes.{list_all_limit, list_all_units}
 use Rattle.mos_edits.proofs.Identifiers.{same-true}
 use Rattle.mos_edits.proofs.Journals.{order_now_push, order_now_other}
@@ -31,16 +31,16 @@ orders-after journal e rows h r = ap (λ (l : Text → Option Order). l r) (look
     by false s = h r ∙ sym (order_now_other journal e r s)
 
 -- the limits of all orders
-limits : (journal : List Entry) (rows : List (Text × Option Order)) (r : Text) → AreOrders journal rows → IsAscending (row_ids rows) → rows_over rows r ≡ over_limit journal r
+limits : (journal : List Entry) (rows : List (Text × Option Order)) (e : Entry) → AreOrders journal rows → IsAscending (row_ids rows) → rows_over rows e.ro (over_send e.edit) ≡ over_limit journal e
 unfolding over_limit
-limits journal rows r h a =
-    ap (λ (o : Option Order). over_list o (over list_all_limit (list_all_units (row_headers rows)) None)) (h r)
-    ∙ ap (λ (hs : List HeaderPatch). over_list (order_now journal r) (over list_all_limit (list_all_units hs) None)) (rows-headers journal rows h a)
+limits journal rows e h a =
+    ap (λ (o : Option Order). over_list o (over list_all_limit (list_all_units (row_headers rows)) (over_send e.edit))) (h e.ro)
+    ∙ ap (λ (hs : List HeaderPatch). over_list (order_now journal e.ro) (over list_all_limit (list_all_units hs) (over_send e.edit))) (rows-headers journal rows h a)
 
 pub acceptance-rows : (journal : List Entry) (e : Entry) (rows : List (Text × Option Order)) → AreOrders journal rows → IsAscending (row_ids rows) → rows_acceptance rows e ≡ acceptance journal e
 acceptance-rows journal e rows h a =
-    ap (λ (o : Option Order). refusal (apply e.ro o e.edit) (rows_over (rows_after rows e) e.ro)) (h e.ro)
-    ∙ ap (λ (u : Option ℕ). refusal (apply e.ro (order_now journal e.ro) e.edit) u) (limits (journal ++ e ∷ []) (rows_after rows e) e.ro (orders-after journal e rows h) (put-ascending e.ro _ rows a))
+    ap (λ (o : Option Order). refusal (apply e.ro o e.edit) (rows_over (rows_after rows e) e.ro (over_send e.edit))) (h e.ro)
+    ∙ ap (λ (u : Option ℕ). refusal (apply e.ro (order_now journal e.ro) e.edit) u) (limits (journal ++ e ∷ []) (rows_after rows e) e (orders-after journal e rows h) (put-ascending e.ro _ rows a))
 
 -- an order that is put back
 set-same : {X : Type 0} (f : Text → X) (r q : Text) → set_order f r (f r) q ≡ f q
@@ -104,8 +104,8 @@ module _ (rows : List (Text × Option Order)) (e : Entry) (r : Text) (o : Option
   pub done-rows : r ≡ e.ro → applied_to rows e ≡ Done o → put_row r o rows ≡ rows_after rows e
   done-rows n h = λ i. put_row (n i) (result_or (look None rows e.ro) (sym h i)) rows
 
-  pub done-acceptance : r ≡ e.ro → applied_to rows e ≡ Done o → refusal (Done o) (rows_over (put_row r o rows) r) ≡ rows_acceptance rows e
-  done-acceptance n h = λ i. refusal (sym h i) (rows_over (done-rows n h i) (n i))
+  pub done-acceptance : r ≡ e.ro → applied_to rows e ≡ Done o → refusal (Done o) (rows_over (put_row r o rows) r (over_send e.edit)) ≡ rows_acceptance rows e
+  done-acceptance n h = λ i. refusal (sym h i) (rows_over (done-rows n h i) (n i) (over_send e.edit))
 
 -- an order that is edited outside its row, which is empty meanwhile
 pub edited-rows : (rows known after back : List (Text × Option Order)) (r : Text) (o : Option Order) → ((x : Option Order) → put_row r x known ≡ put_row r x rows) → after ≡ put_row r None known → back ≡ put_row r o after → back ≡ put_row r o rows

@@ -6,7 +6,7 @@ use Rattle.std.proofs.lemmas.Bool.{ltb-false}
 use Rattle.std.proofs.lemmas.Bool.Decides.{leb_tells}
 use Rattle.std.specs.Prelude.{nat_lt}
 use Rattle.mos_edits.specs.Entries.{over_list}
-use Rattle.mos_edits.specs.Orders.{Order, HeaderPatch}
+use Rattle.mos_edits.specs.Orders.{Order, HeaderPatch, bare}
 use Rattle.mos_edits.specs.Sizes.{at_most_64_bits, list_limit, list_units, list_all_limit, list_all_units, ros_units}
 use Rattle.mos_edits.specs.Texts.{Text, same_id}
 use Rattle.mos_edits.specs.Entries.{is_before}
@@ -104,16 +104,16 @@ module _ (r : Text) (new : Option Order) (rows : List (Text × Option Order)) (a
 -- where no limit is passed, the other one isn't either
 not-over : (o : Option Order) (next : Option ℕ) → over_list o next ≡ None → next ≡ None
 not-over None next h = h
-not-over (Some o) next h = go (nat_lt list_limit (list_units o)) h
+not-over (Some o) next h = go (nat_lt list_limit (list_units (bare o))) h
   where
-    go : (b : Bool) → (if b then Some (at_most_64_bits (list_units o)) else next) ≡ None → next ≡ None
+    go : (b : Bool) → (if b then Some (at_most_64_bits (list_units (bare o))) else next) ≡ None → next ≡ None
     go true e = absurd cc
     go false e = e
 
 -- a number that passes no limit wasn't cut
-pub within-units : (rows : List (Text × Option Order)) (r : Text) (units : ℕ) → units ≡ at_most_64_bits (all_units rows) → rows_over rows r ≡ None → units ≡ all_units rows
-within-units rows r units e h = go (nat_lt list_all_limit (all_units rows)) refl (not-over (look None rows r) _ h)
+pub within-units : (rows : List (Text × Option Order)) (r : Text) (units : ℕ) (next : Option ℕ) → units ≡ at_most_64_bits (all_units rows) → rows_over rows r next ≡ None → units ≡ all_units rows
+within-units rows r units next e h = go (nat_lt list_all_limit (all_units rows)) refl (not-over (look None rows r) _ h)
   where
-    go : (b : Bool) → nat_lt list_all_limit (all_units rows) ≡ b → (if b then Some (at_most_64_bits (all_units rows)) else None) ≡ None → units ≡ all_units rows
+    go : (b : Bool) → nat_lt list_all_limit (all_units rows) ≡ b → (if b then Some (at_most_64_bits (all_units rows)) else next) ≡ None → units ≡ all_units rows
     go true s n = absurd cc
     go false s n = let k = ltb-false list_all_limit (all_units rows) s in e ∙ min-eq_left {n = all_units rows} {m = 2 ^ 64 - 1} (omega (arith, k))

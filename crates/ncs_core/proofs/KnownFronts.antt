@@ -1,5 +1,5 @@
 -- What of the keeper is known.
-use Rattle.std.proofs.Common.{◌≡◌, ℕ, ◌≤◌, Bool, true, false, List, [], ◌∷◌, ◌++◌, length, drop, Option, Some, None, Result, Ok, Err, inl, inr, refl, sym, ap, ◌∙◌, subst, arith, if◌then◌else◌}
+use Rattle.std.proofs.Common.{◌≡◌, ℕ, ◌≤◌, Bool, true, false, List, [], ◌∷◌, ◌++◌, length, drop, Option, Some, None, Ok, Err, inl, inr, refl, sym, ap, ◌∙◌, subst, arith}
 use Rattle.std.proofs.lemmas.List.{append-nil}
 use Rattle.mos_edits.specs.Entries.{Entry, acceptance, IsAccepted}
 use Rattle.rundown_log.specs.Keeping.{Appends, AreBehind, AreKept, AreSoMany, Certainty, LeavesCertain, all_certain}

@@ -11,3 +11,4 @@ pub mod KeptUnits
 pub mod KnownFronts
 pub mod LookedRows
 pub mod RestoredRows
+mod ScriptNumbers

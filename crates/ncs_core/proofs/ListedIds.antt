@@ -6,10 +6,9 @@ use Rattle.mos_edits.proofs.Identifiers.{same-true}
 use Rattle.mos_machines.specs.Tables.{look, put_row, row_ids}
 use Rattle.mos_machines.proofs.RowTables.{ids-put}
 use Rattle.mos_machines.specs.Server.{View}
-use Rattle.mos_machines.specs.Server.View.{Out}
+use Rattle.mos_machines.specs.Server.View.{Out, Listed, In, From}
 use Rattle.order_table.specs.Rows.{IsAscending}
-use Rattle.server_peer.specs.Parts.{view_of}
-use Rattle.server_peer.specs.declared.view.View.{View as Seen}
+use Rattle.server_peer.specs.Parts.{shown_view}
 use Rattle.server_peer.specs.declared.view.View.TheVariants as seens
 use Rattle.ncs_core.specs.Listed.{has_entry, is_seen, IsListOf}
 
@@ -124,11 +123,17 @@ seen-none q r ids views none = sym (ap (λ (h : Bool). has_id q ids || h) (by (s
 
 -- ---- what the calls promise
 
-pub seen-other : (v : Seen) → (v ≡ seens.Out → ⊥) → is_seen (view_of v) ≡ true
-seen-other seens.Out n = absurd (n refl)
-seen-other (seens.Listed m) n = refl
-seen-other (seens.In m again) n = refl
-seen-other (seens.From k) n = refl
+pub seen-none-shown : (v : View) → shown_view v ≡ seens.Out → is_seen v ≡ false
+seen-none-shown Out e = refl
+seen-none-shown (Listed m ks) e = absurd (cc)
+seen-none-shown (In n again ks) e = absurd (cc)
+seen-none-shown (From k) e = absurd (cc)
+
+pub seen-other : (v : View) → (shown_view v ≡ seens.Out → ⊥) → is_seen v ≡ true
+seen-other Out n = absurd (n refl)
+seen-other (Listed m ks) n = refl
+seen-other (In m again ks) n = refl
+seen-other (From k) n = refl
 
 pub seen-told : {A E X : Type 0} (o : Result A E) (r : Text) (v : X) (old new : List (Text × X)) (views : Text → View) → is_seen (views r) ≡ true → OnOk o (new ≡ put_row r v old)
     → OnOk o ((q : Text) → has_id q (row_ids new) ≡ (has_id q (row_ids old) || (same_id q r && is_seen (views q))))

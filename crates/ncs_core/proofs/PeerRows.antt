@@ -1,5 +1,5 @@
 -- One device's tables written anew.
-use Rattle.std.proofs.Common.{◌≡◌, ℕ, zero, suc, ◌<◌, Bool, true, false, List, [], ◌∷◌, length, get_or, set, Option, Result, Ok, Err, OnOk, IfOk, refl, sym, ap, ◌∙◌, if◌then◌else◌, ◌==◌, arith}
+use Rattle.std.proofs.Common.{◌≡◌, ℕ, zero, suc, ◌<◌, Bool, true, false, List, [], ◌∷◌, length, get_or, set, Option, Some, None, Result, Ok, Err, OnOk, IfOk, refl, sym, ap, ◌∙◌, if◌then◌else◌, ◌==◌, arith}
 use Rattle.std.proofs.lemmas.Bool.Decides.{nat_tests}
 use Rattle.std.proofs.lemmas.List.{get_or-set_same, get_or-set_other}
 use Rattle.mos_edits.specs.Texts.{set_number}
@@ -8,6 +8,9 @@ use Rattle.mos_machines.specs.Messages.{Message, Packet, Step}
 use Rattle.mos_machines.specs.Server.{PeerState, peer_next, peer_answered}
 use Rattle.mos_machines.specs.Steps.{ServerState, with_peer, is_upper, unless_stale, server_sent, server_stepped, server_step}
 use Rattle.mos_machines.specs.Steps.ServerEvent.{NextSend, UpperAnswer}
+use Rattle.machine_answers.specs.declared.answers.Sent.{Sent}
+use Rattle.server_peer.specs.Parts.{sent_of}
+use Rattle.ncs_core.specs.State.{sent_by}
 use Rattle.mos_machines.specs.Tables.{PeerTables, ServerTables, no_peer_tables, peer_of, server_state}
 
 equal-by : (a b : ℕ) → (a == b) ≡ true → a ≡ b
@@ -33,6 +36,15 @@ sent-step s d c now x u e = ap (with_peer s d) e ∙ by (is_upper s d c) u (peer
   where
     by : (b : Bool) → b ≡ true → (p : PeerState × Option Packet) → with_peer s d p.0 ≡ (unless_stale b s (server_sent s d p)).1
     by true h (y, q) = refl
+    by false h p = absurd (cc)
+
+-- and what it sends is what the step sends
+pub sent-says : (s : ServerState) (d c : ℕ) (now : MosTime) (x : Sent) → is_upper s d c ≡ true → x ≡ sent_of (peer_next s.journal now (s.peers d)).1 → x ≡ sent_by (server_step false s (NextSend d c now)).0
+sent-says s d c now x u e = e ∙ by (is_upper s d c) u (peer_next s.journal now (s.peers d))
+  where
+    by : (b : Bool) → b ≡ true → (p : PeerState × Option Packet) → sent_of p.1 ≡ sent_by (unless_stale b s (server_sent s d p)).0
+    by true h (y, None) = refl
+    by true h (y, Some q) = refl
     by false h p = absurd (cc)
 
 pub answered-step : (s : ServerState) (d c : ℕ) (m : Message) (x : PeerState) → is_upper s d c ≡ true → x ≡ (peer_answered s.journal (s.peers d) m).0 → with_peer s d x ≡ (server_step false s (UpperAnswer d c m)).1

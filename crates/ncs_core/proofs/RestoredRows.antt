@@ -6,10 +6,10 @@ use Rattle.mos_edits.specs.KeyedLists.{Applied}
 use Rattle.mos_edits.specs.KeyedLists.Applied.{Done}
 use Rattle.mos_edits.specs.Orders.{Order, edit_ro, apply}
 use Rattle.mos_edits.specs.declared.edit.Edit.{Edit}
-use Rattle.mos_edits.specs.Entries.{Entry, entry_of, is_before, result_or, refusal}
+use Rattle.mos_edits.specs.Entries.{Entry, entry_of, is_before, result_or, over_send, refusal}
 use Rattle.mos_edits.proofs.Identifiers.{same-true}
 use Rattle.mos_machines.specs.Tables.{look, put_row, row_ids}
-use Rattle.mos_edits.specs.declared.edit.Edit.TheVariants.{Create, Replace, Delete, Metadata, Act, Air}
+use Rattle.mos_edits.specs.declared.edit.Edit.TheVariants.{Create, Replace, Delete, Metadata, Act, Air, Script}
 use Rattle.order_table.specs.Rows.{IsAscending, find_row}
 use Rattle.order_table.proofs.AscendingRows.{before-all, find-none}
 use Rattle.ncs_core.specs.Accepting.{applied_to, rows_over, rows_after, rows_acceptance, leaves_all, former_of, restored}
@@ -49,6 +49,7 @@ air-there rows (Replace body) t = absurd (cc)
 air-there rows (Delete ro) t = absurd (cc)
 air-there rows (Metadata patch) t = absurd (cc)
 air-there rows (Act ro action) t = absurd (cc)
+air-there rows (Script script) t = absurd (cc)
 
 air-applied : (rows : List (Text × Option Order)) (e : Edit) → leaves_all rows e ≡ true → applied_to rows (entry_of e) ≡ Done (look None rows (edit_ro e))
 unfolding apply
@@ -62,6 +63,7 @@ air-applied rows (Replace body) t = absurd (cc)
 air-applied rows (Delete ro) t = absurd (cc)
 air-applied rows (Metadata patch) t = absurd (cc)
 air-applied rows (Act ro action) t = absurd (cc)
+air-applied rows (Script script) t = absurd (cc)
 
 module _ (rows : List (Text × Option Order)) (e : Edit) (asc : IsAscending (row_ids rows)) where
   pub air-rows : leaves_all rows e ≡ true → rows_after rows (entry_of e) ≡ rows
@@ -69,8 +71,8 @@ module _ (rows : List (Text × Option Order)) (e : Edit) (asc : IsAscending (row
       ap (λ (a : Applied (Option Order)). put_row (edit_ro e) (result_or (look None rows (edit_ro e)) a) rows) (air-applied rows e t)
       ∙ put-looked rows (edit_ro e) (look None rows (edit_ro e)) asc (air-there rows e t) refl
 
-  pub air-acceptance : leaves_all rows e ≡ true → refusal (Done (look None rows (edit_ro e))) (rows_over rows (edit_ro e)) ≡ rows_acceptance rows (entry_of e)
-  air-acceptance t = λ i. refusal (sym (air-applied rows e t) i) (rows_over (sym (air-rows t) i) (edit_ro e))
+  pub air-acceptance : leaves_all rows e ≡ true → refusal (Done (look None rows (edit_ro e))) (rows_over rows (edit_ro e) (over_send e)) ≡ rows_acceptance rows (entry_of e)
+  air-acceptance t = λ i. refusal (sym (air-applied rows e t) i) (rows_over (sym (air-rows t) i) (edit_ro e) (over_send e))
 
   -- the orders once an edit is undone
   restored-rows : (after back : List (Text × Option Order)) (r : Text) (f : Former) → f ≡ former_of rows e → after ≡ rows_after rows (entry_of e) → r ≡ edit_ro e → back ≡ restored f r after

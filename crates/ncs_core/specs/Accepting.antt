@@ -1,11 +1,11 @@
 -- Whether an edit is accepted, by the table of orders.
-use Rattle.std.specs.Prelude.{◌≡◌, ℕ, List, Bool, true, false, Option, Some, None, if◌then◌else◌}
+use Rattle.std.specs.Prelude.{◌≡◌, ℕ, List, Bool, false, Option, Some, None, if◌then◌else◌}
 use Rattle.std.specs.Option.{is_some}
 use Rattle.mos_edits.specs.Texts.{Text}
 use Rattle.mos_edits.specs.KeyedLists.{Applied, ActFault}
 use Rattle.mos_edits.specs.Orders.{Order, edit_ro, apply}
 use Rattle.mos_edits.specs.declared.edit.Edit.{Edit}
-use Rattle.mos_edits.specs.Entries.{Entry, Refusal, refusal, result_or, over_list, over}
+use Rattle.mos_edits.specs.Entries.{Entry, Refusal, refusal, result_or, over_list, over, over_send}
 use Rattle.mos_edits.specs.Sizes.{list_all_limit}
 use Rattle.mos_machines.specs.Tables.{look, put_row}
 use Rattle.mos_edits.specs.declared.edit.Edit.TheVariants.{Air}
@@ -15,12 +15,9 @@ use Rattle.ncs_core.specs.declared.fault.CommandFault.TheVariants.{Stopped, Miss
 use Rattle.ncs_core.specs.declared.former.Former.{Former}
 use Rattle.ncs_core.specs.declared.former.Former.TheVariants.{Same, Was}
 
--- the code units with which all orders pass their limit, and those of one order or else of all
-abbrev pub all_over : List (Text × Option Order) → Option ℕ
-all_over rows = over list_all_limit (all_units rows) None
-
-abbrev pub rows_over : List (Text × Option Order) → Text → Option ℕ
-rows_over rows r = over_list (look None rows r) (all_over rows)
+-- The code units with which one order passes its limit, or else all orders theirs, or else what an edit passes by itself.
+abbrev pub rows_over : List (Text × Option Order) → Text → Option ℕ → Option ℕ
+rows_over rows r next = over_list (look None rows r) (over list_all_limit (all_units rows) next)
 
 -- what an edit makes of its order
 abbrev pub applied_to : List (Text × Option Order) → Entry → Applied (Option Order)
@@ -32,7 +29,7 @@ rows_after rows e = put_row e.ro (result_or (look None rows e.ro) (applied_to ro
 
 -- why the edit isn't accepted, where these are the orders
 abbrev pub rows_acceptance : List (Text × Option Order) → Entry → Option Refusal
-rows_acceptance rows e = refusal (applied_to rows e) (rows_over (rows_after rows e) e.ro)
+rows_acceptance rows e = refusal (applied_to rows e) (rows_over (rows_after rows e) e.ro (over_send e.edit))
 
 -- the answer says why the edit isn't accepted, or that memory ran out
 abbrev pub IsRefusal : Option Refusal → CommandFault → Type 0

@@ -1,8 +1,8 @@
 -- What the server says to a device.
 use Rattle.std.specs.Prelude.{List, [], false, Option, Some, None}
 use Rattle.mos_edits.specs.Texts.{Text, set_order}
-use Rattle.mos_edits.specs.Entries.{Entry, entry_count}
-use Rattle.mos_edits.specs.Orders.{Order}
+use Rattle.mos_edits.specs.Entries.{Entry, entry_count, in_force}
+use Rattle.mos_edits.specs.Orders.{Order, bare}
 use Rattle.mos_machines.specs.Messages.{Message, Status, status_text}
 use Rattle.mos_machines.specs.Messages.Message.{RoElementStat}
 use Rattle.mos_machines.specs.Server.{PeerState, View, settled}
@@ -23,11 +23,11 @@ other_status m = NotSupported
 -- the order that was asked for, or that there is none
 abbrev pub list_said : Text → Option Order → values.Message
 list_said r None = carried.RoAck (acked r NoRunningOrder)
-list_said r (Some o) = carried.RoList o
+list_said r (Some o) = carried.RoList (bare o)
 
--- all entries of the order are on their way as a list
+-- all entries of the order are on their way as a list, behind which the scripts in force are due
 abbrev pub peer_listed : List Entry → Text → PeerState → PeerState
-peer_listed journal r s = record s { views = set_order (λ q. settled journal false q (s.views q)) r (View.Listed (entry_count journal r)) }
+peer_listed journal r s = record s { views = set_order (λ q. settled journal false q (s.views q)) r (View.Listed (entry_count journal r) (in_force journal r (entry_count journal r))) }
 
 abbrev pub IsHeartbeat : values.Message → Type 0
 IsHeartbeat (carried.Heartbeat time) = Unit {0}

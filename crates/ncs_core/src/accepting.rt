@@ -14,7 +14,7 @@ ghost use Rattle.ncs_core.specs.declared.former.Former.TheVariants.{Same, Was};
 
 use crate::fault::CommandFault;
 use crate::former::{Former, put_back};
-use crate::limits::{exchanged_units, overrun, units_alone};
+use crate::limits::{exchanged_units, overrun, script_overrun, units_alone};
 use crate::orders::{NO_ORDERS, Orders, Table, order_in};
 use element_action::{ActFault, applied, apply};
 use mos_edits::Edit;
@@ -61,14 +61,14 @@ fn know(orders: &mut Table, ro: &Id) -> Result<(), NoMemory>
     }
 }
 
-// Whether no limit is passed, where the list of all orders has so many code units.
-fn within(orders: &Table, ro: &Id, units: u64) -> Result<(), CommandFault>
+// Whether no limit is passed, where the list of all orders has so many code units, and the edit passes `next` by itself.
+fn within(orders: &Table, ro: &Id, units: u64, next: Option<u64>) -> Result<(), CommandFault>
     requires { units ≡ at_most_64_bits (all_units orders.now) }
-    ensures within { OnOk result (rows_over orders.now ro.now ≡ None) }
+    ensures within { OnOk result (rows_over orders.now ro.now next ≡ None) }
     ensures units { OnOk result (units ≡ all_units orders.now) }
-    ensures full { IfErr result (λ f. (order : Option Made) → IsRefusal (refusal (Done order) (rows_over orders.now ro.now)) f) }
+    ensures full { IfErr result (λ f. (order : Option Made) → IsRefusal (refusal (Done order) (rows_over orders.now ro.now next)) f) }
 {
-    match overrun(orders, ro, units) {
+    match overrun(orders, ro, units, next) {
         Some(units) => Err(CommandFault::Full { units }),
         None => Ok(()),
     }
@@ -82,14 +82,15 @@ fn exchange_within(
     units: u64,
     ro: &Id,
     order: &mut Option<Order>,
+    next: Option<u64>,
 ) -> Result<u64, CommandFault>
     requires there { IsSome (find_row ro.now orders.old) }
     requires units { units ≡ all_units orders.old }
     ensures order { OnOk result (order.new ≡ look None orders.old ro.now) }
     ensures rows { OnOk result (orders.new ≡ put_row ro.now order.old orders.old) }
-    ensures within { OnOk result (rows_over (put_row ro.now order.old orders.old) ro.now ≡ None) }
+    ensures within { OnOk result (rows_over (put_row ro.now order.old orders.old) ro.now next ≡ None) }
     ensures units { IfOk result (λ units. units ≡ all_units orders.new) }
-    ensures fault { IfErr result (λ f. IsRefusal (refusal (Done order.old) (rows_over (put_row ro.now order.old orders.old) ro.now)) f) }
+    ensures fault { IfErr result (λ f. IsRefusal (refusal (Done order.old) (rows_over (put_row ro.now order.old orders.old) ro.now next)) f) }
     ensures err { OnErr result (look None orders.new ≡ look None orders.old) }
     ensures kept { OnErr result (all_units orders.new ≡ all_units orders.old) }
 {
@@ -98,7 +99,7 @@ fn exchange_within(
     let new = units_alone(alloc, order.as_ref())?;
     let units = exchanged_units(units, former, new);
     orders.exchange(ro, order);
-    match within(orders, ro, units) {
+    match within(orders, ro, units, next) {
         Ok(()) => Ok(units),
         Err(fault) => {
             orders.exchange(ro, order);
@@ -118,12 +119,12 @@ fn leaves_all(orders: &Table, edit: &Edit) -> bool
 }
 
 // Whether the orders pass no limit as they are. Nothing is to be put back then.
-fn stay_within(orders: &Orders, ro: &Id) -> Result<Former, CommandFault>
+fn stay_within(orders: &Orders, ro: &Id, next: Option<u64>) -> Result<Former, CommandFault>
     ensures former { IfOk result (λ f. f ≡ Same) }
-    ensures within { OnOk result (rows_over orders.now ro.now ≡ None) }
-    ensures full { IfErr result (λ f. (order : Option Made) → IsRefusal (refusal (Done order) (rows_over orders.now ro.now)) f) }
+    ensures within { OnOk result (rows_over orders.now ro.now next ≡ None) }
+    ensures full { IfErr result (λ f. (order : Option Made) → IsRefusal (refusal (Done order) (rows_over orders.now ro.now next)) f) }
 {
-    match within(&orders.table, ro, orders.units) {
+    match within(&orders.table, ro, orders.units, next) {
         Ok(()) => Ok(Former::Same),
         Err(fault) => Err(fault),
     }
@@ -135,15 +136,16 @@ fn put_within(
     orders: &mut Orders,
     ro: &Id,
     order: Option<Order>,
+    next: Option<u64>,
 ) -> Result<Former, CommandFault>
     ensures former { IfOk result (λ f. f ≡ Was (look None orders.old ro.now)) }
     ensures rows { OnOk result (orders.new ≡ put_row ro.now order orders.old) }
-    ensures within { OnOk result (rows_over (put_row ro.now order orders.old) ro.now ≡ None) }
-    ensures fault { IfErr result (λ f. IsRefusal (refusal (Done order) (rows_over (put_row ro.now order orders.old) ro.now)) f) }
+    ensures within { OnOk result (rows_over (put_row ro.now order orders.old) ro.now next ≡ None) }
+    ensures fault { IfErr result (λ f. IsRefusal (refusal (Done order) (rows_over (put_row ro.now order orders.old) ro.now next)) f) }
     ensures err { OnErr result (look None orders.new ≡ look None orders.old) }
 {
     let mut held = order;
-    match exchange_in(alloc, orders, ro, &mut held) {
+    match exchange_in(alloc, orders, ro, &mut held, next) {
         Ok(()) => Ok(Former::Was { order: held }),
         Err(fault) => {
             let_go(held);
@@ -161,7 +163,7 @@ fn put_edited(alloc: Global, orders: &mut Orders, edit: &Edit) -> Result<Former,
     ensures err { OnErr result (look None orders.new ≡ look None orders.old) }
 {
     match edited(alloc, &orders.table, edit) {
-        Ok(order) => put_within(alloc, orders, edit_ro(edit), order),
+        Ok(order) => put_within(alloc, orders, edit_ro(edit), order, script_overrun(edit)),
         Err(fault) => Err(fault),
     }
 }
@@ -178,7 +180,7 @@ pub fn accept_edit(alloc: Global, orders: &mut Orders, edit: &Edit) -> Result<Fo
 {
     orders.has_ascending_ids();
     if leaves_all(&orders.table, edit) {
-        stay_within(orders, edit_ro(edit))
+        stay_within(orders, edit_ro(edit), script_overrun(edit))
     } else {
         put_edited(alloc, orders, edit)
     }
@@ -190,15 +192,16 @@ fn exchange_in(
     orders: &mut Orders,
     ro: &Id,
     order: &mut Option<Order>,
+    next: Option<u64>,
 ) -> Result<(), CommandFault>
     ensures order { OnOk result (order.new ≡ look None orders.old ro.now) }
     ensures rows { OnOk result (orders.new ≡ put_row ro.now order.old orders.old) }
-    ensures within { OnOk result (rows_over (put_row ro.now order.old orders.old) ro.now ≡ None) }
-    ensures fault { IfErr result (λ f. IsRefusal (refusal (Done order.old) (rows_over (put_row ro.now order.old orders.old) ro.now)) f) }
+    ensures within { OnOk result (rows_over (put_row ro.now order.old orders.old) ro.now next ≡ None) }
+    ensures fault { IfErr result (λ f. IsRefusal (refusal (Done order.old) (rows_over (put_row ro.now order.old orders.old) ro.now next)) f) }
     ensures err { OnErr result (look None orders.new ≡ look None orders.old) }
 {
     know(&mut orders.table, ro)?;
-    let units = exchange_within(alloc, &mut orders.table, orders.units, ro, order)?;
+    let units = exchange_within(alloc, &mut orders.table, orders.units, ro, order, next)?;
     orders.units = units;
     Ok(())
 }
@@ -225,7 +228,7 @@ fn edit_row(alloc: Global, orders: &mut Table, units: u64, edit: &Edit) -> Resul
     match applied {
         Ok(()) => {
             let units = exchanged_units(units, former?, new?);
-            match within(orders, ro, units) {
+            match within(orders, ro, units, script_overrun(edit)) {
                 Ok(()) => Ok(units),
                 Err(fault) => Err(fault),
             }

@@ -1,10 +1,11 @@
 //! Commands: the edits that an editor gives.
-ghost use Rattle.std.specs.Prelude.{◌≡◌, [], ◌∷◌, ◌++◌, ◌≤◌, false, OnOk, OnErr};
-ghost use Rattle.mos_edits.specs.Entries.{entry_of, entry_count};
+ghost use Rattle.std.specs.Prelude.{◌≡◌, [], ◌∷◌, ◌++◌, ◌≤◌, None, false, OnOk, OnErr};
+ghost use Rattle.mos_edits.specs.Entries.{acceptance, entry_of, entry_count};
 ghost use Rattle.mos_machines.specs.Server.{peer_given};
 ghost use Rattle.mos_machines.specs.Values.{edit_message};
 ghost use Rattle.mos_values.specs.Sound.{IsSound};
 ghost use Rattle.rundown_log.specs.Keeping.{Appends, LeavesCertain, LeavesSo};
+ghost use Rattle.script_numbers.specs.Numbers.{AreNumbers};
 ghost use Rattle.ncs_core.specs.Commands.{IsCommandStep, HasCause, LeavesAfter, LeavesKeeper, is_failed as is_failed_of, command_fault_of};
 ghost use Rattle.ncs_core.specs.State.{ncs_of, devices_of, states};
 
@@ -15,16 +16,20 @@ use crate::ncs::Ncs;
 use mos_edits::Edit;
 use mos_fields::let_go;
 use rundown_log::{Journal, KeepFault, Keeper, edit_ro};
+use script_numbers::ScriptNumbers;
 use server_peer::Peer;
 
 // Keeps an accepted edit, and gives it to the devices.
 fn keep_and_give<K: Keeper>(
     peers: &mut [Peer],
     journal: &mut Journal,
+    scripts: &mut ScriptNumbers,
     keeper: &mut K,
     edit: &Edit,
 ) -> Result<(), KeepFault>
-    requires { IsSound (edit_message edit.now) }
+    requires sound { IsSound (edit_message edit.now) }
+    requires scripts { AreNumbers journal.old scripts.old }
+    requires accepted { acceptance journal.old (entry_of edit.now) ≡ None }
     ensures appends { Appends (K.kept keeper.old) (K.kept keeper.new) (K.faults keeper.old) (K.faults keeper.new) (entry_of edit.now) result }
     ensures certainty { LeavesCertain (K.kept keeper.old) (K.kept keeper.new) (K.certainty keeper.old) (K.certainty keeper.new) (entry_of edit.now) result }
     ensures leaves { LeavesSo K.appended keeper.old keeper.new (entry_of edit.now) result }
@@ -33,13 +38,16 @@ fn keep_and_give<K: Keeper>(
     ensures peers { OnOk result (states peers.new ≡ (λ d. peer_given (entry_of edit.now) (entry_count journal.old (entry_of edit.now).ro) (states peers.old d))) }
     ensures journal_err { OnErr result (journal.new ≡ journal.old) }
     ensures peers_err { OnErr result (states peers.new ≡ states peers.old) }
+    ensures scripts { AreNumbers journal.new scripts.new }
 {
     let ro = edit_ro(edit);
     let whole = is_whole(edit);
     let number = journal.entry_count(ro) as u64;
     reserve_all(peers, ro, whole)?;
+    scripts.reserve(edit)?;
     journal.keep(keeper, edit)?;
     give_all(peers, ro, whole, number);
+    scripts.accept(edit, number);
     Ok(())
 }
 
@@ -80,7 +88,13 @@ impl<K: Keeper> Ncs<K> {
             Ok(former) => former,
             Err(fault) => return Err(fault),
         };
-        match keep_and_give(&mut self.peers, &mut self.journal, &mut self.keeper, edit) {
+        match keep_and_give(
+            &mut self.peers,
+            &mut self.journal,
+            &mut self.scripts,
+            &mut self.keeper,
+            edit,
+        ) {
             Ok(()) => {
                 let_go(former);
                 Ok(())
@@ -97,7 +111,8 @@ impl<K: Keeper> Ncs<K> {
     ///
     /// `Stopped` comes exactly where an earlier append of this run failed. Then it is looked whether the edit is accepted:
     /// `Missing` and `AlreadyThere` come exactly where it has that fault on the order that is there, `Full` exactly where
-    /// the list of the order would pass 8,000,000 code units, or else that of all orders 8,100,000. Then the edit is kept:
+    /// the list of the order would pass 8,000,000 code units, or else that of all orders 8,100,000, or else the edit is a
+    /// roStorySend of more than 8,000,000. Then the edit is kept:
     /// `StoreFault` comes only where the keeper failed and counted that, and whether the edit is kept isn't known then; the
     /// server takes no command until it is started again, and nothing else changes. `NoMemory` may come in place of every
     /// answer but `Stopped` and `StoreFault`. After every refusal but `StoreFault` the state is as it was.

@@ -20,6 +20,7 @@ pub fn is_whole(edit: &Edit) -> bool
         Edit::Metadata(_) => false,
         Edit::Act { ro: _, action: _ } => false,
         Edit::Air { ro: _, air: _ } => false,
+        Edit::Script(_) => false,
     }
 }
 

@@ -1,7 +1,7 @@
 //! What a device says and asks on the connection that it opened.
 ghost use Rattle.std.specs.Prelude.{◌≡◌, ◌<◌, false, get_or, OnOk, OnErr, IfOk, IsOk, IsSome};
 ghost use Rattle.std.specs.Option.{option_copied};
-ghost use Rattle.mos_edits.specs.Entries.{order_now};
+ghost use Rattle.mos_edits.specs.Entries.{entry_count, in_force, order_now};
 ghost use Rattle.mos_machines.specs.Messages.{Message as Said, message_ro};
 ghost use Rattle.mos_machines.specs.Messages.Status.{NotNow};
 ghost use Rattle.mos_machines.specs.Server.{peer_hear, peer_settled};
@@ -19,10 +19,11 @@ use crate::looks::look_if_settled;
 use crate::ncs::Ncs;
 use crate::reading::{ack_with, other_ack};
 use machine_answers::{Heard, Status};
-use mos_fields::{Id, NoMemory};
+use mos_fields::{Id, NoMemory, pair_ok};
 use mos_values::{Boxed, Message};
 use rundown_log::Keeper;
 use running_order::Order;
+use script_numbers::numbers_are_entries;
 use std::alloc::Global;
 
 // The order that was asked for, or that there is none.
@@ -72,14 +73,27 @@ impl<K: Keeper> Ncs<K> {
         self.peers[d as usize].reserve(ro)
     }
 
-    // All entries of an order are on their way to a device.
-    fn set_listed(&mut self, d: u32, ro: &Id)
+    // The numbers of the entries whose scripts stand in an order, in the order of its stories.
+    fn scripts_in_force(&self, ro: &Id) -> Result<Vec<u64>, NoMemory>
+        ensures { IfOk result (λ ks. ks.items ≡ in_force self.now.server.journal ro.now (entry_count self.now.server.journal ro.now)) }
+    {
+        let alloc = self.allocator();
+        match self.orders.order(ro) {
+            Some(order) => self.scripts.in_order(alloc, ro, order),
+            None => Ok(Vec::new(alloc)),
+        }
+    }
+
+    // All entries of an order are on their way to a device, and the scripts in force are due behind them.
+    fn set_listed(&mut self, d: u32, ro: &Id, scripts: Vec<u64>)
         requires within { d < devices_of self.old }
+        requires scripts { scripts.items ≡ in_force self.old.server.journal ro.now (entry_count self.old.server.journal ro.now) }
         requires there { IsSome (find_row ro.now (get_or self.old.server.peers d no_peer_tables).views) }
         ensures step { ncs_of self.new ≡ with_peer (ncs_of self.old) d (peer_listed self.old.server.journal ro.now ((ncs_of self.old).peers d)) }
         ensures rest { LeavesRest self.old self.new }
     {
-        self.peers[d as usize].listed(&self.journal, ro);
+        numbers_are_entries();
+        self.peers[d as usize].listed(&self.journal, ro, scripts);
     }
 
     // The order that is asked for, or that there is none.
@@ -98,8 +112,8 @@ impl<K: Keeper> Ncs<K> {
         ensures err { OnErr result (ncs_of self.new ≡ ncs_of self.old) }
     {
         self.reserve_view(d, ro)?;
-        let said = self.say_list(ro)?;
-        self.set_listed(d, ro);
+        let (said, scripts) = pair_ok(self.say_list(ro), self.scripts_in_force(ro))?;
+        self.set_listed(d, ro, scripts);
         Ok(said)
     }
 

@@ -1,16 +1,18 @@
 //! The limits of lists.
-ghost use Rattle.std.specs.Prelude.{◌≡◌, ◌+◌, ◌-◌, ◌<◌, ◌≤◌, ℕ, length, slice_get, Some, None, IfOk};
+ghost use Rattle.std.specs.Prelude.{◌≡◌, ◌+◌, ◌-◌, ◌<◌, ◌≤◌, ℕ, Option, length, slice_get, Some, None, IfOk};
 ghost use Rattle.std.specs.Option.{option_copied};
-ghost use Rattle.mos_edits.specs.Entries.{over as over_of, over_list};
-ghost use Rattle.mos_edits.specs.Sizes.{list_units, list_all_units as list_all_units_of, at_most_64_bits};
+ghost use Rattle.mos_edits.specs.Entries.{over as over_of, over_list, over_send};
+ghost use Rattle.mos_edits.specs.Sizes.{list_units, list_all_units as list_all_units_of, send_units as send_units_of, at_most_64_bits};
+ghost use Rattle.mos_edits.specs.Orders.{bare};
 ghost use Rattle.mos_machines.specs.Small.{IsSmall, IsSmallItem, AreSmallItems, IsSmallOrder};
 ghost use Rattle.ncs_core.specs.Accepting.{rows_over};
 ghost use Rattle.ncs_core.specs.State.{all_units, one_header};
 
 use crate::orders::{Table, header_of, order_in};
+use mos_edits::Edit;
 use mos_fields::{Id, NoMemory, Samples};
 use mos_machines::limits_count_canonical_encodings;
-use mos_values::{Item, Story, list_all_units};
+use mos_values::{Item, Story, StorySend, list_all_units, send_units};
 use running_order::Order;
 use std::alloc::Global;
 
@@ -18,6 +20,9 @@ use std::alloc::Global;
 const LIST_LIMIT: u64 = 8_000_000;
 
 const LIST_ALL_LIMIT: u64 = 8_100_000;
+
+// The same of a roStorySend.
+const SEND_LIMIT: u64 = 8_000_000;
 
 // A number of samples fits into 32 bits. Each call whose name has `small_numbers` promises that of a
 // value, and does nothing.
@@ -66,7 +71,7 @@ fn story_at(order: &Order, place: usize) -> &Story
 }
 
 fn order_has_small_numbers(order: &Order)
-    ensures { IsSmallOrder order.now }
+    ensures { IsSmallOrder (bare order.now) }
 {
     'stories: for place in 0..order.len() {
         story_has_small_numbers(story_at(order, place));
@@ -75,7 +80,7 @@ fn order_has_small_numbers(order: &Order)
 
 // The code units of the list of an order.
 fn order_units(order: &Order) -> u64
-    ensures { result ≡ at_most_64_bits (list_units order.now) }
+    ensures { result ≡ at_most_64_bits (list_units (bare order.now)) }
 {
     limits_count_canonical_encodings();
     order_has_small_numbers(order);
@@ -99,12 +104,30 @@ pub fn exchanged_units(units: u64, former: u64, new: u64) -> u64
     (units - former).saturating_add(new)
 }
 
-// The code units, where they pass a limit.
-fn past(limit: u64, units: u64) -> Option<u64>
+// The code units, where they pass a limit, or else what passes another.
+fn past(limit: u64, units: u64, next: Option<u64>) -> Option<u64>
     requires { limit < 18446744073709551615 }
-    ensures { (n : ℕ) → units ≡ at_most_64_bits n → result ≡ over_of limit n None }
+    ensures { (n : ℕ) → units ≡ at_most_64_bits n → result ≡ over_of limit n next }
 {
-    if limit < units { Some(units) } else { None }
+    if limit < units { Some(units) } else { next }
+}
+
+// The code units of a roStorySend.
+fn script_units(script: &StorySend) -> u64
+    ensures { result ≡ at_most_64_bits (send_units_of script.now) }
+{
+    limits_count_canonical_encodings();
+    send_units(script)
+}
+
+/// The code units with which an edit passes a limit by itself: a roStorySend does.
+pub fn script_overrun(edit: &Edit) -> Option<u64>
+    ensures { result ≡ over_send edit.now }
+{
+    match edit {
+        Edit::Script(script) => past(SEND_LIMIT, script_units(script.as_ref()), None),
+        _ => None,
+    }
 }
 
 // The code units with which the list of an order passes its limit.
@@ -112,18 +135,19 @@ fn order_overrun(order: Option<&Order>) -> Option<u64>
     ensures { result ≡ over_list (option_copied order.entry) None }
 {
     match order {
-        Some(order) => past(LIST_LIMIT, order_units(order)),
+        Some(order) => past(LIST_LIMIT, order_units(order), None),
         None => None,
     }
 }
 
-/// The code units with which the list of an order passes its limit, or else that of all orders, which has so many.
-pub fn overrun(table: &Table, ro: &Id, units: u64) -> Option<u64>
+/// The code units with which the list of an order passes its limit, or else that of all orders, which has so many, or else what
+/// an edit passes by itself.
+pub fn overrun(table: &Table, ro: &Id, units: u64, next: Option<u64>) -> Option<u64>
     requires { units ≡ at_most_64_bits (all_units table.now) }
-    ensures { result ≡ rows_over table.now ro.now }
+    ensures { result ≡ rows_over table.now ro.now next }
 {
     match order_overrun(order_in(table, ro)) {
         Some(units) => Some(units),
-        None => past(LIST_ALL_LIMIT, units),
+        None => past(LIST_ALL_LIMIT, units, next),
     }
 }

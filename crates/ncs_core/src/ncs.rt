@@ -2,7 +2,7 @@
 ghost use Rattle.std.specs.Prelude.{◌≡◌, ◌<◌, ◌≤◌};
 ghost use Rattle.std.specs.Option.{option_copied};
 ghost use Rattle.mos_edits.specs.Entries.{entry_count, order_now};
-ghost use Rattle.server_peer.specs.Parts.{upper_of, view_of};
+ghost use Rattle.server_peer.specs.Parts.{upper_of, shown_view};
 ghost use Rattle.ncs_core.specs.State.{ncs_of, devices_of};
 
 use crate::looks::Looks;
@@ -10,11 +10,13 @@ use crate::orders::Orders;
 use mos_fields::Id;
 use rundown_log::{Journal, Keeper};
 use running_order::Order;
+use script_numbers::ScriptNumbers;
 use server_peer::{Peer, Upper, View};
 use std::alloc::Global;
 use std::marker::Model;
 
-/// What the server keeps: the journal of the accepted edits and its keeper, each order after its entries, and its devices.
+/// What the server keeps: the journal of the accepted edits and its keeper, each order after its entries, which entry brought the
+/// script of each story, and its devices.
 ///
 /// Each call is one step of the server. A call for a connection that isn't the current one is answered `Stale` and changes
 /// nothing. Devices are numbered from 0.
@@ -25,6 +27,7 @@ pub struct Ncs<K: Keeper> {
     pub(crate) orders: Orders,
     pub(crate) peers: Vec<Peer>,
     pub(crate) looks: Looks,
+    pub(crate) scripts: ScriptNumbers,
     pub(crate) stopped: bool,
 }
 
@@ -33,12 +36,13 @@ impl<K: Keeper> Model for Ncs<K> {
     ghost use Rattle.ncs_core.specs.Looks.{AreLooked};
     ghost use Rattle.ncs_core.specs.State.{NcsTables, AreOrders, states};
     ghost use Rattle.ncs_core.specs.Starting.{IsKept};
+    ghost use Rattle.script_numbers.specs.Numbers.{AreNumbers};
 
     ghost Value = { NcsTables K };
 
     ghost view = { λ n. record { server = record { journal = n.journal; stopped = n.stopped; faults = K.faults n.keeper; peers = n.peers.items }; keeper = n.keeper; kept = K.kept n.keeper } };
 
-    ghost invariant = { λ n. AreOrders n.journal n.orders × (length n.peers.items ≤ 64) × (1 ≤ length n.peers.items) × IsKept n.stopped (K.kept n.keeper) (K.certainty n.keeper) n.journal × AreLooked n.journal (states n.peers.items) n.looks };
+    ghost invariant = { λ n. AreOrders n.journal n.orders × (length n.peers.items ≤ 64) × (1 ≤ length n.peers.items) × IsKept n.stopped (K.kept n.keeper) (K.certainty n.keeper) n.journal × AreLooked n.journal (states n.peers.items) n.looks × AreNumbers n.journal n.scripts };
 }
 
 impl<K: Keeper> Ncs<K> {
@@ -87,10 +91,10 @@ impl<K: Keeper> Ncs<K> {
         self.peers[d as usize].upper()
     }
 
-    /// What the server takes a device to hold of an order. It takes no memory.
+    /// What the server takes a device to hold of an order; of the scripts that are due their number. It takes no memory.
     pub fn view(&self, d: u32, ro: &Id) -> View
         requires { d < devices_of self.now }
-        ensures { view_of result ≡ ((ncs_of self.now).peers d).views ro.now }
+        ensures { result ≡ shown_view (((ncs_of self.now).peers d).views ro.now) }
     {
         self.peers[d as usize].view(ro)
     }

@@ -3,6 +3,7 @@ ghost use Rattle.std.specs.Prelude.{◌≡◌, ◌≤◌, [], ◌∷◌, ◌++�
 ghost use Rattle.mos_edits.specs.Entries.{acceptance, entry_of, IsAccepted};
 ghost use Rattle.mos_machines.specs.Steps.{started};
 ghost use Rattle.rundown_log.specs.Keeping.{AreKept, all_certain};
+ghost use Rattle.script_numbers.specs.Numbers.{AreNumbers};
 ghost use Rattle.ncs_core.specs.Accepting.{rows_after, rows_acceptance, IsRefusal};
 ghost use Rattle.ncs_core.specs.Starting.{IsStartCause, IsEntryCause, IsLoadedFront, entry_cause_of, load_cause_of};
 ghost use Rattle.ncs_core.specs.State.{ncs_of, devices_of, AreNew, AreOrders};
@@ -13,7 +14,8 @@ use crate::looks::Looks;
 use crate::ncs::Ncs;
 use crate::orders::Orders;
 use mos_fields::{NoMemory, let_go};
-use rundown_log::{Entry, Journal, KeepFault, Keeper};
+use rundown_log::{Entry, Journal, KeepFault, Keeper, edit_ro};
+use script_numbers::ScriptNumbers;
 use server_peer::Peer;
 use std::alloc::Global;
 
@@ -49,21 +51,37 @@ fn load_cause(fault: KeepFault) -> StartCause
     }
 }
 
-// Adds an entry to the orders and to the journal, where it is accepted. After an error both may be any.
-fn add_to(orders: &mut Orders, journal: &mut Journal, entry: &Entry) -> Result<(), CommandFault>
+// Adds an entry to the orders, to the journal and to the scripts, where it is accepted. After an error all may be any.
+fn add_to(
+    orders: &mut Orders,
+    journal: &mut Journal,
+    scripts: &mut ScriptNumbers,
+    entry: &Entry,
+) -> Result<(), CommandFault>
     ensures rows { OnOk result (orders.new ≡ rows_after orders.old (entry_of entry.now.edit)) }
     ensures journal { OnOk result (journal.new ≡ journal.old ++ entry.now ∷ []) }
     ensures accepted { OnOk result (rows_acceptance orders.old (entry_of entry.now.edit) ≡ None) }
+    ensures scripts { OnOk result (AreNumbers journal.old scripts.old → acceptance journal.old (entry_of entry.now.edit) ≡ None → AreNumbers (journal.old ++ entry_of entry.now.edit ∷ []) scripts.new) }
     ensures fault { IfErr result (λ f. IsRefusal (rows_acceptance orders.old (entry_of entry.now.edit)) f) }
 {
     edit_order(journal.allocator(), orders, entry.edit())?;
+    let number = journal.entry_count(edit_ro(entry.edit())) as u64;
+    scripts.reserve(entry.edit())?;
     journal.add(entry)?;
+    scripts.accept(entry.edit(), number);
     Ok(())
 }
 
 // The same by the journal that the orders are of.
-fn add(orders: &mut Orders, journal: &mut Journal, entry: &Entry) -> Result<(), CommandFault>
-    requires { AreOrders journal.old orders.old }
+fn add(
+    orders: &mut Orders,
+    journal: &mut Journal,
+    scripts: &mut ScriptNumbers,
+    entry: &Entry,
+) -> Result<(), CommandFault>
+    requires orders { AreOrders journal.old orders.old }
+    requires scripts { AreNumbers journal.old scripts.old }
+    ensures scripts { OnOk result (AreNumbers journal.new scripts.new) }
     ensures orders { OnOk result (AreOrders journal.new orders.new) }
     ensures journal { OnOk result (journal.new ≡ journal.old ++ entry.now ∷ []) }
     ensures accepted { OnOk result (acceptance journal.old entry.now ≡ None) }
@@ -71,16 +89,23 @@ fn add(orders: &mut Orders, journal: &mut Journal, entry: &Entry) -> Result<(), 
 {
     entry.has_ro_of_edit();
     orders.has_ascending_ids();
-    match add_to(orders, journal, entry) {
+    match add_to(orders, journal, scripts, entry) {
         Ok(()) => Ok(()),
         Err(fault) => Err(fault),
     }
 }
 
 // Adds entries that are kept behind those of the journal, one after the other. After an error orders and journal may be any.
-fn add_all(orders: &mut Orders, journal: &mut Journal, entries: &[Entry]) -> Result<(), StartCause>
+fn add_all(
+    orders: &mut Orders,
+    journal: &mut Journal,
+    scripts: &mut ScriptNumbers,
+    entries: &[Entry],
+) -> Result<(), StartCause>
     requires orders { AreOrders journal.old orders.old }
+    requires scripts { AreNumbers journal.old scripts.old }
     requires accepted { IsAccepted [] journal.old }
+    ensures scripts { OnOk result (AreNumbers journal.new scripts.new) }
     ensures orders { OnOk result (AreOrders journal.new orders.new) }
     ensures journal { OnOk result (journal.new ≡ journal.old ++ entries.now) }
     ensures accepted { OnOk result (IsAccepted [] (journal.old ++ entries.now)) }
@@ -89,7 +114,7 @@ fn add_all(orders: &mut Orders, journal: &mut Journal, entries: &[Entry]) -> Res
     let mut at = 0;
     'entries: while at < entries.len() {
         let number = journal.len() as u64;
-        match add(orders, journal, &entries[at]) {
+        match add(orders, journal, scripts, &entries[at]) {
             Ok(()) => {}
             Err(fault) => return Err(entry_cause(number, fault)),
         }
@@ -103,9 +128,12 @@ fn load_more<K: Keeper>(
     keeper: &mut K,
     orders: &mut Orders,
     journal: &mut Journal,
+    scripts: &mut ScriptNumbers,
 ) -> Result<(), StartCause>
     requires orders { AreOrders journal.old orders.old }
+    requires scripts { AreNumbers journal.old scripts.old }
     requires front { IsLoadedFront (K.kept keeper.old) journal.old }
+    ensures scripts { OnOk result (AreNumbers journal.new scripts.new) }
     ensures orders { OnOk result (AreOrders journal.new orders.new) }
     ensures loaded { OnOk result (AreKept (K.kept keeper.old) journal.new) }
     ensures accepted { OnOk result (IsAccepted [] journal.new) }
@@ -116,7 +144,7 @@ fn load_more<K: Keeper>(
     ensures fault { IfErr result (λ f. IsStartCause (K.kept keeper.old) (K.faults keeper.old) (K.faults keeper.new) f) }
 {
     match keeper.load_behind(journal.len()) {
-        Ok(entries) => add_all(orders, journal, entries.as_slice()),
+        Ok(entries) => add_all(orders, journal, scripts, entries.as_slice()),
         Err(fault) => Err(load_cause(fault)),
     }
 }
@@ -128,12 +156,14 @@ impl<K: Keeper> Ncs<K> {
         keeper: K,
         journal: Journal,
         orders: Orders,
+        scripts: ScriptNumbers,
         peers: Vec<Peer>,
     ) -> Result<Self, StartFault<K>>
         requires least { 1 ≤ length peers.items }
         requires most { length peers.items ≤ 64 }
         requires new { AreNew peers.items }
         requires orders { AreOrders journal orders }
+        requires scripts { AreNumbers journal scripts }
         requires front { IsLoadedFront (K.kept keeper) journal }
         ensures state { IfOk result (λ n. ncs_of n ≡ started n.server.journal n.server.faults) }
         ensures devices { IfOk result (λ n. devices_of n ≡ length peers.items) }
@@ -149,18 +179,21 @@ impl<K: Keeper> Ncs<K> {
         let mut keeper = keeper;
         let mut journal = journal;
         let mut orders = orders;
-        match load_more(&mut keeper, &mut orders, &mut journal) {
+        let mut scripts = scripts;
+        match load_more(&mut keeper, &mut orders, &mut journal, &mut scripts) {
             Ok(()) => Ok(Ncs {
                 keeper,
                 journal,
                 orders,
                 peers,
                 looks: Looks::new(),
+                scripts,
                 stopped: false,
             }),
             Err(cause) => {
                 let_go(journal);
                 let_go(orders);
+                let_go(scripts);
                 let_go(peers);
                 Err(StartFault { keeper, cause })
             }
@@ -173,11 +206,13 @@ impl<K: Keeper> Ncs<K> {
         keeper: K,
         journal: Journal,
         orders: Orders,
+        scripts: ScriptNumbers,
         devices: u32,
     ) -> Result<Self, StartFault<K>>
         requires least { 1 ≤ devices }
         requires most { devices ≤ 64 }
         requires orders { AreOrders journal orders }
+        requires scripts { AreNumbers journal scripts }
         requires front { IsLoadedFront (K.kept keeper) journal }
         ensures state { IfOk result (λ n. ncs_of n ≡ started n.server.journal n.server.faults) }
         ensures devices { IfOk result (λ n. devices_of n ≡ devices) }
@@ -191,10 +226,11 @@ impl<K: Keeper> Ncs<K> {
         ensures rises_err { IfErr result (λ f. K.faults keeper ≤ K.faults f.keeper) }
     {
         match new_peers(alloc, devices) {
-            Ok(peers) => Self::opened(keeper, journal, orders, peers),
+            Ok(peers) => Self::opened(keeper, journal, orders, scripts, peers),
             Err(NoMemory) => {
                 let_go(journal);
                 let_go(orders);
+                let_go(scripts);
                 Err(StartFault {
                     keeper,
                     cause: StartCause::NoMemory,
@@ -227,6 +263,7 @@ impl<K: Keeper> Ncs<K> {
             keeper,
             Journal::new(alloc),
             Orders::new(alloc),
+            ScriptNumbers::new(alloc),
             devices,
         )
     }
@@ -254,9 +291,10 @@ impl<K: Keeper> Ncs<K> {
             orders,
             peers,
             looks: _,
+            scripts,
             stopped: _,
         } = self;
         let_go(peers);
-        Self::begun(alloc, keeper, journal, orders, devices)
+        Self::begun(alloc, keeper, journal, orders, scripts, devices)
     }
 }

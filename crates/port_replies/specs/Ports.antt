@@ -1,7 +1,7 @@
 -- Which step of the server, or of a gateway, an event at its ports is, and what is answered.
 use Rattle.std.specs.Prelude.{◌≡◌, ℕ, List, [], false, Option, Some, None, if◌then◌else◌, nat_lt}
 use Rattle.mos_edits.specs.Texts.{Text}
-use Rattle.mos_edits.specs.Orders.{Order}
+use Rattle.mos_edits.specs.Orders.{Order, bare}
 use Rattle.mos_edits.specs.Entries.{Entry, order_now, headers}
 use Rattle.mos_machines.specs.Messages.{Message, Step, message_ro, status_text}
 use Rattle.mos_machines.specs.Messages.Status.{NotSupported, NoRunningOrder}
@@ -97,7 +97,7 @@ server_upper d c EndedOut = Asked.Steps (ServerEvent.UpperCut d c) said
 -- the order that an editor asked for, or that there is none
 abbrev pub order_said : Text → Option Order → values.Message
 order_said ro None = ack ro (status_text NoRunningOrder)
-order_said ro (Some o) = carried.RoList o
+order_said ro (Some o) = carried.RoList (bare o)
 
 -- An editor's message: an edit is a command, a request tells the orders as they are, and changes no view.
 abbrev pub editor_heard : List Entry → Message → Asked ServerEvent

@@ -32,6 +32,7 @@ pub fn edit_ro(edit: &Edit) -> &Id
         Edit::Metadata(patch) => &patch.as_ref().ro,
         Edit::Act { ro, action: _ } => ro,
         Edit::Air { ro, air: _ } => ro,
+        Edit::Script(script) => &script.as_ref().ro,
     }
 }
 

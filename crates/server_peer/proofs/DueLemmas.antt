@@ -6,7 +6,7 @@ use Rattle.mos_edits.proofs.Identifiers.{same-true, same-self}
 use Rattle.mos_edits.specs.Entries.{Entry, entry_count, edit_at}
 use Rattle.mos_machines.specs.Server.{ServerOut, View, due_at, due_in, first_due}
 use Rattle.mos_machines.specs.Server.View.{Out, Listed, In, From}
-use Rattle.mos_machines.specs.Server.ServerOut.{Idle, SendsEdit, SendsAgain, SendsBeat}
+use Rattle.mos_machines.specs.Server.ServerOut.{Idle, SendsEdit, SendsAgain, SendsScript, SendsBeat}
 use Rattle.mos_machines.specs.Tables.{look, row_ids}
 use Rattle.mos_machines.proofs.Least.{first_due-least, first_due-none, due_in-entry}
 use Rattle.order_table.specs.Rows.{IsAscending, value_or}
@@ -15,7 +15,15 @@ use Rattle.order_table.proofs.Looked.{look-found}
 use Rattle.rundown_log.specs.Positions.{positions}
 use Rattle.rundown_log.proofs.PositionLemmas.{stands, stands-at}
 use Rattle.server_peer.specs.declared.due.Due.{Due}
-use Rattle.server_peer.specs.Dues.{due_found, due_of, sooner, first_from, due_out, out_at, out_due}
+use Rattle.server_peer.specs.declared.due.DueKind.{DueKind}
+use Rattle.server_peer.specs.declared.due.DueKind.TheVariants as due
+use Rattle.server_peer.specs.Dues.{due_found, due_of, sooner, first_from, place_number, kind_out, due_out, out_at, out_due}
+
+-- what is sent isn't nothing
+pub due-sends : (kind : DueKind) (r : Text) (n : ℕ) → kind_out r n kind ≡ Idle → ⊥
+due-sends due.Edit r n f = absurd (cc)
+due-sends due.Again r n f = absurd (cc)
+due-sends (due.Script k) r n f = absurd (cc)
 
 -- an entry that a view makes due stands in the journal
 pub record DueAt (journal : List Entry) (r : Text) (v : View) (d : Due) : Type 0 where
@@ -24,12 +32,12 @@ pub record DueAt (journal : List Entry) (r : Text) (v : View) (d : Due) : Type 0
   pub ro : r ≡ entry.ro
   pub within : d.place < length journal
   pub out : due_at r v (entry_count (take d.place journal) r) ≡ due_out r d
-  pub numbered : d.again ≡ false → d.number < entry_count journal r
-  pub edit : entry.edit ≡ edit_at journal r (cond d.again (d.number - 1) d.number)
+  pub numbered : place_number d.kind d.number < entry_count journal r
+  pub edit : entry.edit ≡ edit_at journal r (place_number d.kind d.number)
 
-found-at : (journal : List Entry) (r : Text) (v : View) (k number p : ℕ) (again : Bool) → slice_get (positions r journal) k ≡ Some p → due_at r v k ≡ due_out r (record { place = p; number = number; again = again }) → cond again (number - 1) number ≡ k
-    → DueAt journal r v (record { place = p; number = number; again = again })
-found-at journal r v k number p again e out n =
+found-at : (journal : List Entry) (r : Text) (v : View) (k number p : ℕ) (kind : DueKind) → slice_get (positions r journal) k ≡ Some p → due_at r v k ≡ due_out r (record { place = p; number = number; kind = kind }) → place_number kind number ≡ k
+    → DueAt journal r v (record { place = p; number = number; kind = kind })
+found-at journal r v k number p kind e out n =
     let s = stands 0 r journal k p e in
     let place = s.place in
     let m_is : p ≡ s.m = omega (arith, place) in
@@ -42,34 +50,39 @@ found-at journal r v k number p again e out n =
       ro = same-true r s.entry.ro s.ro;
       within = omega (arith, m_is, w);
       out = ap (λ (i : ℕ). due_at r v (entry_count (take i journal) r)) m_is ∙ (ap (λ (i : ℕ). due_at r v i) count ∙ out);
-      numbered = λ f. let n_is : number ≡ k = sym (ap (λ (b : Bool). cond b (number - 1) number) f) ∙ n in omega (arith, n_is, below);
+      numbered = subst (λ (i : ℕ). i < entry_count journal r) (sym n) below;
       edit = s.edit ∙ ap (edit_at journal r) (sym n);
     }
 
-found-by : (journal : List Entry) (r : Text) (v : View) (d : Due) (k number : ℕ) (again : Bool) (o : Option ℕ) → slice_get (positions r journal) k ≡ o → due_found number again o ≡ Some d
-    → ((p : ℕ) → due_at r v k ≡ due_out r (record { place = p; number = number; again = again })) → cond again (number - 1) number ≡ k → DueAt journal r v d
-found-by journal r v d k number again None e h out n = absurd (cc)
-found-by journal r v d k number again (Some p) e h out n =
-    let made : Due = record { place = p; number = number; again = again } in
+found-by : (journal : List Entry) (r : Text) (v : View) (d : Due) (k number : ℕ) (kind : DueKind) (o : Option ℕ) → slice_get (positions r journal) k ≡ o → due_found number kind o ≡ Some d
+    → ((p : ℕ) → due_at r v k ≡ due_out r (record { place = p; number = number; kind = kind })) → place_number kind number ≡ k → DueAt journal r v d
+found-by journal r v d k number kind None e h out n = absurd (cc)
+found-by journal r v d k number kind (Some p) e h out n =
+    let made : Due = record { place = p; number = number; kind = kind } in
     let d_is : made ≡ d = cc in
-    subst (λ (x : Due). DueAt journal r v x) d_is (found-at journal r v k number p again e (out p) n)
+    subst (λ (x : Due). DueAt journal r v x) d_is (found-at journal r v k number p kind e (out p) n)
 
-edit-due : (r : Text) (n p : ℕ) → due_at r (In n false) n ≡ due_out r (record { place = p; number = n; again = false })
+edit-due : (r : Text) (n p : ℕ) → due_at r (In n false []) n ≡ due_out r (record { place = p; number = n; kind = due.Edit })
 edit-due r n p = grind (arith, nat_tests)
 
-from-due : (r : Text) (n p : ℕ) → due_at r (From n) n ≡ due_out r (record { place = p; number = n; again = false })
+from-due : (r : Text) (n p : ℕ) → due_at r (From n) n ≡ due_out r (record { place = p; number = n; kind = due.Edit })
 from-due r n p = grind (arith, nat_tests)
 
-again-due : (r : Text) (n p : ℕ) → due_at r (In (suc n) true) n ≡ due_out r (record { place = p; number = suc n; again = true })
+again-due : (r : Text) (n p : ℕ) → due_at r (In (suc n) true []) n ≡ due_out r (record { place = p; number = suc n; kind = due.Again })
 again-due r n p = grind (arith, nat_tests)
+
+script-due : (r : Text) (n p : ℕ) (again : Bool) (k : ℕ) (ks : List ℕ) → due_at r (In (suc n) again (k ∷ ks)) n ≡ due_out r (record { place = p; number = suc n; kind = due.Script k })
+script-due r n p again k ks = grind (arith, nat_tests)
 
 pub due-stands : (journal : List Entry) (r : Text) (v : View) (d : Due) → due_of journal r v ≡ Some d → DueAt journal r v d
 due-stands journal r Out d h = absurd (cc)
-due-stands journal r (Listed m) d h = absurd (cc)
-due-stands journal r (In n false) d h = found-by journal r (In n false) d n n false (slice_get (positions r journal) n) refl h (edit-due r n) refl
-due-stands journal r (In zero true) d h = absurd (cc)
-due-stands journal r (In (suc n) true) d h = found-by journal r (In (suc n) true) d n (suc n) true (slice_get (positions r journal) n) refl h (again-due r n) (omega arith)
-due-stands journal r (From k) d h = found-by journal r (From k) d k k false (slice_get (positions r journal) k) refl h (from-due r k) refl
+due-stands journal r (Listed m ks) d h = absurd (cc)
+due-stands journal r (In n false []) d h = found-by journal r (In n false []) d n n due.Edit (slice_get (positions r journal) n) refl h (edit-due r n) refl
+due-stands journal r (In zero true []) d h = absurd (cc)
+due-stands journal r (In (suc n) true []) d h = found-by journal r (In (suc n) true []) d n (suc n) due.Again (slice_get (positions r journal) n) refl h (again-due r n) (omega arith)
+due-stands journal r (In zero again (k ∷ ks)) d h = absurd (cc)
+due-stands journal r (In (suc n) again (k ∷ ks)) d h = found-by journal r (In (suc n) again (k ∷ ks)) d n (suc n) (due.Script k) (slice_get (positions r journal) n) refl h (λ p. script-due r n p again k ks) (omega arith)
+due-stands journal r (From k) d h = found-by journal r (From k) d k k due.Edit (slice_get (positions r journal) k) refl h (from-due r k) refl
 
 -- an entry of the journal that is due is what the view of its order makes due
 record IsDue (journal : List Entry) (r : Text) (v : View) (n : ℕ) : Type 0 where
@@ -80,8 +93,8 @@ record IsDue (journal : List Entry) (r : Text) (v : View) (n : ℕ) : Type 0 whe
 equal-by : (a b : ℕ) (c : Bool) → (a == b) ≡ c → c ≡ true → a ≡ b
 equal-by a b c e f = grind (arith, nat_tests)
 
-made-due : (journal : List Entry) (r : Text) (v : View) (k number n : ℕ) (again : Bool) → slice_get (positions r journal) k ≡ Some n → due_of journal r v ≡ due_found number again (slice_get (positions r journal) k) → IsDue journal r v n
-made-due journal r v k number n again e h = record { due = record { place = n; number = number; again = again }; is = h ∙ ap (due_found number again) e; place = refl }
+made-due : (journal : List Entry) (r : Text) (v : View) (k number n : ℕ) (kind : DueKind) → slice_get (positions r journal) k ≡ Some n → due_of journal r v ≡ due_found number kind (slice_get (positions r journal) k) → IsDue journal r v n
+made-due journal r v k number n kind e h = record { due = record { place = n; number = number; kind = kind }; is = h ∙ ap (due_found number kind) e; place = refl }
 
 -- the number of the view, where it is due
 number-by : (r : Text) (a b : ℕ) (o : ServerOut) (c : Bool) → (a == b) ≡ c → ((if c then o else Idle) ≡ Idle → ⊥) → a ≡ b
@@ -90,16 +103,19 @@ number-by r a b o false e n = absurd (n refl)
 
 is-due : (journal : List Entry) (r : Text) (v : View) (k n : ℕ) → slice_get (positions r journal) k ≡ Some n → (due_at r v k ≡ Idle → ⊥) → IsDue journal r v n
 is-due journal r Out k n e h = absurd (h refl)
-is-due journal r (Listed m) k n e h = absurd (h refl)
-is-due journal r (In m false) k n e h =
+is-due journal r (Listed m ks) k n e h = absurd (h refl)
+is-due journal r (In m false []) k n e h =
     let m_is = number-by r m k (SendsEdit r k) (m == k) refl h in
-    made-due journal r (In m false) k m n false e (ap (λ (i : ℕ). due_found m false (slice_get (positions r journal) i)) m_is)
-is-due journal r (In m true) k n e h =
+    made-due journal r (In m false []) k m n due.Edit e (ap (λ (i : ℕ). due_found m due.Edit (slice_get (positions r journal) i)) m_is)
+is-due journal r (In m true []) k n e h =
     let m_is : m ≡ suc k = number-by r m (k + 1) (SendsAgain r m) (m == k + 1) refl h ∙ omega arith in
-    subst (λ (i : ℕ). IsDue journal r (In i true) n) (sym m_is) (made-due journal r (In (suc k) true) k (suc k) n true e refl)
+    subst (λ (i : ℕ). IsDue journal r (In i true []) n) (sym m_is) (made-due journal r (In (suc k) true []) k (suc k) n due.Again e refl)
+is-due journal r (In m again (j ∷ js)) k n e h =
+    let m_is : m ≡ suc k = number-by r m (k + 1) (SendsScript r j m) (m == k + 1) refl h ∙ omega arith in
+    subst (λ (i : ℕ). IsDue journal r (In i again (j ∷ js)) n) (sym m_is) (made-due journal r (In (suc k) again (j ∷ js)) k (suc k) n (due.Script j) e refl)
 is-due journal r (From m) k n e h =
     let m_is = number-by r m k (SendsEdit r k) (m == k) refl h in
-    made-due journal r (From m) k m n false e (ap (λ (i : ℕ). due_found m false (slice_get (positions r journal) i)) m_is)
+    made-due journal r (From m) k m n due.Edit e (ap (λ (i : ℕ). due_found m due.Edit (slice_get (positions r journal) i)) m_is)
 
 -- the one that was found so far stands at this place or before it
 abbrev pub AtMost : Option Due → ℕ → Type 0
@@ -191,6 +207,7 @@ idle-or : (o : ServerOut) → (o ≡ Idle) ⊎ (o ≡ Idle → ⊥)
 idle-or Idle = inl refl
 idle-or (SendsEdit r k) = inr (λ e. absurd (cc))
 idle-or (SendsAgain r k) = inr (λ e. absurd (cc))
+idle-or (SendsScript r k m) = inr (λ e. absurd (cc))
 idle-or SendsBeat = inr (λ e. absurd (cc))
 
 record Got (journal : List Entry) (n : ℕ) : Type 0 where
@@ -235,9 +252,5 @@ first-due journal rows a = by (first_from journal None rows) refl
         let y = s.entry in
         let count : 0 + entry_count (take d.place journal) y.ro ≡ entry_count (take d.place journal) y.ro = omega arith in
         let at : due_in (look Out rows) (λ r. 0) journal d.place ≡ due_out y.ro d = due_in-entry (look Out rows) (λ r. 0) journal d.place y s.there ∙ (ap (λ (k : ℕ). due_at y.ro (look Out rows y.ro) k) count ∙ subst (λ (r : Text). due_at r (look Out rows r) (entry_count (take d.place journal) r) ≡ due_out r d) s.ro s.out) in
-        first_due-least (look Out rows) (λ r. 0) journal d.place (λ m l. idle-before journal rows m (omega (arith, l, w)) (later d e m l)) (λ i. sends d.again y.ro d.number (sym (let z : due_in (look Out rows) (λ r. 0) journal d.place ≡ due_out y.ro d = at in z) ∙ i))
+        first_due-least (look Out rows) (λ r. 0) journal d.place (λ m l. idle-before journal rows m (omega (arith, l, w)) (later d e m l)) (λ i. due-sends d.kind y.ro d.number (sym (let z : due_in (look Out rows) (λ r. 0) journal d.place ≡ due_out y.ro d = at in z) ∙ i))
         ∙ (at ∙ ap (out_at d) (sym s.there))
-      where
-        sends : (b : Bool) (r : Text) (n : ℕ) → cond b (SendsAgain r n) (SendsEdit r n) ≡ Idle → ⊥
-        sends true r n f = absurd (cc)
-        sends false r n f = absurd (cc)

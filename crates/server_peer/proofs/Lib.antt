@@ -4,4 +4,5 @@ pub mod Outcomes
 pub mod StatusTexts
 pub mod SendSteps
 pub mod LookLemmas
+mod NumberLemmas
 pub mod LookLaws

@@ -1,23 +1,26 @@
 -- How far nothing is due, through the server's steps at a device and through an entry at the end of the journal.
-use Rattle.std.proofs.Common.{◌≡◌, ℕ, zero, suc, ◌+◌, ◌<◌, ◌≤◌, Bool, true, false, List, [], ◌∷◌, ◌++◌, length, slice_get, take, Option, Some, None, refl, sym, ap, ◌∙◌, subst, if◌then◌else◌, cond, nat_lt, ◌==◌, arith}
+use Rattle.std.proofs.Common.{◌≡◌, ℕ, zero, suc, ◌+◌, ◌<◌, ◌≤◌, Bool, true, false, List, [], ◌∷◌, ◌++◌, length, slice_get, take, Option, Some, None, refl, sym, ap, ◌∙◌, subst, inl, inr, if◌then◌else◌, cond, nat_lt, ◌==◌, arith}
 use Rattle.std.proofs.lemmas.Bool.Decides.{nat_tests}
+use Rattle.std.proofs.lemmas.Bool.{cases_lt}
 use Rattle.mos_edits.specs.Texts.{Text, same_id, set_order}
 use Rattle.mos_edits.proofs.Identifiers.{same-true}
+use Rattle.mos_edits.specs.Scripts.{without_number}
 use Rattle.mos_edits.specs.Entries.{Entry, entries, entry_count, kind, edit_at}
 use Rattle.mos_fields.specs.declared.time.MosTime.{MosTime}
 use Rattle.mos_machines.specs.Messages.{Message}
 use Rattle.mos_machines.specs.Messages.Message.{Heartbeat, RoEdit, RoAck, RoReq, RoReqAll, RoList, RoListAll, RoElementStat, OtherMessage}
-use Rattle.mos_machines.specs.Server.{ServerOut, Upper, View, PeerState, due_at, due_in, is_ready, is_success, view_if, unlisted, settled, peer_answered, answered_by, peer_next, next_by, sent, beat_or_due, first_due, view_given, back_to, unasked}
+use Rattle.mos_machines.specs.Server.{ServerOut, Upper, View, PeerState, view_without, due_at, due_in, is_ready, is_success, view_if, unlisted, settled, peer_answered, answered_by, peer_next, next_by, sent, beat_or_due, first_due, view_given, back_to, unasked}
 use Rattle.mos_machines.specs.Server.View.{Out, Listed, In, From}
 use Rattle.mos_machines.specs.Server.Upper.{Down, Greeting, Open}
-use Rattle.mos_machines.specs.Server.ServerOut.{Idle, SendsEdit, SendsAgain, SendsBeat}
+use Rattle.mos_machines.specs.Server.ServerOut.{Idle, SendsEdit, SendsAgain, SendsScript, SendsBeat}
 use Rattle.mos_machines.specs.Tables.{look, map_rows}
 use Rattle.mos_machines.proofs.Least.{due_in-entry}
 use Rattle.mos_machines.proofs.RowTables.{look-map}
 use Rattle.rundown_log.specs.Positions.{positions}
-use Rattle.rundown_log.proofs.PositionLemmas.{stands, stands-at}
+use Rattle.rundown_log.proofs.PositionLemmas.{stands, stands-at, not-missing}
 use Rattle.server_peer.specs.declared.due.Due.{Due}
-use Rattle.server_peer.specs.Dues.{first_from, IsIdleBefore, StandsFrom, only_listed, entry_until, again_until, out_until}
+use Rattle.server_peer.specs.Parts.{flight_view}
+use Rattle.server_peer.specs.Dues.{first_from, IsIdleBefore, StandsFrom, only_listed, entry_until, again_until, script_until, out_until}
 use Rattle.server_peer.proofs.DueLemmas.{AtMost, idle-before}
 
 -- behind the end of the journal nothing is due
@@ -54,16 +57,14 @@ idle-same n journal views new s i = idle-by n journal new (λ m y l e. s y.ro (e
 
 due-unlisted : (r : Text) (v : View) (k : ℕ) → due_at r (unlisted v) k ≡ due_at r v k
 due-unlisted r Out k = refl
-due-unlisted r (Listed m) k = refl
-due-unlisted r (In n true) k = refl
-due-unlisted r (In n false) k = refl
+due-unlisted r (Listed m ks) k = refl
+due-unlisted r (In n again ks) k = refl
 due-unlisted r (From j) k = refl
 
 due-unsettled : (journal : List Entry) (r : Text) (v : View) (k : ℕ) → due_at r (settled journal false r v) k ≡ due_at r v k
 due-unsettled journal r Out k = refl
-due-unsettled journal r (Listed m) k = refl
-due-unsettled journal r (In n true) k = refl
-due-unsettled journal r (In n false) k = refl
+due-unsettled journal r (Listed m ks) k = refl
+due-unsettled journal r (In n again ks) k = refl
 due-unsettled journal r (From j) k = refl
 
 pub idle-unlisted : (n : ℕ) (journal : List Entry) (views : Text → View) → IsIdleBefore n journal views → IsIdleBefore n journal (λ r. unlisted (views r))
@@ -80,16 +81,15 @@ idle-set n journal views r v h i = idle-by n journal (set_order views r v) (λ m
     by m y l e true s = let q = same-true y.ro r s in subst (λ (z : Text). due_at z v (entry_count (take m journal) z) ≡ Idle) (sym q) (h m y l e q)
     by m y l e false s = idle-at n journal views i m y l e
 
-pub idle-listed : (n : ℕ) (journal : List Entry) (views : Text → View) (r : Text) (k : ℕ) → IsIdleBefore n journal views → IsIdleBefore n journal (set_order (λ q. settled journal false q (views q)) r (Listed k))
-idle-listed n journal views r k i = idle-set n journal (λ q. settled journal false q (views q)) r (Listed k) (λ m y l e s. refl) (idle-unsettled n journal views i)
+pub idle-listed : (n : ℕ) (journal : List Entry) (views : Text → View) (r : Text) (k : ℕ) (ks : List ℕ) → IsIdleBefore n journal views → IsIdleBefore n journal (set_order (λ q. settled journal false q (views q)) r (Listed k ks))
+idle-listed n journal views r k ks i = idle-set n journal (λ q. settled journal false q (views q)) r (Listed k ks) (λ m y l e s. refl) (idle-unsettled n journal views i)
 
 -- ---- lists that were taken
 
 settled-at : (journal : List Entry) (r : Text) (v : View) (k : ℕ) → due_at r v k ≡ Idle → due_at r (only_listed journal r v) k ≡ Idle → due_at r (settled journal true r v) k ≡ Idle
 settled-at journal r Out k h g = h
-settled-at journal r (Listed m) k h g = g
-settled-at journal r (In n true) k h g = h
-settled-at journal r (In n false) k h g = h
+settled-at journal r (Listed m ks) k h g = g
+settled-at journal r (In n again ks) k h g = h
 settled-at journal r (From j) k h g = h
 
 pub idle-settled : (n : ℕ) (journal : List Entry) (rows : List (Text × View)) → StandsFrom n (first_from journal None (map_rows (only_listed journal) rows)) → IsIdleBefore n journal (look Out rows) → IsIdleBefore n journal (λ r. settled journal true r (look Out rows r))
@@ -139,7 +139,7 @@ before-entry journal r k p m e h =
     let u = count-rises r journal m s.m (omega (arith, h, p_is)) in
     omega (arith, c, u)
 
-in-later : (r : Text) (n k : ℕ) → k < n → due_at r (In n false) k ≡ Idle
+in-later : (r : Text) (n k : ℕ) → k < n → due_at r (In n false []) k ≡ Idle
 in-later r n k h = by (n == k) refl
   where
     by : (b : Bool) → (n == k) ≡ b → (if b then SendsEdit r k else Idle) ≡ Idle
@@ -169,13 +169,21 @@ again-less : (journal : List Entry) (r : Text) (m from : ℕ) → again_until jo
 again-less journal r zero from = omega arith
 again-less journal r (suc k) from = until-less (slice_get (positions r journal) k) from
 
-pub out-less : (journal : List Entry) (u : Upper) (from : ℕ) → out_until journal u from ≤ from
-out-less journal Down from = omega arith
-out-less journal (Greeting c) from = omega arith
-out-less journal (Open c Idle) from = omega arith
-out-less journal (Open c (SendsEdit r k)) from = until-less (slice_get (positions r journal) k) from
-out-less journal (Open c (SendsAgain r m)) from = again-less journal r m from
-out-less journal (Open c SendsBeat) from = omega arith
+script-less : (v : View) (from : ℕ) → script_until v from ≤ from
+script-less Out from = omega arith
+script-less (Listed m ks) from = omega arith
+script-less (In zero again ks) from = omega arith
+script-less (In (suc n) again ks) from = omega arith
+script-less (From k) from = omega arith
+
+pub out-less : (journal : List Entry) (v : View) (u : Upper) (from : ℕ) → out_until journal v u from ≤ from
+out-less journal v Down from = omega arith
+out-less journal v (Greeting c) from = omega arith
+out-less journal v (Open c Idle) from = omega arith
+out-less journal v (Open c (SendsEdit r k)) from = until-less (slice_get (positions r journal) k) from
+out-less journal v (Open c (SendsAgain r m)) from = again-less journal r m from
+out-less journal v (Open c (SendsScript r k m)) from = script-less v from
+out-less journal v (Open c SendsBeat) from = omega arith
 
 -- the view of an order after its entry `k` was answered makes nothing due up to that entry
 entry-answered : (journal : List Entry) (views : Text → View) (r : Text) (k n from : ℕ) (taken : Bool) → k < n → IsIdleBefore from journal views
@@ -190,6 +198,84 @@ again-answered : (journal : List Entry) (views : Text → View) (r : Text) (m fr
 again-answered journal views r zero from taken i = λ m l. absurd (omega (arith, l))
 again-answered journal views r (suc k) from taken i = entry-answered journal views r k (suc k) from taken (omega arith) i
 
+-- behind a list of some entries what is due next stands no earlier once one of its scripts was taken
+
+not-next : (r : Text) (n : ℕ) (again : Bool) (j : ℕ) (js : List ℕ) (c : ℕ) → due_at r (In n again (j ∷ js)) c ≡ Idle → (n == c + 1) ≡ false
+not-next r n again j js c e = by (n == c + 1) refl e
+  where
+    by : (b : Bool) → (n == c + 1) ≡ b → (if b then SendsScript r j n else Idle) ≡ Idle → b ≡ false
+    by true f g = absurd (cc)
+    by false f g = refl
+
+due-neither : (r : Text) (n : ℕ) (again : Bool) (ks : List ℕ) (c : ℕ) → (n == c + 1) ≡ false → (n == c) ≡ false → due_at r (In n again ks) c ≡ Idle
+due-neither r n again (j ∷ js) c e f = ap (λ (b : Bool). if b then SendsScript r j n else Idle) e
+due-neither r n true [] c e f = ap (λ (b : Bool). if b then SendsAgain r n else Idle) e
+due-neither r n false [] c e f = ap (λ (b : Bool). if b then SendsEdit r c else Idle) f
+
+-- before an entry of an order stands the one before it
+record Before (journal : List Entry) (r : Text) (p c : ℕ) : Type 0 where
+  pub place : ℕ
+  pub less : place < p
+  pub entry : Entry
+  pub there : slice_get journal place ≡ Some entry
+  pub ro : entry.ro ≡ r
+  pub count : entry_count (take place journal) r ≡ c
+
+before : (journal : List Entry) (r : Text) (p c : ℕ) (y : Entry) → slice_get journal p ≡ Some y → y.ro ≡ r → entry_count (take p journal) r ≡ suc c → Before journal r p c
+before journal r p c y e f n = by (slice_get (positions r journal) c) refl
+  where
+    more : c < entry_count journal r
+    more =
+        let s = stands 0 y.ro journal (entry_count (take p journal) y.ro) (0 + p) (stands-at 0 journal p y e) in
+        let l : entry_count (take p journal) r < entry_count journal r = subst (λ (z : Text). entry_count (take p journal) z < entry_count journal z) f s.numbered in
+        omega (arith, l, n)
+
+    by : (o : Option ℕ) → slice_get (positions r journal) c ≡ o → Before journal r p c
+    by None g = absurd (not-missing r journal c more g)
+    by (Some q) g =
+        let s = stands 0 r journal c q g in
+        let count = s.count in
+        let l : s.m < p = elim (cases_lt s.m p) [
+          | inl l ↦ l
+          | inr h ↦ absurd (let u = count-rises r journal p s.m (omega (arith, h)) in omega (arith, u, count, n))
+        ] in
+        record { place = s.m; less = l; entry = s.entry; there = s.there; ro = sym (same-true r s.entry.ro s.ro); count = count }
+
+module _ (journal : List Entry) (views : Text → View) (r : Text) (k from : ℕ) (i : IsIdleBefore from journal views) where
+  idle-here : (p : ℕ) (y : Entry) → p < from → slice_get journal p ≡ Some y → y.ro ≡ r → due_at r (views r) (entry_count (take p journal) r) ≡ Idle
+  idle-here p y l e s = subst (λ (z : Text). due_at z (views z) (entry_count (take p journal) z) ≡ Idle) s (idle-at from journal views i p y l e)
+
+  script-taken : (n : ℕ) (again : Bool) (ks : List ℕ) → views r ≡ In (suc n) again ks → (p : ℕ) (y : Entry) → p < from → slice_get journal p ≡ Some y → y.ro ≡ r → due_at r (In (suc n) again (without_number k ks)) (entry_count (take p journal) r) ≡ Idle
+  script-taken n again [] v p y l e s = subst (λ (w : View). due_at r w (entry_count (take p journal) r) ≡ Idle) v (idle-here p y l e s)
+  script-taken n again (j ∷ js) v p y l e s = due-neither r (suc n) again (without_number k (j ∷ js)) (entry_count (take p journal) r) (next p y l e s) (here (suc n == entry_count (take p journal) r) refl)
+    where
+      next : (q : ℕ) (z : Entry) → q < from → slice_get journal q ≡ Some z → z.ro ≡ r → (suc n == entry_count (take q journal) r + 1) ≡ false
+      next q z h g f = not-next r (suc n) again j js (entry_count (take q journal) r) (subst (λ (w : View). due_at r w (entry_count (take q journal) r) ≡ Idle) v (idle-here q z h g f))
+
+      here : (b : Bool) → (suc n == entry_count (take p journal) r) ≡ b → b ≡ false
+      here false f = refl
+      here true f =
+          let c : entry_count (take p journal) r ≡ suc n = grind (arith, nat_tests, f) in
+          let b = before journal r p n y e s c in
+          let less = b.less in
+          let count = b.count in
+          let g = next b.place b.entry (omega (arith, l, less)) b.there b.ro in
+          absurd (grind (arith, nat_tests, g, count))
+
+  script-answered : (taken : Bool) → IsIdleBefore (script_until (views r) from) journal (set_order views r (view_without taken k (views r)))
+  script-answered taken = by (views r) refl taken
+    where
+      out : (n : ℕ) → n ≤ from → IsIdleBefore n journal (set_order views r Out)
+      out n h = idle-set n journal views r Out (λ p y l e s. refl) (idle-less n from journal views h i)
+
+      by : (v : View) → views r ≡ v → (b : Bool) → IsIdleBefore (script_until v from) journal (set_order views r (view_without b k v))
+      by Out e true = out from (omega arith)
+      by (Listed m ks) e true = out from (omega arith)
+      by (From j) e true = out from (omega arith)
+      by (In zero again ks) e true = λ m l. absurd (omega (arith, l))
+      by (In (suc n) again ks) e true = idle-set from journal views r (In (suc n) again (without_number k ks)) (λ p y l g s. script-taken n again ks e p y l g s) i
+      by v e false = out (script_until v from) (script-less v from)
+
 module _ (journal : List Entry) (note : Bool) (link : Option ℕ) (views : Text → View) (from : ℕ) (i : IsIdleBefore from journal views) where
   by-edit : (c : ℕ) (r q : Text) (k : ℕ) (taken b : Bool) (s : PeerState) → s.views ≡ views → IsIdleBefore (entry_until (slice_get (positions r journal) k) from) journal (if b then back_to s c r (view_if taken (k + 1)) else unasked s).0.views
   by-edit c r q k taken true s e = subst (λ (f : Text → View). IsIdleBefore (entry_until (slice_get (positions r journal) k) from) journal (set_order f r (view_if taken (k + 1)))) (sym e) (entry-answered journal views r k (k + 1) from taken (omega arith) i)
@@ -199,7 +285,11 @@ module _ (journal : List Entry) (note : Bool) (link : Option ℕ) (views : Text 
   by-again c r q m taken true s e = subst (λ (f : Text → View). IsIdleBefore (again_until journal r m from) journal (set_order f r (view_if taken m))) (sym e) (again-answered journal views r m from taken i)
   by-again c r q m taken false s e = idle-out (again_until journal r m from) journal
 
-  by-out : (u : Upper) (m : Message) → IsIdleBefore (out_until journal u from) journal (answered_by journal (record { upper = u; note = note; link = link; views = views }) u m).0.views
+  by-script : (c : ℕ) (r q : Text) (k : ℕ) (taken b : Bool) (s : PeerState) → s.views ≡ views → IsIdleBefore (script_until (views r) from) journal (if b then back_to s c r (view_without taken k (s.views r)) else unasked s).0.views
+  by-script c r q k taken true s e = subst (λ (f : Text → View). IsIdleBefore (script_until (views r) from) journal (set_order f r (view_without taken k (f r)))) (sym e) (script-answered journal views r k from i taken)
+  by-script c r q k taken false s e = idle-out (script_until (views r) from) journal
+
+  by-out : (u : Upper) (m : Message) → IsIdleBefore (out_until journal (flight_view u views) u from) journal (answered_by journal (record { upper = u; note = note; link = link; views = views }) u m).0.views
   by-out Down m = idle-out from journal
   by-out (Greeting c) (Heartbeat time) = i
   by-out (Greeting c) (RoAck q t) = idle-out from journal
@@ -238,8 +328,17 @@ module _ (journal : List Entry) (note : Bool) (link : Option ℕ) (views : Text 
   by-out (Open c (SendsAgain r k)) (RoListAll hs) = idle-out (again_until journal r k from) journal
   by-out (Open c (SendsAgain r k)) (RoElementStat q) = idle-out (again_until journal r k from) journal
   by-out (Open c (SendsAgain r k)) (OtherMessage q) = idle-out (again_until journal r k from) journal
+  by-out (Open c (SendsScript r k n)) (RoAck q t) = by-script c r q k (is_success false t) (same_id q r) (record { upper = Open c (SendsScript r k n); note = note; link = link; views = views }) refl
+  by-out (Open c (SendsScript r k n)) (Heartbeat time) = idle-out (script_until (views r) from) journal
+  by-out (Open c (SendsScript r k n)) (RoEdit x) = idle-out (script_until (views r) from) journal
+  by-out (Open c (SendsScript r k n)) (RoReq q) = idle-out (script_until (views r) from) journal
+  by-out (Open c (SendsScript r k n)) RoReqAll = idle-out (script_until (views r) from) journal
+  by-out (Open c (SendsScript r k n)) (RoList q o) = idle-out (script_until (views r) from) journal
+  by-out (Open c (SendsScript r k n)) (RoListAll hs) = idle-out (script_until (views r) from) journal
+  by-out (Open c (SendsScript r k n)) (RoElementStat q) = idle-out (script_until (views r) from) journal
+  by-out (Open c (SendsScript r k n)) (OtherMessage q) = idle-out (script_until (views r) from) journal
 
-pub idle-answered : (journal : List Entry) (s : PeerState) (from : ℕ) (m : Message) → IsIdleBefore from journal s.views → IsIdleBefore (out_until journal s.upper from) journal (peer_answered journal s m).0.views
+pub idle-answered : (journal : List Entry) (s : PeerState) (from : ℕ) (m : Message) → IsIdleBefore from journal s.views → IsIdleBefore (out_until journal (flight_view s.upper s.views) s.upper from) journal (peer_answered journal s m).0.views
 idle-answered journal s from m i = by-out journal s.note s.link s.views from i s.upper m
 
 -- ---- what is sent next leaves the views
@@ -249,6 +348,7 @@ sent-views journal now s c Idle = refl
 sent-views journal now s c SendsBeat = refl
 sent-views journal now s c (SendsEdit r k) = refl
 sent-views journal now s c (SendsAgain r m) = refl
+sent-views journal now s c (SendsScript r k m) = refl
 
 pub next-views : (journal : List Entry) (now : MosTime) (s : PeerState) → (peer_next journal now s).0.views ≡ s.views
 next-views journal now s = by s.upper
@@ -259,6 +359,7 @@ next-views journal now s = by s.upper
     by (Open c Idle) = sent-views journal now s c (beat_or_due s.note (first_due s.views (λ r. 0) journal))
     by (Open c (SendsEdit r k)) = refl
     by (Open c (SendsAgain r m)) = refl
+    by (Open c (SendsScript r k m)) = refl
     by (Open c SendsBeat) = refl
 
 -- ---- an entry at the end of the journal
@@ -290,7 +391,7 @@ idle-given n journal views r whole i = idle-set n journal views r (view_given wh
 
     by : (m : ℕ) (y : Entry) → m < n → slice_get journal m ≡ Some y → y.ro ≡ r → (b : Bool) (v : View) → views r ≡ v → due_at r (view_given b (entry_count journal r) v) (entry_count (take m journal) r) ≡ Idle
     by m y l e s true Out h = from-later r (entry_count journal r) (entry_count (take m journal) r) (fewer m y e s)
-    by m y l e s true (Listed k) h = refl
-    by m y l e s true (In k a) h = subst (λ (v : View). due_at r v (entry_count (take m journal) r) ≡ Idle) h (left m y l e s)
+    by m y l e s true (Listed k ks) h = refl
+    by m y l e s true (In k a ks) h = subst (λ (v : View). due_at r v (entry_count (take m journal) r) ≡ Idle) h (left m y l e s)
     by m y l e s true (From k) h = subst (λ (v : View). due_at r v (entry_count (take m journal) r) ≡ Idle) h (left m y l e s)
     by m y l e s false v h = subst (λ (v : View). due_at r v (entry_count (take m journal) r) ≡ Idle) h (left m y l e s)

@@ -6,13 +6,13 @@ use Rattle.mos_edits.specs.Texts.{Text}
 use Rattle.mos_edits.specs.Entries.{Entry, entry_count}
 use Rattle.mos_machines.specs.Server.{View, due_at, due_in}
 use Rattle.mos_machines.specs.Server.View.{Out}
-use Rattle.mos_machines.specs.Server.ServerOut.{Idle, SendsEdit, SendsAgain}
+use Rattle.mos_machines.specs.Server.ServerOut.{Idle}
 use Rattle.mos_machines.specs.Tables.{look, row_ids}
 use Rattle.mos_machines.proofs.Least.{due_in-entry}
 use Rattle.order_table.specs.Rows.{IsAscending}
 use Rattle.server_peer.specs.declared.due.Due.{Due}
 use Rattle.server_peer.specs.Dues.{due_of, first_from, due_out, IsIdleBefore, StandsFrom, at_place, here_of, due_here}
-use Rattle.server_peer.proofs.DueLemmas.{AtMost, first-row, first-is, due-stands, idle-before}
+use Rattle.server_peer.proofs.DueLemmas.{AtMost, due-sends, first-row, first-is, due-stands, idle-before}
 
 at-self : (d : Due) → at_place d.place (Some d) ≡ Some d
 at-self d = by (d.place == d.place) refl
@@ -41,11 +41,7 @@ module _ (journal : List Entry) (rows : List (Text × View)) (a : IsAscending (r
       let y = s.entry in
       let count : 0 + entry_count (take d.place journal) y.ro ≡ entry_count (take d.place journal) y.ro = omega arith in
       let at : due_in (look Out rows) (λ r. 0) journal d.place ≡ due_out y.ro d = due_in-entry (look Out rows) (λ r. 0) journal d.place y s.there ∙ (ap (λ (k : ℕ). due_at y.ro (look Out rows y.ro) k) count ∙ subst (λ (r : Text). due_at r (look Out rows r) (entry_count (take d.place journal) r) ≡ due_out r d) s.ro s.out) in
-      sends d.again y.ro d.number (sym at ∙ i)
-    where
-      sends : (b : Bool) (r : Text) (n : ℕ) → cond b (SendsAgain r n) (SendsEdit r n) ≡ Idle → ⊥
-      sends true r n f = absurd (cc)
-      sends false r n f = absurd (cc)
+      due-sends d.kind y.ro d.number (sym at ∙ i)
 
   -- the one that is found at the place of the look is the first
   pub look-begun : (n : ℕ) → IsIdleBefore n journal (look Out rows) → StandsFrom n (first_from journal None rows)

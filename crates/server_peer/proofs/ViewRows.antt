@@ -49,6 +49,7 @@ pub flight-map : (f : Text → View → View) (o : ServerOut) (rows : List (Text
 flight-map f ServerOut.Idle rows h = tt
 flight-map f (ServerOut.SendsEdit r k) rows h = find-map f r rows h
 flight-map f (ServerOut.SendsAgain r m) rows h = find-map f r rows h
+flight-map f (ServerOut.SendsScript r k m) rows h = find-map f r rows h
 flight-map f ServerOut.SendsBeat rows h = tt
 
 pub out-map : (f : Text → View → View) (u : Upper) (rows : List (Text × View)) → IsOutKnown u rows → IsOutKnown u (map_rows f rows)
@@ -60,6 +61,7 @@ flight-kept : (o : ServerOut) (old new : List (Text × View)) → ((q : Text) �
 flight-kept ServerOut.Idle old new k h = tt
 flight-kept (ServerOut.SendsEdit r n) old new k h = k r h
 flight-kept (ServerOut.SendsAgain r m) old new k h = k r h
+flight-kept (ServerOut.SendsScript r n m) old new k h = k r h
 flight-kept ServerOut.SendsBeat old new k h = tt
 
 pub out-kept : (u : Upper) (old new : List (Text × View)) → ((q : Text) → IsSome (find_row q old) → IsSome (find_row q new)) → IsOutKnown u old → IsOutKnown u new

@@ -3,69 +3,109 @@ ghost use Rattle.std.specs.Prelude.{◌≡◌, ◌<◌, ◌≤◌, None, true, f
 ghost use Rattle.mos_machines.specs.Server.View.{Out};
 ghost use Rattle.mos_machines.specs.Tables.{look};
 ghost use Rattle.rundown_log.specs.Positions.{positions};
-ghost use Rattle.server_peer.specs.Parts.{view_of};
-ghost use Rattle.server_peer.specs.Dues.{due_found, due_again, due_of as due_of_view, sooner as sooner_of, first_from, IsIdleBefore, at_place as at_place_of, due_here as due_here_of};
+ghost use Rattle.server_peer.specs.declared.due.DueKind.TheVariants as due;
+ghost use Rattle.server_peer.specs.Dues.{due_found as due_found_of, due_again, due_first, due_of as due_of_view, sooner as sooner_of, first_from, IsIdleBefore, at_place as at_place_of, due_here as due_here_of};
 
-use crate::view::{Seen, View, view_in_row};
-use crate::views::view_in;
+use crate::view::{Held, Seen};
 use mos_fields::Id;
 use order_table::OrderTable;
 use rundown_log::Journal;
 
-// An entry that is due: its place in the journal, its number in its order, or the number of the one after a READY that is
-// sent again.
+// What of an order is sent.
+#[derive(Clone, Copy)]
+pub enum DueKind {
+    // The entry with the number.
+    Edit,
+    // The READY before it, sent again.
+    Again,
+    // The script of entry `k`, sent again behind a list of so many entries.
+    Script { k: u64 },
+}
+
+// An entry that is due: its place in the journal, its number in its order or, where something is sent again, the number of
+// entries that the list had, and what is sent. What is sent again stands where the last entry of the list does.
 #[derive(Clone, Copy)]
 pub struct Due {
     pub place: usize,
     pub number: u64,
-    pub again: bool,
+    pub kind: DueKind,
 }
 
-// Entry `k` of an order, where it is there.
-fn due_at(journal: &Journal, ro: &Id, k: u64) -> Option<Due>
-    ensures { result ≡ due_found k false (slice_get (positions ro.now journal.now) k) }
-{
-    match journal.find(ro, k as usize) {
-        Some(place) => Some(Due {
-            place,
-            number: k,
-            again: false,
-        }),
-        None => None,
-    }
-}
-
-// The READY before entry `m` of an order, where it is there.
-fn again_at(journal: &Journal, ro: &Id, m: u64) -> Option<Due>
-    ensures { result ≡ due_again journal.now ro.now m }
-{
-    match m.checked_sub(1) {
-        Some(k) => again_from(m, journal.find(ro, k as usize)),
-        None => None,
-    }
-}
-
-fn again_from(m: u64, place: Option<usize>) -> Option<Due>
-    ensures { result ≡ due_found m true place }
+fn due_found(number: u64, kind: DueKind, place: Option<usize>) -> Option<Due>
+    ensures { result ≡ due_found_of number kind place }
 {
     match place {
         Some(place) => Some(Due {
             place,
-            number: m,
-            again: true,
+            number,
+            kind,
         }),
+        None => None,
+    }
+}
+
+// Entry `k` of an order, where it is there.
+fn due_at(journal: &Journal, ro: &Id, k: u64) -> Option<Due>
+    ensures { result ≡ due_found_of k due.Edit (slice_get (positions ro.now journal.now) k) }
+{
+    due_found(k, DueKind::Edit, journal.find(ro, k as usize))
+}
+
+// What is sent again behind a list of `m` entries, where it has any.
+fn again_at(journal: &Journal, ro: &Id, m: u64, kind: DueKind) -> Option<Due>
+    ensures { result ≡ due_again journal.now ro.now m kind }
+{
+    match m.checked_sub(1) {
+        Some(k) => due_found(m, kind, journal.find(ro, k as usize)),
+        None => None,
+    }
+}
+
+// What an order after `n` entries makes due, of which this is the first script that is due.
+pub fn due_behind_list(
+    journal: &Journal,
+    ro: &Id,
+    n: u64,
+    again: bool,
+    script: Option<u64>,
+) -> Option<Due>
+    ensures { result ≡ due_first journal.now ro.now n again script }
+{
+    match script {
+        Some(k) => again_at(journal, ro, n, DueKind::Script { k }),
+        None => {
+            if again {
+                again_at(journal, ro, n, DueKind::Again)
+            } else {
+                due_at(journal, ro, n)
+            }
+        }
+    }
+}
+
+// The first of some numbers.
+pub fn first_number(numbers: &[u64]) -> Option<u64>
+    ensures { result ≡ slice_get numbers.now 0 }
+{
+    match numbers.first() {
+        Some(number) => Some(*number),
         None => None,
     }
 }
 
 // What a view makes due.
-pub fn due_of(journal: &Journal, ro: &Id, view: View) -> Option<Due>
-    ensures { result ≡ due_of_view journal.now ro.now (view_of view) }
+pub fn due_of(journal: &Journal, ro: &Id, seen: &Seen) -> Option<Due>
+    ensures { result ≡ due_of_view journal.now ro.now seen.now }
 {
-    match view {
-        View::In { n, again: false } => due_at(journal, ro, n),
-        View::In { n, again: true } => again_at(journal, ro, n),
-        View::From { k } => due_at(journal, ro, k),
+    match seen.held {
+        Held::In { n, again } => due_behind_list(
+            journal,
+            ro,
+            n,
+            again,
+            first_number(&seen.scripts),
+        ),
+        Held::From { k } => due_at(journal, ro, k),
         _ => None,
     }
 }
@@ -87,7 +127,7 @@ fn first_due(journal: &Journal, rows: &[(Id, Seen)]) -> Option<Due>
 {
     let mut best = None;
     'rows: for row in rows {
-        best = sooner(best, due_of(journal, &row.0, view_in_row(&row.1)));
+        best = sooner(best, due_of(journal, &row.0, &row.1));
     }
     best
 }
@@ -108,7 +148,10 @@ fn due_here(journal: &Journal, views: &OrderTable<Seen>, place: usize) -> Option
     ensures { result ≡ due_here_of journal.now views.now place }
 {
     let ro = journal.at(place).ro();
-    at_place(place, due_of(journal, ro, view_in(views, ro)))
+    match views.find(ro) {
+        Some(seen) => at_place(place, due_of(journal, ro, seen)),
+        None => None,
+    }
 }
 
 // The first entry from this place on that is due, where none before it is.

@@ -5,31 +5,14 @@ ghost use Rattle.mos_edits.specs.Entries.{entry_count};
 ghost use Rattle.mos_machines.specs.Server.{View as ServerView, is_open, peer_settled, settled, view_given};
 ghost use Rattle.mos_machines.specs.Tables.{peer_of, map_rows};
 ghost use Rattle.order_table.specs.Rows.{find_row};
-ghost use Rattle.server_peer.specs.Parts.{view_of, IsRoomFor};
+ghost use Rattle.server_peer.specs.Parts.{AreBelow, IsRoomFor};
 
+use crate::after::After;
 use crate::changes::Settling;
 use crate::peer::Peer;
-use crate::view::View;
-use crate::views::{know, set, view_in};
+use crate::views::{know, set_listed, step};
 use mos_fields::{Id, NoMemory};
 use rundown_log::Journal;
-
-// The view once a whole-order edit was accepted, which is entry `n`.
-fn once_given(view: View, n: u64) -> View
-    ensures { view_of result ≡ view_given true n (view_of view) }
-{
-    match view {
-        View::Out => View::From { k: n },
-        view => view,
-    }
-}
-
-// All entries of an order are on their way as a list.
-fn listed_view(count: usize) -> View
-    ensures { view_of result ≡ ServerView.Listed count }
-{
-    View::Listed { m: count as u64 }
-}
 
 impl Peer {
     /// A message of the device was heard: where it was a heartbeat, the device took each list that was on its way, else it
@@ -49,13 +32,15 @@ impl Peer {
         know(&mut self.views, ro)
     }
 
-    /// A request of an order was heard, and all its entries are on their way as a list. It takes no memory.
-    pub fn listed(&mut self, journal: &Journal, ro: &Id)
-        requires { IsSome (find_row ro.now self.old.views) }
-        ensures { peer_of self.new ≡ record (peer_of self.old) { views = set_order (λ q. settled journal.now false q ((peer_of self.old).views q)) ro.now (ServerView.Listed (entry_count journal.now ro.now)) } }
+    /// A request of an order was heard, and all its entries are on their way as a list, behind which the scripts of these are
+    /// due. It takes no memory.
+    pub fn listed(&mut self, journal: &Journal, ro: &Id, scripts: Vec<u64>)
+        requires there { IsSome (find_row ro.now self.old.views) }
+        requires below { AreBelow (entry_count journal.now ro.now) scripts.items }
+        ensures { peer_of self.new ≡ record (peer_of self.old) { views = set_order (λ q. settled journal.now false q ((peer_of self.old).views q)) ro.now (ServerView.Listed (entry_count journal.now ro.now) scripts.items) } }
     {
         self.settle(journal, false);
-        set(&mut self.views, ro, listed_view(journal.entry_count(ro)));
+        set_listed(&mut self.views, ro, journal.entry_count(ro) as u64, scripts);
     }
 
     /// Makes room for the view that an accepted edit of this order may leave, which may be a whole-order edit. Nothing
@@ -94,7 +79,6 @@ impl Peer {
         requires { IsSome (find_row ro.now self.old.views) }
         ensures { peer_of self.new ≡ record (peer_of self.old) { views = set_order (peer_of self.old).views ro.now (view_given true n ((peer_of self.old).views ro.now)) } }
     {
-        let view = once_given(view_in(&self.views, ro), n);
-        set(&mut self.views, ro, view);
+        step(&mut self.views, ro, After::Given { n });
     }
 }

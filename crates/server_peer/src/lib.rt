@@ -4,12 +4,14 @@
 //! part of a step of the server, by its definition in `mos_machines`.
 #![tactic(auto)]
 
+mod after;
 mod answers;
 mod changes;
 mod due;
 mod hearing;
 mod known;
 mod peer;
+mod ready;
 mod sends;
 mod statuses;
 mod until;

@@ -3,12 +3,11 @@ ghost use Rattle.std.specs.Prelude.{◌≡◌, [], false};
 ghost use Rattle.mos_machines.specs.Messages.{is_link as is_link_of};
 ghost use Rattle.mos_machines.specs.Server.{Upper as ServerUpper, no_peer, upper_link, is_busy as is_busy_of, peer_opened, peer_cut, peer_beat, peer_linked};
 ghost use Rattle.mos_machines.specs.Tables.{peer_of};
-ghost use Rattle.server_peer.specs.Parts.{upper_of, view_of};
+ghost use Rattle.server_peer.specs.Parts.{upper_of, shown_view};
 
 use crate::changes::Unlisting;
 use crate::upper::{Upper, is_link};
 use crate::view::{Seen, View};
-use crate::views::view_in;
 use mos_fields::Id;
 use order_table::OrderTable;
 use std::alloc::Global;
@@ -123,10 +122,13 @@ impl Peer {
         self.link
     }
 
-    /// What the server takes the device to hold of an order. It takes no memory.
+    /// What the server takes the device to hold of an order; of the scripts that are due their number. It takes no memory.
     pub fn view(&self, ro: &Id) -> View
-        ensures { view_of result ≡ (peer_of self.now).views ro.now }
+        ensures { result ≡ shown_view ((peer_of self.now).views ro.now) }
     {
-        view_in(&self.views, ro)
+        match self.views.find(ro) {
+            Some(seen) => seen.shown(),
+            None => View::Out,
+        }
     }
 }

@@ -1,24 +1,29 @@
 //! What the server sends a device next.
-ghost use Rattle.std.specs.Prelude.{◌≡◌, ◌≤◌, length, true, Some, OnOk, OnErr, IfOk, IsSome};
+ghost use Rattle.std.specs.Prelude.{◌≡◌, ◌≤◌, ◌<◌, length, slice_get, true, Some, None, OnOk, OnErr, IfOk, IsSome};
+ghost use Rattle.mos_edits.specs.Entries.{entry_count};
+ghost use Rattle.mos_machines.specs.Server.View.{Out};
 ghost use Rattle.mos_machines.specs.Server.{Upper as ServerUpper, peer_answered, peer_next, peer_settled};
 ghost use Rattle.mos_machines.specs.Messages.{Message as Said};
-ghost use Rattle.mos_machines.specs.Tables.{peer_of};
+ghost use Rattle.mos_machines.specs.Tables.{look, peer_of};
+ghost use Rattle.rundown_log.specs.Positions.{positions};
 ghost use Rattle.mos_machines.specs.Values.{edit_message as edit_message_of};
 ghost use Rattle.order_table.specs.Rows.{find_row};
 ghost use Rattle.machine_answers.specs.declared.answers.Sent.TheVariants as sents;
 ghost use Rattle.machine_answers.specs.declared.answers.Tag.TheVariants as tags;
 ghost use Rattle.mos_values.specs.declared.message.Message.TheVariants as carried;
 ghost use Rattle.server_peer.specs.Parts.{out_of, upper_of, link_if_idle as link_if_idle_of, idle_link as idle_link_of, sent_of, sent_idle, IsNumbered};
-ghost use Rattle.server_peer.specs.Dues.{due_tag as due_tag_of, due_out, IsIdleBefore};
+ghost use Rattle.server_peer.specs.Dues.{due_tag as due_tag_of, due_out, first_from, IsIdleBefore, IsScriptDue, IsSource};
 
-use crate::due::{Due, entries_in, first_due_from};
+use crate::due::{Due, DueKind, entries_in, first_due_from};
 use crate::peer::Peer;
 use crate::until::{first_listed, out_until, place_until};
 use crate::upper::{ServerOut, Upper};
+use crate::view::Seen;
 use machine_answers::{Sent, Tag};
 use mos_edits::edit_message;
 use mos_fields::{Id, MosTime, NoMemory};
 use mos_values::Message;
+use order_table::OrderTable;
 use rundown_log::{Entry, Journal};
 
 // The link of an open connection on which nothing is in flight.
@@ -44,10 +49,14 @@ fn link_if_idle(link: u64, out: &ServerOut) -> Option<u64>
 fn due_tag(ro: Id, due: Due) -> Tag
     ensures { result ≡ due_tag_of ro due }
 {
-    if due.again {
-        Tag::Again { ro, m: due.number }
-    } else {
-        Tag::Edit { ro, k: due.number }
+    match due.kind {
+        DueKind::Edit => Tag::Edit { ro, k: due.number },
+        DueKind::Again => Tag::Again { ro, m: due.number },
+        DueKind::Script { k } => Tag::Script {
+            ro,
+            k,
+            m: due.number,
+        },
     }
 }
 
@@ -55,10 +64,14 @@ fn due_tag(ro: Id, due: Due) -> Tag
 fn due_flight(ro: Id, due: Due) -> ServerOut
     ensures { out_of result ≡ due_out ro due }
 {
-    if due.again {
-        ServerOut::Again { ro, m: due.number }
-    } else {
-        ServerOut::Edit { ro, k: due.number }
+    match due.kind {
+        DueKind::Edit => ServerOut::Edit { ro, k: due.number },
+        DueKind::Again => ServerOut::Again { ro, m: due.number },
+        DueKind::Script { k } => ServerOut::Script {
+            ro,
+            k,
+            m: due.number,
+        },
     }
 }
 
@@ -80,6 +93,29 @@ fn beat_at(now: &MosTime) -> Sent
     Sent::Out {
         message: Message::Heartbeat(*now),
         tag: Tag::Beat,
+    }
+}
+
+// The law of the views that an entry whose script is due stands before the end of the list.
+fn has_source(views: &OrderTable<Seen>, journal: &Journal, ro: &Id, k: u64)
+    requires { IsScriptDue journal.now ro.now k (look Out views.now ro.now) }
+    ensures { k < entry_count journal.now ro.now }
+{
+    match views.find(ro) {
+        Some(seen) => seen.has_earlier_scripts(),
+        None => {}
+    }
+}
+
+// The place of the entry whose script is due.
+fn script_place(views: &OrderTable<Seen>, journal: &Journal, ro: &Id, k: u64) -> usize
+    requires { IsScriptDue journal.now ro.now k (look Out views.now ro.now) }
+    ensures { slice_get (positions ro.now journal.now) k ≡ Some result }
+{
+    has_source(views, journal, ro, k);
+    match journal.find(ro, k as usize) {
+        Some(place) => place,
+        None => unreachable!(),
     }
 }
 
@@ -118,6 +154,24 @@ impl Peer {
         Ok(sent)
     }
 
+    // The place of the entry that is sent: where a script is sent again, that of the entry which brought it.
+    fn source(&self, journal: &Journal, due: Due) -> usize
+        requires { first_from journal.now None self.now.views ≡ Some due }
+        ensures { IsSource journal.now due result }
+    {
+        self.views.has_ascending_ids();
+        match due.kind {
+            DueKind::Script { k } => script_place(
+                &self.views,
+                journal,
+                journal.at(due.place).ro(),
+                k,
+            ),
+            DueKind::Edit => due.place,
+            DueKind::Again => due.place,
+        }
+    }
+
     fn send(
         &mut self,
         journal: &Journal,
@@ -134,7 +188,10 @@ impl Peer {
         self.views.has_ascending_ids();
         let _count = entries_in(journal);
         match first_due_from(journal, &self.views, from) {
-            Some(due) => self.send_entry(link, journal.at(due.place), due),
+            Some(due) => {
+                let source = self.source(journal, due);
+                self.send_entry(link, journal.at(source), due)
+            }
             None => Ok(self.send_beat(link, now)),
         }
     }
@@ -192,7 +249,7 @@ impl Peer {
         ensures idle { (m : Said) → IsIdleBefore result journal.now (peer_answered journal.now (peer_of self.now) m).0.views }
         ensures within { result ≤ from }
     {
-        out_until(journal, &self.upper, from)
+        out_until(journal, &self.views, &self.upper, from)
     }
 
     /// A place before which nothing is due once a heartbeat of the device is heard, where it is known that no entry before

@@ -16,6 +16,8 @@ pub enum ServerOut {
     Edit { ro: Id, k: u64 },
     /// The READY before entry `m` of an order, sent again.
     Again { ro: Id, m: u64 },
+    /// The script of entry `k` of an order, sent again behind a list of `m` entries.
+    Script { ro: Id, k: u64, m: u64 },
     /// A heartbeat.
     Beat,
 }
@@ -50,6 +52,11 @@ impl ServerOut {
             ServerOut::Idle => false,
             ServerOut::Edit { ro: sent, k: _ } => is_same(ro, sent),
             ServerOut::Again { ro: sent, m: _ } => is_same(ro, sent),
+            ServerOut::Script {
+                ro: sent,
+                k: _,
+                m: _,
+            } => is_same(ro, sent),
             ServerOut::Beat => false,
         }
     }

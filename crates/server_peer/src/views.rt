@@ -3,21 +3,12 @@ ghost use Rattle.std.specs.Prelude.{◌≡◌, ℕ, List, OnOk, IsSome};
 ghost use Rattle.mos_machines.specs.Server.{View as ServerView};
 ghost use Rattle.mos_machines.specs.Tables.{look, put_row};
 ghost use Rattle.order_table.specs.Rows.{find_row};
-ghost use Rattle.server_peer.specs.Parts.{view_of};
+ghost use Rattle.server_peer.specs.Parts.{AreBelow, after_view};
 
-use crate::view::{Seen, View, view_in_row};
-use mos_fields::{Id, NoMemory};
+use crate::after::After;
+use crate::view::Seen;
+use mos_fields::{Id, NoMemory, let_go};
 use order_table::OrderTable;
-
-// The view of an order.
-pub fn view_in(views: &OrderTable<Seen>, ro: &Id) -> View
-    ensures { view_of result ≡ look ServerView.Out views.now ro.now }
-{
-    match views.find(ro) {
-        Some(seen) => view_in_row(seen),
-        None => View::Out,
-    }
-}
 
 // Gives an order a row, where it has none. Only that takes memory.
 pub fn know(views: &mut OrderTable<Seen>, ro: &Id) -> Result<(), NoMemory>
@@ -27,15 +18,29 @@ pub fn know(views: &mut OrderTable<Seen>, ro: &Id) -> Result<(), NoMemory>
 {
     match views.find(ro) {
         Some(_) => Ok(()),
-        None => views.put(ro, Seen::out()),
+        None => views.put(ro, Seen::out(views.allocator())),
     }
 }
 
-// Says what the view of an order is that has a row. It takes no memory.
-pub fn set(views: &mut OrderTable<Seen>, ro: &Id, view: View)
+// Changes the view of an order that has a row. It takes no memory.
+pub fn step(views: &mut OrderTable<Seen>, ro: &Id, after: After)
     requires { IsSome (find_row ro.now views.old) }
-    ensures { views.new ≡ put_row ro.now (view_of view) views.old }
+    ensures { views.new ≡ put_row ro.now (after_view after (look ServerView.Out views.old ro.now)) views.old }
 {
-    let mut seen = Seen { view };
+    let mut seen = Seen::out(views.allocator());
     views.exchange(ro, &mut seen);
+    seen.step(after);
+    views.exchange(ro, &mut seen);
+    let_go(seen);
+}
+
+// A list of an order that has a row is on its way. It takes no memory.
+pub fn set_listed(views: &mut OrderTable<Seen>, ro: &Id, m: u64, scripts: Vec<u64>)
+    requires there { IsSome (find_row ro.now views.old) }
+    requires below { AreBelow m scripts.items }
+    ensures { views.new ≡ put_row ro.now (ServerView.Listed m scripts.items) views.old }
+{
+    let mut seen = Seen::listed(m, scripts);
+    views.exchange(ro, &mut seen);
+    let_go(seen);
 }

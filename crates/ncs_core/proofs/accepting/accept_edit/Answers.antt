@@ -20,7 +20,7 @@ returns-then-leaves_all-clause-accepted c =
     let edit = c.args.edit.now in
     let left : leaves_all rows edit ≡ true = ap (λ (z : List (Text × Option Order)). leaves_all z c.args.edit.now) (sym c.orders.view_is) ∙ sym c.if-leaves_all.ensures in
     on-ok c.stay_within.result c.stay_within.ensures.within
-    (λ w. sym (air-acceptance rows edit c.has_ascending_ids.ensures left) ∙ ap (refusal (Done (look None rows (edit_ro edit)))) (ap (rows_over rows) (sym c.edit_ro.ensures) ∙ w))
+    (λ w. sym (air-acceptance rows edit c.has_ascending_ids.ensures left) ∙ ap (refusal (Done (look None rows (edit_ro edit)))) ((λ i. rows_over rows (sym c.edit_ro.ensures i) (sym c.script_overrun.ensures i)) ∙ w))
 
 pub returns-then-leaves_all-clause-fault : goal.returns-then-leaves_all-clause-fault
 returns-then-leaves_all-clause-fault c =
@@ -28,5 +28,5 @@ returns-then-leaves_all-clause-fault c =
     let edit = c.args.edit.now in
     let o = look None rows (edit_ro edit) in
     let left : leaves_all rows edit ≡ true = ap (λ (z : List (Text × Option Order)). leaves_all z c.args.edit.now) (sym c.orders.view_is) ∙ sym c.if-leaves_all.ensures in
-    let why = ap (λ (r : Text). refusal (Done o) (rows_over rows r)) c.edit_ro.ensures ∙ air-acceptance rows edit c.has_ascending_ids.ensures left in
+    let why = (λ i. refusal (Done o) (rows_over rows (c.edit_ro.ensures i) (c.script_overrun.ensures i))) ∙ air-acceptance rows edit c.has_ascending_ids.ensures left in
     if-err c.stay_within.result c.stay_within.ensures.full (λ f h. subst (λ (w : Option Refusal). IsRefusal w f) why (h o))

@@ -1,6 +1,6 @@
 use Rattle.std.proofs.Common.{◌≡◌, List, Option, None, sym, ap, ◌∙◌, subst}
 use Rattle.element_action.specs.Answers.{IsCause, edit_takes_memory}
-use Rattle.mos_edits.specs.Entries.{Entry, Refusal, entry_of, refusal}
+use Rattle.mos_edits.specs.Entries.{Entry, Refusal, entry_of, over_send, refusal}
 use Rattle.mos_edits.specs.KeyedLists.Applied.{Done}
 use Rattle.mos_edits.specs.Orders.{Order, apply, edit_ro}
 use Rattle.mos_edits.specs.Sizes.{at_most_64_bits, list_all_units}
@@ -61,7 +61,7 @@ returns-in-Ok-within-clause-accepted c =
     let same = held-order rows c.know.new.orders r e.ro c.exchange.new.value c.in_ok-know.ensures.same c.exchange.ensures.value n in
     let done : applied_to rows e ≡ Done o = ap (λ (p : Option Order). apply e.ro p e.edit) (sym same) ∙ c.in-Ok.ensures.ok in
     let edited = edited-rows rows c.know.new.orders c.exchange.new.self c.exchange-2.new.self r o c.in_ok-know.ensures.rows c.exchange.ensures.table c.exchange-2.ensures.table in
-    sym (done-acceptance rows e r o n done) ∙ ap (refusal (Done o)) (ap (λ (z : List (Text × Option Order)). rows_over z r) (sym edited) ∙ c.in-Ok-within.ensures.within)
+    sym (done-acceptance rows e r o n done) ∙ ap (refusal (Done o)) ((λ i. rows_over (sym edited i) r (sym c.script_overrun.ensures i)) ∙ c.in-Ok-within.ensures.within)
 
 pub returns-in-Err-within-clause-fault : goal.returns-in-Err-within-clause-fault
 returns-in-Err-within-clause-fault c =
@@ -73,7 +73,7 @@ returns-in-Err-within-clause-fault c =
     let same = held-order rows c.know.new.orders r e.ro c.exchange.new.value c.in_ok-know.ensures.same c.exchange.ensures.value n in
     let done : applied_to rows e ≡ Done o = ap (λ (p : Option Order). apply e.ro p e.edit) (sym same) ∙ c.in-Ok.ensures.ok in
     let edited = edited-rows rows c.know.new.orders c.exchange.new.self c.exchange-2.new.self r o c.in_ok-know.ensures.rows c.exchange.ensures.table c.exchange-2.ensures.table in
-    let why : refusal (Done o) (rows_over c.exchange-2.new.self r) ≡ rows_acceptance rows e = ap (λ (z : List (Text × Option Order)). refusal (Done o) (rows_over z r)) edited ∙ done-acceptance rows e r o n done in
+    let why : refusal (Done o) (rows_over c.exchange-2.new.self r c.script_overrun.result) ≡ rows_acceptance rows e = (λ i. refusal (Done o) (rows_over (edited i) r (c.script_overrun.ensures i))) ∙ done-acceptance rows e r o n done in
     subst (λ (z : Option Refusal). IsRefusal z c.in-Err-within.fault) why (c.in-Err-within.ensures.full o)
 
 pub returns-in-Err-clause-fault : goal.returns-in-Err-clause-fault
@@ -82,4 +82,4 @@ returns-in-Err-clause-fault c =
     let e : Entry = entry_of c.args.edit.now in
     let r = c.edit_ro-ro.result.now in
     let same = held-order rows c.know.new.orders r e.ro c.exchange.new.value c.in_ok-know.ensures.same c.exchange.ensures.value c.edit_ro-ro.ensures in
-    c.told.ensures _ (applied_to rows e) (rows_over (rows_after rows e) e.ro) (subst (λ (p : Option Order). IsCause (edit_takes_memory c.args.edit.now) (apply (edit_ro c.args.edit.now) p c.args.edit.now) c.in-Err.fault) same c.in-Err.ensures.fault)
+    c.told.ensures _ (applied_to rows e) (rows_over (rows_after rows e) e.ro (over_send e.edit)) (subst (λ (p : Option Order). IsCause (edit_takes_memory c.args.edit.now) (apply (edit_ro c.args.edit.now) p c.args.edit.now) c.in-Err.fault) same c.in-Err.ensures.fault)

@@ -31,7 +31,7 @@ pub returns-in-Ok-clause-order : goal.returns-in-Ok-clause-order
 returns-in-Ok-clause-order c = sym (found-order c.args.orders.now c.args.ro.now c.exchange.new.value c.exchange.ensures.value)
 
 pub returns-in-Err-clause-fault : goal.returns-in-Err-clause-fault
-returns-in-Err-clause-fault c = subst (λ (rows : List (Text × Option Order)). IsRefusal (refusal (Done c.args.order.now) (rows_over rows c.args.ro.now)) c.in-Err.fault) c.exchange.ensures.table (c.in-Err.ensures.full c.args.order.now)
+returns-in-Err-clause-fault c = subst (λ (rows : List (Text × Option Order)). IsRefusal (refusal (Done c.args.order.now) (rows_over rows c.args.ro.now c.args.next)) c.in-Err.fault) c.exchange.ensures.table (c.in-Err.ensures.full c.args.order.now)
 
 pub returns-in-Err-clause-err : goal.returns-in-Err-clause-err
 returns-in-Err-clause-err c =

@@ -8,4 +8,4 @@ use Rattle.ncs_core.proofs.accepting.stay_within.Goals as goal
 
 pub returns-in-Err-clause-full : goal.returns-in-Err-clause-full
 returns-in-Err-clause-full c =
-    λ order. subst (λ (rows : List (Text × Option Order)). IsRefusal (refusal (Done order) (rows_over rows c.args.ro.now)) c.in-Err.fault) c.orders.view_is (c.in-Err.ensures.full order)
+    λ order. subst (λ (rows : List (Text × Option Order)). IsRefusal (refusal (Done order) (rows_over rows c.args.ro.now c.args.next)) c.in-Err.fault) c.orders.view_is (c.in-Err.ensures.full order)

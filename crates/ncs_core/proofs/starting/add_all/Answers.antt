@@ -1,10 +1,10 @@
-use Rattle.std.proofs.Common.{◌≡◌, ◌<◌, ◌++◌, length, sym, ap, ◌∙◌, subst, arith}
+use Rattle.std.proofs.Common.{◌<◌, ◌++◌, length, sym, subst, arith}
 use Rattle.ncs_core.specs.Starting.{IsEntryCause}
 use Rattle.ncs_core.proofs.AddedEntries.{none-added, none-accepted, one-added, one-accepted, first-refused}
 use Rattle.ncs_core.proofs.starting.add_all.Goals as goal
 
 pub entries-init : goal.entries-init
-entries-init c = (c.requires.orders, none-added c.args.journal.now c.args.entries.now, none-accepted c.args.journal.now c.args.entries.now c.requires.accepted, omega arith)
+entries-init c = (c.requires.orders, none-added c.args.journal.now c.args.entries.now, none-accepted c.args.journal.now c.args.entries.now c.requires.accepted, omega arith, c.requires.scripts)
 
 pub entries-preserved : goal.entries-preserved
 entries-preserved c =
@@ -15,6 +15,7 @@ entries-preserved c =
       one-added c.args.journal.now c.entries.journal es c.entries.at c.add.new.journal x within c.index-entries-at.is c.entries.invariant.1 c.in-Ok.ensures.journal,
       one-accepted c.args.journal.now c.entries.journal es c.entries.at x within c.index-entries-at.is c.entries.invariant.1 c.entries.invariant.2 c.in-Ok.ensures.accepted,
       omega arith,
+      c.in-Ok.ensures.scripts,
     )
 
 pub returns-in-Err-clause-fault : goal.returns-in-Err-clause-fault

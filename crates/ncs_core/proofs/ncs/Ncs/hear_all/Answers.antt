@@ -37,4 +37,4 @@ invariant_of-self g c =
     let h : d < length items = subst (λ (xs : List PeerTables). d < length xs) (sym same) c.requires in
     let few : length (set items d c.settle.new.self) ≤ 64 = subst (λ (n : ℕ). n ≤ 64) (sym (length-set items d c.settle.new.self)) c.self.invariant.1 in
     let one : 1 ≤ length (set items d c.settle.new.self) = subst (λ (n : ℕ). 1 ≤ n) (sym (length-set items d c.settle.new.self)) c.self.invariant.2 in
-    (c.self.invariant.0, few, one, c.self.invariant.3, looked-kept c.self.inside.journal items c.self.inside.looks d c.index_mut.result.now c.settle.new.self h c.index_mut.ensures.value (λ n i. subst (λ (s : PeerState). IsIdleBefore n c.self.inside.journal s.views) (sym c.settle.ensures.step) (idle-unsettled n c.self.inside.journal (peer_of c.index_mut.result.now).views i)) c.self.invariant.4)
+    (c.self.invariant.0, few, one, c.self.invariant.3, looked-kept c.self.inside.journal items c.self.inside.looks d c.index_mut.result.now c.settle.new.self h c.index_mut.ensures.value (λ n i. subst (λ (s : PeerState). IsIdleBefore n c.self.inside.journal s.views) (sym c.settle.ensures.step) (idle-unsettled n c.self.inside.journal (peer_of c.index_mut.result.now).views i)) c.self.invariant.4, c.self.invariant.5)

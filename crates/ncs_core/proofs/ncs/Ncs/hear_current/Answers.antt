@@ -37,4 +37,4 @@ invariant_of-self g c =
     let one : 1 ≤ length (set items d c.settle.new.self) = subst (λ (n : ℕ). 1 ≤ n) (sym (length-set items d c.settle.new.self)) c.self.invariant.2 in
     let here : peer_of c.index_mut.result.now ≡ states items d = ap peer_of (table-is items d c.index_mut.result.now h c.index_mut.ensures.value) in
     let step : peer_of c.settle.new.self ≡ peer_settled journal true (states items d) = c.settle.ensures.step ∙ ap (λ (s : PeerState). peer_settled journal true s) here in
-    (c.self.invariant.0, few, one, c.self.invariant.3, looked-set journal items c.look_if_settled.new.looks d c.settle.new.self (peer_settled journal true (states items d)) h step (subst (λ (ps : List PeerTables). AreLooked journal (set_number (states ps) d (peer_settled journal true (states ps d))) c.look_if_settled.new.looks) c.deref.ensures.value c.look_if_settled.ensures))
+    (c.self.invariant.0, few, one, c.self.invariant.3, looked-set journal items c.look_if_settled.new.looks d c.settle.new.self (peer_settled journal true (states items d)) h step (subst (λ (ps : List PeerTables). AreLooked journal (set_number (states ps) d (peer_settled journal true (states ps d))) c.look_if_settled.new.looks) c.deref.ensures.value c.look_if_settled.ensures), c.self.invariant.5)

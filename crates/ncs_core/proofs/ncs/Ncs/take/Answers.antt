@@ -14,7 +14,7 @@ use Rattle.ncs_core.proofs.RestoredRows.{orders-undone, undone-units}
 use Rattle.ncs_core.proofs.ncs.Ncs.take.Goals as goal
 
 pub invariant_of-self : goal.invariant_of-self
-invariant_of-self g c = (orders-same c.self.inside.journal c.self.inside.orders c.accept_edit.new.orders c.self.invariant.0 c.in-Err.ensures.err, c.self.invariant.1, c.self.invariant.2, c.self.invariant.3, c.self.invariant.4)
+invariant_of-self g c = (orders-same c.self.inside.journal c.self.inside.orders c.accept_edit.new.orders c.self.invariant.0 c.in-Err.ensures.err, c.self.invariant.1, c.self.invariant.2, c.self.invariant.3, c.self.invariant.4, c.self.invariant.5)
 
 pub invariant_of-self-in-Ok-keep_and_give : goal.invariant_of-self-in-Ok-keep_and_give
 invariant_of-self-in-Ok-keep_and_give g c =
@@ -31,6 +31,7 @@ invariant_of-self-in-Ok-keep_and_give g c =
           (sym (acceptance-here c.self.inside.journal c.self.inside.journal (entry_of c.args.edit.now) (entry_of c.args.edit.now) c.self.inside.orders c.self.invariant.0 c.has_ascending_ids.ensures refl refl) ∙ c.in-Ok.ensures.accepted)
           c.in-Ok-keep_and_give.ensures.appends c.in-Ok-keep_and_give.ensures.certainty c.in-Ok-keep_and_give.ensures.journal,
       looked-pushed c.self.inside.journal c.keep_and_give.new.journal (entry_of c.args.edit.now) (states c.self.inside.peers.items) (states (with_items c.self.inside.peers c.keep_and_give.new.peers).items) c.self.inside.looks c.in-Ok-keep_and_give.ensures.journal (ap states whole ∙ (c.in-Ok-keep_and_give.ensures.peers ∙ (λ i. λ d. peer_given (entry_of c.args.edit.now) (entry_count c.self.inside.journal (entry_of c.args.edit.now).ro) (begun i d)))) c.self.invariant.4,
+      c.keep_and_give.ensures.scripts,
     )
 
 pub undo-requires-clause-there : goal.undo-requires-clause-there
@@ -56,6 +57,7 @@ invariant_of-self-in-Err-keep_and_give g c =
       known-unkept c.self.inside.stopped c.is_failed-self-inside.result (g.K.Keeper.kept c.self.inside.keeper) (g.K.Keeper.kept c.keep_and_give.new.keeper) (g.K.Keeper.faults c.self.inside.keeper) (g.K.Keeper.faults c.keep_and_give.new.keeper) (g.K.Keeper.certainty c.self.inside.keeper) (g.K.Keeper.certainty c.keep_and_give.new.keeper) c.self.inside.journal c.keep_and_give.new.journal (entry_of c.args.edit.now)
           c.in-Err-keep_and_give.fault running c.is_failed-self-inside.ensures c.self.invariant.3 c.in-Err-keep_and_give.ensures.appends c.in-Err-keep_and_give.ensures.certainty c.in-Err-keep_and_give.ensures.journal_err,
       looked-same c.self.inside.journal c.keep_and_give.new.journal (states c.self.inside.peers.items) (states (with_items c.self.inside.peers c.keep_and_give.new.peers).items) c.self.inside.looks c.in-Err-keep_and_give.ensures.journal_err (ap states whole ∙ (c.in-Err-keep_and_give.ensures.peers_err ∙ begun)) c.self.invariant.4,
+      c.keep_and_give.ensures.scripts,
     )
 
 pub returns-in-Err-clause-step : goal.returns-in-Err-clause-step
@@ -136,3 +138,10 @@ pub returns-in-Err-keep_and_give-clause-keeper : goal.returns-in-Err-keep_and_gi
 returns-in-Err-keep_and_give-clause-keeper g c =
     subst (λ (k : _). LeavesKeeper g.K.Keeper.appended k c.keep_and_give.new.keeper (entry_of c.args.edit.now) (Err c.command_fault.result)) (ap (λ (n : NcsTables _). n.keeper) c.self.view_is)
     (unkept-keeper g.K.Keeper.appended c.self.inside.keeper c.keep_and_give.new.keeper (entry_of c.args.edit.now) c.in-Err-keep_and_give.fault c.command_fault.result c.command_fault.ensures c.in-Err-keep_and_give.ensures.leaves)
+
+pub keep_and_give-requires-clause-scripts : goal.keep_and_give-requires-clause-scripts
+keep_and_give-requires-clause-scripts g c = c.self.invariant.5
+
+pub keep_and_give-requires-clause-accepted : goal.keep_and_give-requires-clause-accepted
+keep_and_give-requires-clause-accepted g c =
+    sym (acceptance-here c.self.inside.journal c.self.inside.journal (entry_of c.args.edit.now) (entry_of c.args.edit.now) c.self.inside.orders c.self.invariant.0 c.has_ascending_ids.ensures refl refl) ∙ c.in-Ok.ensures.accepted

@@ -39,4 +39,4 @@ invariant_of-self g c =
     let m = seen c.args.m.now in
     let here : peer_of c.index_mut.result.now ≡ states items d = ap peer_of (table-is items d c.index_mut.result.now h c.index_mut.ensures.value) in
     let step : peer_of c.answered.new.self ≡ (peer_answered journal (states items d) m).0 = c.answered.ensures.step ∙ ap (λ (s : PeerState). (peer_answered journal s m).0) here in
-    (c.self.invariant.0, few, one, c.self.invariant.3, looked-set journal items c.look_if_answered.new.looks d c.answered.new.self (peer_answered journal (states items d) m).0 h step (subst (λ (ps : List PeerTables). AreLooked journal (set_number (states ps) d (peer_answered journal (states ps d) m).0) c.look_if_answered.new.looks) c.deref.ensures.value (c.look_if_answered.ensures m)))
+    (c.self.invariant.0, few, one, c.self.invariant.3, looked-set journal items c.look_if_answered.new.looks d c.answered.new.self (peer_answered journal (states items d) m).0 h step (subst (λ (ps : List PeerTables). AreLooked journal (set_number (states ps) d (peer_answered journal (states ps d) m).0) c.look_if_answered.new.looks) c.deref.ensures.value (c.look_if_answered.ensures m)), c.self.invariant.5)

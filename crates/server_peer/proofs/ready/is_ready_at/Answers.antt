@@ -3,7 +3,7 @@ use Rattle.mos_edits.specs.Entries.{kind}
 use Rattle.mos_machines.specs.Server.{is_ready}
 use Rattle.rundown_log.proofs.PositionLemmas.{stands, stands-entry}
 use Rattle.server_peer.proofs.ViewRows.{none-edit}
-use Rattle.server_peer.proofs.changes.is_ready_at.Goals as goal
+use Rattle.server_peer.proofs.ready.is_ready_at.Goals as goal
 
 pub at-requires : goal.at-requires
 at-requires c = let s = stands 0 c.args.ro.now c.args.journal.now c.args.k c.in-Some.place (sym c.in-Some.ensures) in let p = s.place in let w = s.within in omega (arith, p, w)
