@@ -1,14 +1,16 @@
 -- Worked events: which call of the decks each makes.
-use Rattle.std.proofs.Common.{◌≡◌, true, Option, None, Some, refl}
-use Rattle.mos_edits.specs.Texts.{Text}
-use Rattle.mos_edits.specs.Orders.{HeaderPatch, Order, apply}
+use Rattle.std.proofs.Common.{◌≡◌, true, false, Bool, Option, None, Some, refl, ap}
+use Rattle.mos_edits.specs.Texts.{Text, has_id}
+use Rattle.mos_edits.specs.Orders.{HeaderPatch, Order, OrderBody, StorySend, apply, with_script}
+use Rattle.mos_values.specs.Distinct.{story_ids}
 use Rattle.mos_values.specs.declared.message.Message.TheVariants as carried
 use Rattle.mos_fields.specs.declared.air.Air.TheVariants.{Ready, NotReady}
-use Rattle.mos_machines.specs.Device.{Decks, GateState, Phase, no_gate}
+use Rattle.mos_edits.specs.Entries.Kind.{IsAction}
+use Rattle.mos_machines.specs.Device.{Decks, GateState, Phase, no_gate, read_applied}
 use Rattle.mos_machines.specs.Device.Phase.{InStep, OutOfStep, Asked}
 use Rattle.mos_machines.specs.Steps.DeviceEvent.{ReadUpper}
 use Rattle.mos_machines.specs.Values.{seen}
-use Rattle.deck_nodes.specs.DeckCalls.{event_call}
+use Rattle.deck_nodes.specs.DeckCalls.{event_call, edit_call}
 use Rattle.deck_nodes.specs.DeckCalls.DeckCall.{NoCall, Load, Arm, Disarm}
 
 -- a gateway to which connection 1 is current, and all of whose orders stand so
@@ -18,13 +20,13 @@ standing p o = record no_gate { upper = Some 1; held = λ r. o; phase = λ r. p 
 abbrev one_left : Decks
 one_left = record { handed = true; left = 1 }
 
-created : (body : Order) → event_call (standing OutOfStep None) (ReadUpper 1 (seen (carried.RoCreate body)) one_left) ≡ Load body.header.ro
+created : (body : OrderBody) → event_call (standing OutOfStep None) (ReadUpper 1 (seen (carried.RoCreate body)) one_left) ≡ Load body.header.ro
 created body = refl
 
-created-elsewhere : (body : Order) → event_call (standing OutOfStep None) (ReadUpper 2 (seen (carried.RoCreate body)) one_left) ≡ NoCall
+created-elsewhere : (body : OrderBody) → event_call (standing OutOfStep None) (ReadUpper 2 (seen (carried.RoCreate body)) one_left) ≡ NoCall
 created-elsewhere body = refl
 
-created-while-asked : (body : Order) → event_call (standing Asked None) (ReadUpper 1 (seen (carried.RoCreate body)) one_left) ≡ NoCall
+created-while-asked : (body : OrderBody) → event_call (standing Asked None) (ReadUpper 1 (seen (carried.RoCreate body)) one_left) ≡ NoCall
 created-while-asked body = refl
 
 changed-in-step : (o : Order) (patch : HeaderPatch) → event_call (standing InStep (Some o)) (ReadUpper 1 (seen (carried.RoMetadataReplace patch)) one_left) ≡ Load patch.ro
@@ -37,6 +39,17 @@ changed-out-of-step o patch = refl
 changed-where-there-is-none : (patch : HeaderPatch) → event_call (standing InStep None) (ReadUpper 1 (seen (carried.RoMetadataReplace patch)) one_left) ≡ NoCall
 unfolding apply
 changed-where-there-is-none patch = refl
+
+script-in-step : (o : Order) (script : StorySend) → has_id script.story (story_ids o.stories) ≡ true → event_call (standing InStep (Some o)) (ReadUpper 1 (seen (carried.RoStorySend script)) one_left) ≡ Load script.ro
+unfolding apply
+script-in-step o script there = ap (λ (b : Bool). edit_call IsAction (read_applied IsAction one_left (Some o) false (with_script o script b)).status script.ro) there
+
+script-of-no-story : (o : Order) (script : StorySend) → has_id script.story (story_ids o.stories) ≡ false → event_call (standing InStep (Some o)) (ReadUpper 1 (seen (carried.RoStorySend script)) one_left) ≡ NoCall
+unfolding apply
+script-of-no-story o script missing = ap (λ (b : Bool). edit_call IsAction (read_applied IsAction one_left (Some o) false (with_script o script b)).status script.ro) missing
+
+script-out-of-step : (o : Order) (script : StorySend) → event_call (standing OutOfStep (Some o)) (ReadUpper 1 (seen (carried.RoStorySend script)) one_left) ≡ NoCall
+script-out-of-step o script = refl
 
 released : (o : Order) (ro : Text) → event_call (standing InStep (Some o)) (ReadUpper 1 (seen (carried.RoReadyToAir ro Ready)) one_left) ≡ Arm ro
 released o ro = refl

@@ -1,7 +1,7 @@
 -- What is held of orders changes only where the decks are loaded.
 use Rattle.std.proofs.Common.{◌≡◌, ℕ, Bool, true, false, Option, Some, None, refl, sym, ap, ◌∙◌, subst, inl, inr, ◌⊎◌, if◌then◌else◌}
 use Rattle.mos_edits.specs.Texts.{Text, same_id, set_order}
-use Rattle.mos_edits.specs.Orders.{Order, apply}
+use Rattle.mos_edits.specs.Orders.{Order, apply, order_of}
 use Rattle.mos_edits.specs.declared.edit.Edit.{Edit}
 use Rattle.mos_edits.specs.KeyedLists.{Applied}
 use Rattle.mos_edits.specs.KeyedLists.Applied.{Done, Fault}
@@ -112,6 +112,7 @@ edit-held g c d r (edits.Replace body) = quiet-held g c d (record { ro = r; edit
 edit-held g c d r (edits.Delete ro) = quiet-held g c d (record { ro = r; edit = edits.Delete ro }) refl
 edit-held g c d r (edits.Metadata patch) = quiet-held g c d (record { ro = r; edit = edits.Metadata patch }) refl
 edit-held g c d r (edits.Act ro action) = quiet-held g c d (record { ro = r; edit = edits.Act ro action }) refl
+edit-held g c d r (edits.Script script) = quiet-held g c d (record { ro = r; edit = edits.Script script }) refl
 edit-held g c d r (edits.Air ro NotReady) = quiet-held g c d (record { ro = r; edit = edits.Air ro NotReady }) refl
 edit-held g c d r (edits.Air ro Ready) =
     same-held (read_call g c d (record { ro = r; edit = edits.Air ro Ready })) g.held (device_step g (ReadUpper c (RoEdit (record { ro = r; edit = edits.Air ro Ready })) d)).1.held (ready-same g c d r ro)
@@ -164,7 +165,7 @@ got-held g (AsksFor r) (RoEdit e) = λ q. refl
 got-held g (AsksFor r) (RoAck s t) = ack-held (same_id s r) (is_no_order t) g r _ _ _ (λ q e. ap (λ (b : Bool). if b then None else g.held q) e) (λ q. refl) (λ q. refl)
 got-held g (AsksFor r) (RoReq s) = λ q. refl
 got-held g (AsksFor r) RoReqAll = λ q. refl
-got-held g (AsksFor r) (RoList s o) = list-held (same_id s r) g r _ _ (λ q e. ap (λ (b : Bool). if b then Some o else g.held q) e) (λ q. refl)
+got-held g (AsksFor r) (RoList s o) = list-held (same_id s r) g r _ _ (λ q e. ap (λ (b : Bool). if b then Some (order_of o) else g.held q) e) (λ q. refl)
 got-held g (AsksFor r) (RoListAll hs) = λ q. refl
 got-held g (AsksFor r) (RoElementStat s) = λ q. refl
 got-held g (AsksFor r) (OtherMessage s) = λ q. refl

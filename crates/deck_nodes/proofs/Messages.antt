@@ -92,6 +92,13 @@ split g h c (carried.RoElementAction ro action) d n = let x = entry_of (edits.Ac
   calls = λ e. call-alike g c d e x refl;
   refused = λ e. quiet-refused g c e x refl;
 })
+split g h c (carried.RoStorySend script) d n = let x = entry_of (edits.Script script) in inl (record {
+  arms = refl;
+  told = ap (λ y. read_told y c (carried.RoStorySend script)) n ∙ found-call g c d x refl;
+  steps = λ e. step-alike g c d e x refl;
+  calls = λ e. call-alike g c d e x refl;
+  refused = λ e. quiet-refused g c e x refl;
+})
 split g h c (carried.RoReadyToAir ro NotReady) d n = let x = entry_of (edits.Air ro NotReady) in inl (record {
   arms = ap (λ (w : Bool). arm_if w ro) (never-arms g c x refl);
   told = ap (λ y. read_told y c (carried.RoReadyToAir ro NotReady)) n ∙ found-call g c d x refl;
@@ -118,5 +125,4 @@ split g h c carried.RoReqAll d n = other g h c carried.RoReqAll d refl (unless-n
 split g h c (carried.RoListAll headers) d n = other g h c (carried.RoListAll headers) d refl (unless-none (is_link h.upper c)) (λ e. refl) (λ e. refl)
 split g h c (carried.RoElementStat status) d n = other g h c (carried.RoElementStat status) d refl (unless-none (is_link h.upper c)) (λ e. refl) (λ e. refl)
 split g h c (carried.RoAck ack) d n = other g h c (carried.RoAck ack) d refl (unless-none (is_link h.upper c)) (λ e. refl) (λ e. refl)
-split g h c (carried.RoStorySend story) d n = other g h c (carried.RoStorySend story) d refl (unless-none (is_link h.upper c)) (λ e. refl) (λ e. refl)
 split g h c (carried.Other name raw) d n = other g h c (carried.Other name raw) d refl (unless-none (is_link h.upper c)) (λ e. refl) (λ e. refl)

@@ -113,6 +113,7 @@ listed-is r (carried.RoDelete ro) = refl
 listed-is r (carried.RoMetadataReplace patch) = refl
 listed-is r (carried.RoElementAction ro action) = refl
 listed-is r (carried.RoReadyToAir ro air) = refl
+listed-is r (carried.RoStorySend script) = refl
 listed-is r (carried.Heartbeat time) = refl
 listed-is r carried.ReqMachInfo = refl
 listed-is r (carried.ListMachInfo info) = refl
@@ -125,7 +126,6 @@ listed-is r (carried.RoReq ro) = refl
 listed-is r carried.RoReqAll = refl
 listed-is r (carried.RoListAll headers) = refl
 listed-is r (carried.RoElementStat status) = refl
-listed-is r (carried.RoStorySend story) = refl
 listed-is r (carried.Other name raw) = refl
 
 pub listed-if : (b : Bool) (r : Text) (o : Option Text) (k : DeckCall) → (if b then Load r else NoCall) ≡ k → b ≡ true → o ≡ Some r → listed_call o ≡ k

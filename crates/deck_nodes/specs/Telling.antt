@@ -48,6 +48,7 @@ told_call h (carried.RoReplace body) = load_call (h.phase body.header.ro) body.h
 told_call h (carried.RoDelete ro) = load_call (h.phase ro) ro
 told_call h (carried.RoMetadataReplace patch) = load_call (h.phase patch.ro) patch.ro
 told_call h (carried.RoElementAction ro action) = load_call (h.phase ro) ro
+told_call h (carried.RoStorySend script) = load_call (h.phase script.ro) script.ro
 told_call h (carried.RoReadyToAir ro NotReady) = disarm_call (h.phase ro) ro
 told_call h m = NoCall
 

@@ -95,6 +95,7 @@ fn tell<D: Deck>(gate: &Gate, rack: &mut Rack<D>, m: &Message)
         Message::RoDelete(ro) => load_in_step(gate, rack, ro),
         Message::RoMetadataReplace(patch) => load_in_step(gate, rack, &patch.as_ref().ro),
         Message::RoElementAction { ro, action: _ } => load_in_step(gate, rack, ro),
+        Message::RoStorySend(script) => load_in_step(gate, rack, &script.as_ref().ro),
         Message::RoReadyToAir {
             ro,
             air: Air::NotReady,

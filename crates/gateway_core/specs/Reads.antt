@@ -3,7 +3,7 @@ use Rattle.std.specs.Prelude.{◌≡◌, Result, IfOk, List, [], Bool, true, fal
 use Rattle.mos_edits.specs.Texts.{Text}
 use Rattle.mos_edits.specs.KeyedLists.{Applied, ActFault as EditFault}
 use Rattle.mos_edits.specs.KeyedLists.Applied.{Fault}
-use Rattle.mos_edits.specs.Orders.{Order}
+use Rattle.mos_edits.specs.Orders.{Order, OrderBody, order_of}
 use Rattle.mos_edits.specs.declared.edit.Edit.{Edit}
 use Rattle.mos_edits.specs.Entries.{Entry}
 use Rattle.mos_machines.specs.Messages.{Message, Status, status_text, message_ro}
@@ -28,6 +28,7 @@ use Rattle.gateway_core.specs.declared.edits.Change.TheVariants as changes
 abbrev pub edit_of : Text → Change → Edit
 edit_of ro (changes.Header patch) = edits.Metadata patch.now
 edit_of ro (changes.Action action) = edits.Act ro action.now
+edit_of ro (changes.Script script) = edits.Script script.now
 edit_of ro changes.Release = edits.Air ro Ready
 
 abbrev pub entry_at : Text → Change → Entry
@@ -62,6 +63,11 @@ asked_result k = record { held = k.held; phase = Crossed; wanted = k.wanted; kno
 -- a change of an order that is out of step
 abbrev pub out_result : KnownOrder → ReadResult
 out_result k = record { held = k.held; phase = OutOfStep; wanted = true; knows = true; status = Status.NotInStep }
+
+-- the order of a body, or none
+abbrev pub whole_order : Option OrderBody → Option Order
+whole_order None = None
+whole_order (Some body) = Some (order_of body)
 
 -- a whole order, or that there is none from now on
 abbrev pub whole_by : Phase → KnownOrder → Option Order → ReadResult

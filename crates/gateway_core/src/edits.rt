@@ -2,8 +2,10 @@
 ghost use Rattle.std.specs.Prelude.{◌≡◌, OnOk, OnErr, IfErr, Some, None};
 ghost use Rattle.mos_edits.specs.KeyedLists.Applied.{Done, Fault};
 ghost use Rattle.mos_edits.specs.KeyedLists.ActFault.{Missing};
+ghost use Rattle.mos_edits.specs.Texts.{has_id};
+ghost use Rattle.mos_values.specs.Distinct.{story_ids};
 ghost use Rattle.mos_machines.specs.Device.{ready_status};
-ghost use Rattle.mos_edits.specs.Orders.{apply as apply_of};
+ghost use Rattle.mos_edits.specs.Orders.{apply as apply_of, with_script};
 ghost use Rattle.machine_answers.specs.Answers.{status_of};
 ghost use Rattle.gateway_core.specs.Parts.{decks_of};
 ghost use Rattle.gateway_core.specs.Reads.{edit_of, IsTold, applied_status};
@@ -12,7 +14,7 @@ use crate::known::DeckState;
 use element_action::{ActFault, act};
 use machine_answers::Status;
 use mos_fields::{Id, OptId};
-use mos_values::{Action, HeaderPatch};
+use mos_values::{Action, Boxed, HeaderPatch, StorySend};
 use running_order::Order;
 use std::alloc::Global;
 
@@ -23,6 +25,8 @@ pub enum Change<'a> {
     Header(&'a HeaderPatch),
     // roElementAction
     Action(&'a Action),
+    // roStorySend
+    Script(&'a Boxed<StorySend>),
     // roReadyToAir with READY
     Release,
 }
@@ -47,15 +51,28 @@ fn release_status(decks: DeckState) -> Status
     }
 }
 
-// There is no order of this roID.
-fn missing(ro: &Id) -> ActFault
-    ensures { IsTold (Fault (Missing ro.now)) result }
+// There is no order, or no story, with this ID.
+fn missing(id: &Id) -> ActFault
+    ensures { IsTold (Fault (Missing id.now)) result }
 {
-    match ro.try_clone() {
-        Ok(ro) => ActFault::Missing {
-            id: OptId::from_id(ro),
+    match id.try_clone() {
+        Ok(id) => ActFault::Missing {
+            id: OptId::from_id(id),
         },
         Err(_) => ActFault::NoMemory,
+    }
+}
+
+// Puts a script on its story in place of a former one. Where the story isn't there, the order stays as it was.
+fn put_script(order: &mut Order, script: &Boxed<StorySend>) -> Result<(), ActFault>
+    ensures ok { OnOk result (with_script order.old script.now (has_id script.now.story (story_ids order.old.stories)) ≡ Done (Some order.new)) }
+    ensures fault { IfErr result (IsTold (with_script order.old script.now (has_id script.now.story (story_ids order.old.stories)))) }
+    ensures err { OnErr result (order.new ≡ order.old) }
+{
+    if order.share_script(script)? {
+        Ok(())
+    } else {
+        Err(missing(&script.as_ref().story))
     }
 }
 
@@ -76,6 +93,7 @@ fn change_order(
             Ok(())
         }
         Change::Action(action) => act(alloc, order, action),
+        Change::Script(script) => put_script(order, script),
         Change::Release => Ok(()),
     }
 }

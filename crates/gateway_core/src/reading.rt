@@ -9,7 +9,7 @@ ghost use Rattle.mos_machines.specs.Tables.{unknown_order, look, row_ids, put_ro
 ghost use Rattle.order_table.specs.Rows.{IsAscending, find_row};
 ghost use Rattle.machine_answers.specs.Answers.{status_of};
 ghost use Rattle.gateway_core.specs.Parts.{phase_of, decks_of};
-ghost use Rattle.gateway_core.specs.Reads.{entry_at, kept, put_result, known_result, asked_result, out_result, rows_result, whole_result, unready_result, acked, read_rows, read_ack, IsRefusal, IsRefused};
+ghost use Rattle.gateway_core.specs.Reads.{entry_at, kept, put_result, known_result, asked_result, out_result, rows_result, whole_order, whole_result, unready_result, acked, read_rows, read_ack, IsRefusal, IsRefused};
 ghost use Rattle.mos_values.specs.declared.message.Message.TheVariants as carried;
 
 use crate::edits::{Change, apply, status_after};
@@ -149,7 +149,7 @@ fn read_known(
     answer
 }
 
-// roElementAction, roMetadataReplace and READY.
+// roElementAction, roMetadataReplace, roStorySend and READY.
 fn read_change(
     alloc: Global,
     orders: &mut OrderTable<Known>,
@@ -171,7 +171,7 @@ fn read_change(
 
 // A copy of what a whole-order edit leaves.
 fn copied(alloc: Global, body: Option<&OrderBody>) -> Result<Option<Order>, NoMemory>
-    ensures { IfOk result (λ o. o ≡ option_copied body.entry) }
+    ensures { IfOk result (λ o. o ≡ whole_order (option_copied body.entry)) }
 {
     match body {
         Some(body) => Ok(Some(Order::from_body(alloc, body)?)),
@@ -186,7 +186,7 @@ fn hold_whole(
     ro: &Id,
     body: Option<&OrderBody>,
 ) -> Result<RoAck, NoMemory>
-    ensures rows { OnOk result (orders.new ≡ put_row ro.now (record { held = option_copied body.entry; phase = InStep; wanted = (look unknown_order orders.old ro.now).wanted }) orders.old) }
+    ensures rows { OnOk result (orders.new ≡ put_row ro.now (record { held = whole_order (option_copied body.entry); phase = InStep; wanted = (look unknown_order orders.old ro.now).wanted }) orders.old) }
     ensures answer { IfOk result (λ a. a ≡ acked ro.now MachineStatus.Okay) }
     ensures err { OnErr result (orders.new ≡ orders.old) }
 {
@@ -213,8 +213,8 @@ fn read_whole(
     ro: &Id,
     body: Option<&OrderBody>,
 ) -> Result<RoAck, NoMemory>
-    ensures rows { OnOk result (orders.new ≡ put_result ro.now (whole_result orders.old ro.now (option_copied body.entry)) orders.old) }
-    ensures answer { IfOk result (λ a. a ≡ acked ro.now (whole_result orders.old ro.now (option_copied body.entry)).status) }
+    ensures rows { OnOk result (orders.new ≡ put_result ro.now (whole_result orders.old ro.now (whole_order (option_copied body.entry))) orders.old) }
+    ensures answer { IfOk result (λ a. a ≡ acked ro.now (whole_result orders.old ro.now (whole_order (option_copied body.entry))).status) }
     ensures err { OnErr result (orders.new ≡ orders.old) }
 {
     match phase_in(orders, ro) {
@@ -301,12 +301,18 @@ pub fn read_message(
             Change::Action(action),
             decks,
         ),
+        Message::RoStorySend(script) => read_change(
+            alloc,
+            orders,
+            &script.as_ref().ro,
+            Change::Script(script),
+            decks,
+        ),
         Message::RoReadyToAir { ro, air } => read_air(alloc, orders, ro, *air, decks),
         Message::RoAck(ack) => unasked(alloc, &ack.ro),
         Message::RoReq(ro) => unsupported(alloc, ro),
         Message::RoList(body) => unsupported(alloc, &body.as_ref().header.ro),
         Message::RoElementStat(status) => unsupported(alloc, &status.as_ref().ro),
-        Message::RoStorySend(story) => unsupported(alloc, &story.as_ref().ro),
         _ => unknown(alloc),
     }
 }

@@ -22,9 +22,10 @@ impl Gate {
     ///
     /// A heartbeat is answered by itself, and takes no memory. A whole order is held in step, a change of an order in step
     /// is applied, and NOT READY changes nothing: each is answered `OK`, but READY `NO DECK` where decks were handed in and
-    /// none is left. A change that doesn't apply is answered with its fault; the order is held as before, out of step. A
-    /// change of an order that is out of step, and each edit of one that is asked for, is answered `NOT IN STEP`. Any other
-    /// message is answered `NOT SUPPORTED`.
+    /// none is left. The changes are roElementAction, roMetadataReplace, roStorySend and READY. One that doesn't apply is
+    /// answered with its fault, `MISSING` or `ALREADY THERE` and the ID; the order is held as before, out of step. A change of
+    /// an order that is out of step, and each edit of one that is asked for, is answered `NOT IN STEP`. Any other message is
+    /// answered `NOT SUPPORTED`.
     ///
     /// The only error is that memory runs out; the gateway then stays as it was.
     pub fn read_upper(
