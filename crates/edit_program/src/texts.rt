@@ -14,12 +14,13 @@ pub const FORMS: &str = "A line is an edit, or a list, with one space between wo
   ready R            notready R         swap R A B
   insert R T S ..    sub R T S ..       move R T A ..    drop R A ..
   iinsert R A T I .. isub R A T I ..    imove R A T I .. idrop R A I ..
-  iswap R A I J
+  iswap R A I J      script R A NAME
   list R             list               one order, or the names of all
 R is an order's name, A and B are stories', I and J items'. S is a story's name,
 with its items behind a colon: OPENING or OPENING:titles,music. T is what the
-others are put before, or - for the end. A name has 1 to 32 of the characters
-A-Z a-z 0-9 _. The line quit ends the program.
+others are put before, or - for the end. The script of the story A gets NAME for
+its text. A name has 1 to 32 of the characters A-Z a-z 0-9 _. The line quit ends
+the program.
 ";
 
 const HELP: &str = "Gives edits of running orders to a newsroom system's server, and prints each
@@ -38,14 +39,14 @@ with one space between words:
   ready R            notready R         swap R A B
   insert R T S ..    sub R T S ..       move R T A ..    drop R A ..
   iinsert R A T I .. isub R A T I ..    imove R A T I .. idrop R A I ..
-  iswap R A I J
+  iswap R A I J      script R A NAME
   list R             list               one order, or the names of all
 R is an order's name, A and B are stories', I and J items'. S is a story's name,
 with its items behind a colon: OPENING or OPENING:titles,music. An item's objID
 is its name, and its mosID m1, so the gateway of the device m1 plays it. T is
-what the others are put before, or - for the end. A name has 1 to 32 of the
-characters A-Z a-z 0-9 _. An empty line, and one that begins with #, is passed
-over.
+what the others are put before, or - for the end. The script of the story A gets
+NAME for its text. A name has 1 to 32 of the characters A-Z a-z 0-9 _. An empty
+line, and one that begins with #, is passed over.
 
 A line is sent only once the one before it has its answer. On standard output
 the answer is printed behind the line, as 'swap R A B: OK', and of a list the

@@ -4,7 +4,7 @@ use Rattle.mos_fields.specs.Values.{word_of}
 use Rattle.script_edits.specs.Stories.{story_of}
 use Rattle.script_edits.specs.Words.{Word, name_of, target_of}
 use Rattle.line_mistakes.specs.declared.line_verb.LineVerb.{LineVerb}
-use Rattle.line_mistakes.specs.declared.line_verb.LineVerb.TheVariants.{Create, Replace, Delete, Meta, Ready, NotReady, Insert, Sub, Move, Drop, Swap, InsertItems, SubItem, MoveItems, DropItems, SwapItems, List as ListOf}
+use Rattle.line_mistakes.specs.declared.line_verb.LineVerb.TheVariants.{Create, Replace, Delete, Meta, Ready, NotReady, Script, Insert, Sub, Move, Drop, Swap, InsertItems, SubItem, MoveItems, DropItems, SwapItems, List as ListOf}
 use Rattle.line_mistakes.specs.declared.word_kind.WordKind.{WordKind}
 use Rattle.line_mistakes.specs.declared.word_kind.WordKind.TheVariants.{Name, Target, Story}
 
@@ -25,6 +25,7 @@ verb_word Delete = codes "delete"
 verb_word Meta = codes "meta"
 verb_word Ready = codes "ready"
 verb_word NotReady = codes "notready"
+verb_word Script = codes "script"
 verb_word Insert = codes "insert"
 verb_word Sub = codes "sub"
 verb_word Move = codes "move"
@@ -38,7 +39,7 @@ verb_word SwapItems = codes "iswap"
 verb_word ListOf = codes "list"
 
 abbrev pub line_verbs : List LineVerb
-line_verbs = Create ∷ Replace ∷ Delete ∷ Meta ∷ Ready ∷ NotReady ∷ Insert ∷ Sub ∷ Move ∷ Drop ∷ Swap ∷ InsertItems ∷ SubItem ∷ MoveItems ∷ DropItems ∷ SwapItems ∷ ListOf ∷ []
+line_verbs = Create ∷ Replace ∷ Delete ∷ Meta ∷ Ready ∷ NotReady ∷ Script ∷ Insert ∷ Sub ∷ Move ∷ Drop ∷ Swap ∷ InsertItems ∷ SubItem ∷ MoveItems ∷ DropItems ∷ SwapItems ∷ ListOf ∷ []
 
 -- the verb that a word is
 unfoldable pub line_verb_of : Word → Option LineVerb
@@ -46,7 +47,7 @@ line_verb_of w = word_of verb_word line_verbs w
 
 -- ---- what stands behind them
 
--- for a person: R is an order, S a story with its items, T a target, A and B are stories, I and J items
+-- for a person: R is an order, S a story with its items, T a target, A and B are stories, I and J items, NAME a script
 abbrev pub verb_wants : LineVerb → List ℕ
 verb_wants Create = codes "R S .."
 verb_wants Replace = codes "R S .."
@@ -54,6 +55,7 @@ verb_wants Delete = codes "R"
 verb_wants Meta = codes "R SLUG"
 verb_wants Ready = codes "R"
 verb_wants NotReady = codes "R"
+verb_wants Script = codes "R A NAME"
 verb_wants Insert = codes "R T S .."
 verb_wants Sub = codes "R T S .."
 verb_wants Move = codes "R T A .."
@@ -83,6 +85,7 @@ verb_kinds Delete = Name ∷ []
 verb_kinds Meta = Name ∷ Name ∷ []
 verb_kinds Ready = Name ∷ []
 verb_kinds NotReady = Name ∷ []
+verb_kinds Script = Name ∷ Name ∷ Name ∷ []
 verb_kinds Insert = story_at
 verb_kinds Sub = story_at
 verb_kinds Move = name_at

@@ -15,6 +15,7 @@ pub enum LineVerb {
     Meta,
     Ready,
     NotReady,
+    Script,
     Insert,
     Sub,
     Move,
@@ -29,13 +30,14 @@ pub enum LineVerb {
 }
 
 /// The first words of all lines.
-const LINE_VERBS: [LineVerb; 17] = [
+const LINE_VERBS: [LineVerb; 18] = [
     LineVerb::Create,
     LineVerb::Replace,
     LineVerb::Delete,
     LineVerb::Meta,
     LineVerb::Ready,
     LineVerb::NotReady,
+    LineVerb::Script,
     LineVerb::Insert,
     LineVerb::Sub,
     LineVerb::Move,
@@ -105,6 +107,7 @@ impl LineVerb {
             LineVerb::Meta => "meta",
             LineVerb::Ready => "ready",
             LineVerb::NotReady => "notready",
+            LineVerb::Script => "script",
             LineVerb::Insert => "insert",
             LineVerb::Sub => "sub",
             LineVerb::Move => "move",
@@ -130,6 +133,7 @@ impl LineVerb {
             LineVerb::Meta => "R SLUG",
             LineVerb::Ready => "R",
             LineVerb::NotReady => "R",
+            LineVerb::Script => "R A NAME",
             LineVerb::Insert => "R T S ..",
             LineVerb::Sub => "R T S ..",
             LineVerb::Move => "R T A ..",
@@ -155,6 +159,7 @@ impl LineVerb {
             LineVerb::Meta => &TWO_NAMES,
             LineVerb::Ready => &NAME,
             LineVerb::NotReady => &NAME,
+            LineVerb::Script => &THREE_NAMES,
             LineVerb::Insert => &STORY_AT,
             LineVerb::Sub => &STORY_AT,
             LineVerb::Move => &NAME_AT,
@@ -180,6 +185,7 @@ impl LineVerb {
             LineVerb::Meta => None,
             LineVerb::Ready => None,
             LineVerb::NotReady => None,
+            LineVerb::Script => None,
             LineVerb::Insert => Some(WordKind::Story),
             LineVerb::Sub => Some(WordKind::Story),
             LineVerb::Move => Some(WordKind::Name),

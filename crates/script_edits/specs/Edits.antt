@@ -11,9 +11,9 @@ use Rattle.mos_edits.specs.declared.edit.Edit.TheVariants as edits
 use Rattle.mos_values.specs.declared.item.Item.{Item}
 use Rattle.mos_values.specs.StoryValue.{Story}
 use Rattle.script_edits.specs.declared.edit_verb.EditVerb.{EditVerb}
-use Rattle.script_edits.specs.declared.edit_verb.EditVerb.TheVariants.{Create, Replace, Delete, Meta, Ready, NotReady, Insert, Sub, Move, Drop, Swap, InsertItems, SubItem, MoveItems, DropItems, SwapItems}
+use Rattle.script_edits.specs.declared.edit_verb.EditVerb.TheVariants.{Create, Replace, Delete, Meta, Ready, NotReady, Script, Insert, Sub, Move, Drop, Swap, InsertItems, SubItem, MoveItems, DropItems, SwapItems}
 use Rattle.script_edits.specs.Words.{Word, are_names, name_of, target_of, both, at_least_one}
-use Rattle.script_edits.specs.Stories.{order_named, slug_patch, items_of, stories_of, if_distinct}
+use Rattle.script_edits.specs.Stories.{order_named, script_named, slug_patch, items_of, stories_of, if_distinct}
 
 -- ---- the words behind the roID
 
@@ -65,6 +65,8 @@ edit_form Meta r (s ∷ []) = option_map (λ slug. edits.Metadata (slug_patch r 
 edit_form Ready r [] = Some (edits.Air r IsReady)
 -- notready r
 edit_form NotReady r [] = Some (edits.Air r IsNotReady)
+-- script r A NAME
+edit_form Script r ws = option_map (λ p. edits.Script (script_named r p.0 p.1)) (two_names ws)
 -- insert r T S+
 edit_form Insert r ws = acts r (option_map (λ p. actions.InsertStories p.0 p.1) (target_and some_stories ws))
 -- sub r T S+
@@ -95,6 +97,7 @@ edit_word Delete = codes "delete"
 edit_word Meta = codes "meta"
 edit_word Ready = codes "ready"
 edit_word NotReady = codes "notready"
+edit_word Script = codes "script"
 edit_word Insert = codes "insert"
 edit_word Sub = codes "sub"
 edit_word Move = codes "move"
@@ -107,7 +110,7 @@ edit_word DropItems = codes "idrop"
 edit_word SwapItems = codes "iswap"
 
 abbrev pub edit_verbs : List EditVerb
-edit_verbs = Create ∷ Replace ∷ Delete ∷ Meta ∷ Ready ∷ NotReady ∷ Insert ∷ Sub ∷ Move ∷ Drop ∷ Swap ∷ InsertItems ∷ SubItem ∷ MoveItems ∷ DropItems ∷ SwapItems ∷ []
+edit_verbs = Create ∷ Replace ∷ Delete ∷ Meta ∷ Ready ∷ NotReady ∷ Script ∷ Insert ∷ Sub ∷ Move ∷ Drop ∷ Swap ∷ InsertItems ∷ SubItem ∷ MoveItems ∷ DropItems ∷ SwapItems ∷ []
 
 -- the row that begins with a word
 unfoldable pub edit_verb_of : Word → Option EditVerb

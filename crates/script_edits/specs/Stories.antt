@@ -1,5 +1,5 @@
 -- Story words, and the items and stories that a script's words make.
-use Rattle.std.specs.Prelude.{List, [], ◌∷◌, map, Option, Some, None, if◌then◌else◌, ◌==◌, ◌&&◌, codes}
+use Rattle.std.specs.Prelude.{List, [], ◌∷◌, ◌++◌, map, Option, Some, None, if◌then◌else◌, ◌==◌, ◌&&◌, codes}
 use Rattle.std.specs.List.{slice_split}
 use Rattle.mos_fields.specs.Characters.{Text}
 use Rattle.mos_values.specs.declared.header.Header.{Header}
@@ -8,6 +8,7 @@ use Rattle.mos_values.specs.declared.item.Item.{Item}
 use Rattle.mos_values.specs.Distinct.{story_ids}
 use Rattle.mos_values.specs.OrderValue.{OrderBody}
 use Rattle.mos_values.specs.StoryValue.{Story}
+use Rattle.mos_values.specs.declared.story_send.StorySend.{StorySend}
 use Rattle.script_edits.specs.Words.{Word, is_name, are_names, are_distinct, both}
 
 -- ---- values that have IDs and little else
@@ -58,6 +59,22 @@ header_named r = record {
 -- the order of a name, with these stories
 abbrev pub order_named : Text → List Story → OrderBody
 order_named r stories = record { header = header_named r; stories = stories }
+
+-- the storyBody that has a name for its text, as it is written
+abbrev pub named_body : Text → Text
+named_body x = codes "<storyBody>" ++ x ++ codes "</storyBody>"
+
+-- the script of the story `id` in the order `r`: a storyBody that has a name for its text
+abbrev pub script_named : Text → Text → Text → StorySend
+script_named r id x = record {
+  ro = r;
+  story = id;
+  slug = None;
+  num = None;
+  body = named_body x;
+  metadata = [];
+  others = [];
+}
 
 -- the header that gives the order `r` another slug
 abbrev pub slug_patch : Text → Text → HeaderPatch

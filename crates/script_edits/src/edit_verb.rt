@@ -14,6 +14,7 @@ pub enum EditVerb {
     Meta,
     Ready,
     NotReady,
+    Script,
     Insert,
     Sub,
     Move,
@@ -27,13 +28,14 @@ pub enum EditVerb {
 }
 
 /// The first words of all rows.
-const EDIT_VERBS: [EditVerb; 16] = [
+const EDIT_VERBS: [EditVerb; 17] = [
     EditVerb::Create,
     EditVerb::Replace,
     EditVerb::Delete,
     EditVerb::Meta,
     EditVerb::Ready,
     EditVerb::NotReady,
+    EditVerb::Script,
     EditVerb::Insert,
     EditVerb::Sub,
     EditVerb::Move,
@@ -78,6 +80,7 @@ impl EditVerb {
             EditVerb::Meta => "meta",
             EditVerb::Ready => "ready",
             EditVerb::NotReady => "notready",
+            EditVerb::Script => "script",
             EditVerb::Insert => "insert",
             EditVerb::Sub => "sub",
             EditVerb::Move => "move",

@@ -10,6 +10,7 @@ ghost use Rattle.script_edits.specs.Words.{name_of, words_in};
 use crate::edit_verb::EditVerb;
 use crate::item_actions::{delete_items, insert_items, move_items, replace_item, swap_items};
 use crate::names::{name, slug_name, slug_of_id};
+use crate::scripts::script;
 use crate::stories::distinct_stories;
 use crate::story_actions::{
     delete_stories, insert_stories, move_stories, replace_story, swap_stories,
@@ -179,6 +180,7 @@ fn form(alloc: Global, verb: EditVerb, ro: Id, words: &[&[u8]]) -> Result<Option
         EditVerb::Meta => meta(alloc, ro, words),
         EditVerb::Ready => Ok(ready(ro, words)),
         EditVerb::NotReady => Ok(not_ready(ro, words)),
+        EditVerb::Script => script(alloc, ro, words),
         EditVerb::Insert => acts(ro, insert_stories(alloc, words)),
         EditVerb::Sub => acts(ro, replace_story(alloc, words)),
         EditVerb::Move => acts(ro, move_stories(alloc, words)),

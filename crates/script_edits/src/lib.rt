@@ -9,6 +9,7 @@ mod edits;
 mod item_actions;
 mod names;
 mod numbers;
+mod scripts;
 mod stories;
 mod story_actions;
 mod words;

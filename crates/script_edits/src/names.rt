@@ -1,5 +1,5 @@
 //! IDs that words are.
-ghost use Rattle.std.specs.Prelude.{◌≡◌, IfOk, IfSome, Some, true};
+ghost use Rattle.std.specs.Prelude.{◌≡◌, ◌++◌, IfOk, IfSome, OnOk, Some, true};
 ghost use Rattle.std.specs.Option.{option_map};
 ghost use Rattle.script_edits.specs.Edits.{some_ids as some_ids_of};
 ghost use Rattle.script_edits.specs.Words.{both as both_of, name_of, target_of, words_in};
@@ -8,14 +8,22 @@ use crate::words::{are_names, is_name};
 use mos_fields::{Id, NoMemory, OptId, OptIds, Slug};
 use std::alloc::Global;
 
+/// Appends the characters that bytes of ASCII are.
+pub fn push_chars(word: &[u8], chars: &mut Vec<char>) -> Result<(), NoMemory>
+    ensures { OnOk result (chars.new.items ≡ chars.old.items ++ word.now) }
+{
+    for &byte in word {
+        chars.push(char::from(byte))?;
+    }
+    Ok(())
+}
+
 /// The characters that bytes of ASCII are.
 fn chars_of(alloc: Global, word: &[u8]) -> Result<Vec<char>, NoMemory>
     ensures { IfOk result (λ v. v.items ≡ word.now) }
 {
     let mut chars = Vec::new(alloc);
-    for &byte in word {
-        chars.push(char::from(byte))?;
-    }
+    push_chars(word, &mut chars)?;
     Ok(chars)
 }
 

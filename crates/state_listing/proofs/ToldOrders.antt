@@ -110,8 +110,8 @@ entered-is journal ids h = lists-same ids (entered journal) h.ascending (entered
 
 seen-of : (v : View) → v ≢ Out → is_seen v ≡ true
 seen-of Out n = absurd (n refl)
-seen-of (View.Listed m) n = refl
-seen-of (View.In m again) n = refl
+seen-of (View.Listed m scripts) n = refl
+seen-of (View.In m again scripts) n = refl
 seen-of (View.From k) n = refl
 
 module _ (journal : List Entry) (l : Pairing) (peer : PeerState) (same : l.peer ≡ peer) (r : Text) where

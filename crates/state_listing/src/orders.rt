@@ -3,12 +3,13 @@ ghost use Rattle.std.specs.Prelude.{◌≡◌, [], ◌∷◌, ◌++◌, ◌+◌,
 ghost use Rattle.std.specs.List.{flat_map};
 ghost use Rattle.std.specs.Option.{option_copied};
 ghost use Rattle.mos_edits.specs.Orders.{Item};
+ghost use Rattle.mos_edits.specs.Scripts.{script_of};
 ghost use Rattle.world_scripts.specs.Lines.{utf8};
-ghost use Rattle.world_scripts.specs.Listing.{items_word, story_word, order_words, order_line};
+ghost use Rattle.world_scripts.specs.Listing.{items_word, script_word, story_word, order_words, order_line};
 ghost use Rattle.state_listing.specs.Words.{behind};
 
 use crate::texts::{add_id, add_number, add_word, end_line, push_id, push_word};
-use mos_fields::{Id, NoMemory};
+use mos_fields::{Id, NoMemory, OptId};
 use mos_values::{Item, Story};
 use ncs_core::Ncs;
 use rundown_log::Keeper;
@@ -40,12 +41,24 @@ fn push_items(alloc: Global, line: &mut String, items: &[Item]) -> Result<(), No
     }
 }
 
-/// Appends a story behind a space.
-fn add_story(alloc: Global, line: &mut String, story: &Story) -> Result<(), NoMemory>
-    ensures { OnOk result (string_bytes line.new ≡ string_bytes line.old ++ behind (story_word story.now ∷ [])) }
+/// Appends `!` where a story of an order has a script.
+fn push_script(line: &mut String, order: &Order, story: &Story) -> Result<(), NoMemory>
+    ensures { OnOk result (string_bytes line.new ≡ string_bytes line.old ++ script_word (script_of order.now story.now.id)) }
+{
+    let id = OptId::from_id(story.id.try_clone()?);
+    match order.script(&id) {
+        Some(_) => push_word(line, "!"),
+        None => Ok(()),
+    }
+}
+
+/// Appends a story of an order behind a space.
+fn add_story(alloc: Global, line: &mut String, order: &Order, story: &Story) -> Result<(), NoMemory>
+    ensures { OnOk result (string_bytes line.new ≡ string_bytes line.old ++ behind (story_word order.now story.now ∷ [])) }
 {
     push_word(line, " ")?;
     push_id(alloc, line, &story.id)?;
+    push_script(line, order, story)?;
     push_items(alloc, line, story.items.as_slice())
 }
 
@@ -56,17 +69,17 @@ fn add_story_at(
     order: &Order,
     place: usize,
 ) -> Result<(), NoMemory>
-    ensures { OnOk result (string_bytes line.new ++ behind (map story_word (drop (place + 1) order.now.stories)) ≡ string_bytes line.old ++ behind (map story_word (drop place order.now.stories))) }
+    ensures { OnOk result (string_bytes line.new ++ behind (map (story_word order.now) (drop (place + 1) order.now.stories)) ≡ string_bytes line.old ++ behind (map (story_word order.now) (drop place order.now.stories))) }
 {
     match order.story(place) {
-        Some(story) => add_story(alloc, line, story),
+        Some(story) => add_story(alloc, line, order, story),
         None => Ok(()),
     }
 }
 
 /// Appends the stories of an order, each behind a space.
 fn add_stories(alloc: Global, line: &mut String, order: &Order) -> Result<(), NoMemory>
-    ensures { OnOk result (string_bytes line.new ≡ string_bytes line.old ++ behind (map story_word order.now.stories)) }
+    ensures { OnOk result (string_bytes line.new ≡ string_bytes line.old ++ behind (map (story_word order.now) order.now.stories)) }
 {
     'places: for place in 0..order.len() {
         add_story_at(alloc, line, order, place)?;

@@ -3,14 +3,17 @@ ghost use Rattle.std.specs.Prelude.{◌≡◌, [], ◌∷◌, ◌++◌, ◌+◌,
 ghost use Rattle.std.specs.Fmt.{decimal};
 ghost use Rattle.std.specs.List.{flat_map};
 ghost use Rattle.mos_fields.specs.Characters.{Text};
-ghost use Rattle.mos_machines.specs.Server.{View as ServerView};
+ghost use Rattle.server_peer.specs.declared.view.View.TheVariants as views;
 ghost use Rattle.ncs_core.specs.State.{ncs_of, devices_of};
-ghost use Rattle.server_peer.specs.Parts.{out_of, upper_of, view_of};
+ghost use Rattle.server_peer.specs.Parts.{out_of, upper_of};
 ghost use Rattle.world_scripts.specs.Lines.{utf8};
-ghost use Rattle.world_scripts.specs.Listing.{line as line_of, sent_words, upper_words, view_words};
-ghost use Rattle.state_listing.specs.Words.{behind};
+ghost use Rattle.world_scripts.specs.Listing.{line as line_of, due_words, sent_words, upper_words, view_words};
+ghost use Rattle.state_listing.specs.Words.{behind, shown_words};
 
-use crate::texts::{add_id, add_named_and_numbered, add_numbered, add_word, end_line, push_head};
+use crate::texts::{
+    add_id, add_named_and_numbered, add_named_and_numbered_twice, add_numbered, add_word, end_line,
+    push_head,
+};
 use mos_fields::{Id, NoMemory};
 use ncs_core::{Ncs, ServerOut, Upper, View};
 use rundown_log::Keeper;
@@ -24,6 +27,9 @@ fn add_sent(alloc: Global, line: &mut String, out: &ServerOut) -> Result<(), NoM
         ServerOut::Idle => add_word(line, "idle"),
         ServerOut::Edit { ro, k } => add_named_and_numbered(alloc, line, "edit", ro, *k),
         ServerOut::Again { ro, m } => add_named_and_numbered(alloc, line, "again", ro, *m),
+        ServerOut::Script { ro, k, m } => {
+            add_named_and_numbered_twice(alloc, line, "script", ro, *k, *m)
+        }
         ServerOut::Beat => add_word(line, "beat"),
     }
 }
@@ -42,11 +48,30 @@ fn add_upper(alloc: Global, line: &mut String, upper: &Upper) -> Result<(), NoMe
     }
 }
 
-/// Appends that a device is taken to hold an order after `n` entries, and whether its READY is sent again.
-fn add_in(alloc: Global, line: &mut String, n: u64, again: bool) -> Result<(), NoMemory>
-    ensures { OnOk result (string_bytes line.new ≡ string_bytes line.old ++ behind (view_words (ServerView.In n again))) }
+/// Appends how many scripts are still to be sent, where any are.
+fn add_due(alloc: Global, line: &mut String, scripts: u64) -> Result<(), NoMemory>
+    ensures { OnOk result (string_bytes line.new ≡ string_bytes line.old ++ behind (due_words scripts)) }
+{
+    if scripts == 0 {
+        Ok(())
+    } else {
+        add_numbered(alloc, line, "scripts", scripts)
+    }
+}
+
+/// Appends that a device is taken to hold an order after `n` entries, how many of its scripts are still to be sent, and whether
+/// its READY is sent again behind them.
+fn add_in(
+    alloc: Global,
+    line: &mut String,
+    n: u64,
+    again: bool,
+    scripts: u64,
+) -> Result<(), NoMemory>
+    ensures { OnOk result (string_bytes line.new ≡ string_bytes line.old ++ behind (shown_words (views.In n again scripts))) }
 {
     add_numbered(alloc, line, "in", n)?;
+    add_due(alloc, line, scripts)?;
     match again {
         false => Ok(()),
         true => add_word(line, "again"),
@@ -55,12 +80,12 @@ fn add_in(alloc: Global, line: &mut String, n: u64, again: bool) -> Result<(), N
 
 /// Appends what a device is taken to hold of an order.
 fn add_view(alloc: Global, line: &mut String, view: View) -> Result<(), NoMemory>
-    ensures { OnOk result (string_bytes line.new ≡ string_bytes line.old ++ behind (view_words (view_of view))) }
+    ensures { OnOk result (string_bytes line.new ≡ string_bytes line.old ++ behind (shown_words view)) }
 {
     match view {
         View::Out => add_word(line, "out"),
         View::Listed { m } => add_numbered(alloc, line, "listed", m),
-        View::In { n, again } => add_in(alloc, line, n, again),
+        View::In { n, again, scripts } => add_in(alloc, line, n, again, scripts),
         View::From { k } => add_numbered(alloc, line, "from", k),
     }
 }
@@ -82,6 +107,7 @@ pub fn push_server_line<K: Keeper>(
 }
 
 /// Appends the line of a device's view of an order.
+#[tactic(auto, using(crate::proofs::ShownViews::shown))]
 fn push_view_line<K: Keeper>(
     alloc: Global,
     out: &mut Vec<u8>,

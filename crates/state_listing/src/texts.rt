@@ -102,6 +102,21 @@ pub fn add_named_and_numbered(
     add_number(alloc, line, number)
 }
 
+/// Appends a word, an identifier and two numbers, each behind a space.
+pub fn add_named_and_numbered_twice(
+    alloc: Global,
+    line: &mut String,
+    word: &str,
+    id: &Id,
+    number: u64,
+    other: u64,
+) -> Result<(), NoMemory>
+    ensures { OnOk result (string_bytes line.new ≡ string_bytes line.old ++ behind (word.now ∷ utf8 id.now ∷ decimal number ∷ decimal other ∷ [])) }
+{
+    add_named_and_numbered(alloc, line, word, id, number)?;
+    add_number(alloc, line, other)
+}
+
 /// Appends the number of a connection behind a space, or `-` where there is none.
 pub fn add_connection(alloc: Global, line: &mut String, link: Option<u64>) -> Result<(), NoMemory>
     ensures { OnOk result (string_bytes line.new ≡ string_bytes line.old ++ behind (connection_word link ∷ [])) }

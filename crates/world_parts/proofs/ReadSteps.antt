@@ -21,7 +21,7 @@ use Rattle.rundown_log.proofs.PlaceRows.{set-same}
 use Rattle.world_laws.specs.World.{applied_step, applied_read}
 use Rattle.world_parts.specs.declared.packet.Packet.{Packet}
 use Rattle.world_parts.specs.declared.packet.PacketTag.{PacketTag}
-use Rattle.world_parts.specs.declared.packet.PacketTag.TheVariants.{Untagged, Entry, Again, List as Listed}
+use Rattle.world_parts.specs.declared.packet.PacketTag.TheVariants.{Untagged, Entry, Again, Script, List as Listed}
 use Rattle.world_parts.specs.Applying.{in_step_for, applied_where}
 use Rattle.world_parts.specs.Matching.{Carries}
 use Rattle.world_parts.specs.Told.{tag_of, whole_edit, applies_by, applies_with, applies}
@@ -64,6 +64,7 @@ whole-of (edits.Delete ro) = refl
 whole-of (edits.Metadata patch) = refl
 whole-of (edits.Act ro action) = refl
 whole-of (edits.Air ro air) = ap (λ b. Some b) (sym (whole-air air ro))
+whole-of (edits.Script script) = refl
 
 -- an edit is no answer
 edit-no_answer : (b : Bool) (o : Option Bool) (e : Edit) → applies_with b o (edit_message e) ≡ false
@@ -74,6 +75,7 @@ edit-no_answer b (Some w) (edits.Delete ro) = refl
 edit-no_answer b (Some w) (edits.Metadata patch) = refl
 edit-no_answer b (Some w) (edits.Act ro action) = refl
 edit-no_answer b (Some w) (edits.Air ro air) = refl
+edit-no_answer b (Some w) (edits.Script script) = refl
 
 edit-where : (g : GateState) (f : Text → ℕ) (r : Text) (k : ℕ) (q : Text) (e : Edit) (a : Message) → IsWritten a
     → applied_read g f (kinds.OfEntry r k) (RoEdit (record { ro = q; edit = e })) a ≡ (if applies_with (is_in (g.phase r)) (Some (is_whole (kind e))) (message_of a) then set_order f r (k + 1) else f)
@@ -111,6 +113,7 @@ tag-where : (g : GateState) (f : Text → ℕ) (t : PacketTag) (m a : Message) �
 tag-where g f Untagged m a w = refl
 tag-where g f (Entry ro k) m a w = entry-where g f ro k m a w ∙ entry-put f ro k (applies (is_in (g.phase ro)) (message_of m) (message_of a))
 tag-where g f (Again ro k) m a w = refl
+tag-where g f (Script ro k n) m a w = refl
 tag-where g f (Listed ro k) m a w = refl
 
 pub packet-where : (g : GateState) (f : Text → ℕ) (b : Bool) (p : Packet) (x : values.Message) (q : Said) (a : Message) → b ≡ in_step_for g p.tag → Carries p q → IsWritten a → x ≡ message_of a

@@ -9,7 +9,7 @@ use Rattle.mos_edits.specs.declared.edit.Edit.TheVariants as edits
 use Rattle.world_laws.specs.Outcomes.{Outcome, written}
 use Rattle.world_parts.specs.declared.packet.Packet.{Packet}
 use Rattle.world_parts.specs.declared.packet.PacketTag.{PacketTag}
-use Rattle.world_parts.specs.declared.packet.PacketTag.TheVariants.{Untagged, Entry, Again, List as Listed}
+use Rattle.world_parts.specs.declared.packet.PacketTag.TheVariants.{Untagged, Entry, Again, Script, List as Listed}
 use Rattle.world_parts.specs.Matching.{Carries}
 use Rattle.world_parts.specs.Told.{tag_of, told_message, told_list, told}
 
@@ -21,6 +21,7 @@ edit-told (edits.Delete ro) = refl
 edit-told (edits.Metadata patch) = refl
 edit-told (edits.Act ro action) = refl
 edit-told (edits.Air ro air) = refl
+edit-told (edits.Script script) = refl
 
 listed-edit-told : (r : Text) (m : ℕ) (e : Edit) → told_list r m (edit_message e) ≡ Outcome.Nothing
 listed-edit-told r m (edits.Create body) = refl
@@ -29,6 +30,7 @@ listed-edit-told r m (edits.Delete ro) = refl
 listed-edit-told r m (edits.Metadata patch) = refl
 listed-edit-told r m (edits.Act ro action) = refl
 listed-edit-told r m (edits.Air ro air) = refl
+listed-edit-told r m (edits.Script script) = refl
 
 untagged-told : (m : Message) → IsWritten m → told_message (message_of m) ≡ written kinds.Untagged m
 untagged-told (Heartbeat time) w = refl
@@ -56,6 +58,7 @@ tag-told : (t : PacketTag) (m : Message) → IsWritten m → told t (message_of 
 tag-told Untagged m w = untagged-told m w
 tag-told (Entry ro k) m w = refl
 tag-told (Again ro k) m w = refl
+tag-told (Script ro k n) m w = refl
 tag-told (Listed ro k) m w = listed-told ro k m w
 
 pub packet-told : (p : Packet) (q : Said) → Carries p q → told p.tag p.message ≡ written q.tag q.message

@@ -7,12 +7,13 @@ use Rattle.mos_values.specs.declared.message.Message.{Message}
 use Rattle.mos_values.specs.declared.message.Message.TheVariants as carried
 use Rattle.world_laws.specs.Outcomes.{Outcome}
 use Rattle.world_parts.specs.declared.packet.PacketTag.{PacketTag}
-use Rattle.world_parts.specs.declared.packet.PacketTag.TheVariants.{Untagged, Entry, Again, List as Listed}
+use Rattle.world_parts.specs.declared.packet.PacketTag.TheVariants.{Untagged, Entry, Again, Script, List as Listed}
 
 abbrev pub tag_of : PacketTag → kinds
 tag_of Untagged = kinds.Untagged
 tag_of (Entry ro k) = kinds.OfEntry ro k
 tag_of (Again ro m) = kinds.OfAgain ro m
+tag_of (Script ro k m) = kinds.OfScript ro k m
 tag_of (Listed ro m) = kinds.OfList ro m
 
 -- what is told of a message by itself
@@ -34,6 +35,7 @@ abbrev pub told : PacketTag → Message → Outcome
 told Untagged message = told_message message
 told (Entry ro k) message = Outcome.Edit ro k
 told (Again ro m) message = Outcome.Again ro m
+told (Script ro k m) message = Outcome.Script ro k m
 told (Listed ro m) message = told_list ro m message
 
 -- ---- what a device applied
@@ -46,6 +48,7 @@ whole_edit (carried.RoDelete ro) = Some true
 whole_edit (carried.RoMetadataReplace patch) = Some false
 whole_edit (carried.RoElementAction ro action) = Some false
 whole_edit (carried.RoReadyToAir ro air) = Some false
+whole_edit (carried.RoStorySend script) = Some false
 whole_edit message = None
 
 -- whether a roAck with this status says that an entry was applied, which was read in step or not and is a whole-order edit or

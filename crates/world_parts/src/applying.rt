@@ -37,6 +37,7 @@ fn whole_edit(message: &Message) -> Option<bool>
         Message::RoMetadataReplace(_) => Some(false),
         Message::RoElementAction { ro: _, action: _ } => Some(false),
         Message::RoReadyToAir { ro: _, air: _ } => Some(false),
+        Message::RoStorySend(_) => Some(false),
         _ => None,
     }
 }

@@ -19,6 +19,8 @@ pub enum PacketTag {
     Entry { ro: Id, k: u64 },
     /// The READY before entry `m` of an order, sent again.
     Again { ro: Id, m: u64 },
+    /// The script of entry `k` of an order, sent again behind a list of `m` entries.
+    Script { ro: Id, k: u64, m: u64 },
     /// An order after `m` entries, or that there is none.
     List { ro: Id, m: u64 },
 }
@@ -90,6 +92,11 @@ fn told_packet(tag: &PacketTag, message: &Message) -> Result<Outcome, NoMemory>
         }),
         PacketTag::Again { ro, m } => Ok(Outcome::Again {
             ro: ro.try_clone()?,
+            m: *m,
+        }),
+        PacketTag::Script { ro, k, m } => Ok(Outcome::Script {
+            ro: ro.try_clone()?,
+            k: *k,
             m: *m,
         }),
         PacketTag::List { ro, m } => told_list(ro, *m, message),

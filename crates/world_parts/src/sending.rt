@@ -12,6 +12,7 @@ pub fn packet_tag(tag: Tag) -> PacketTag
     match tag {
         Tag::Edit { ro, k } => PacketTag::Entry { ro, k },
         Tag::Again { ro, m } => PacketTag::Again { ro, m },
+        Tag::Script { ro, k, m } => PacketTag::Script { ro, k, m },
         Tag::Ask { ro: _ } => PacketTag::Untagged,
         Tag::AskAll => PacketTag::Untagged,
         Tag::Beat => PacketTag::Untagged,

@@ -1,5 +1,5 @@
 -- Lines that commands are written as are read as those commands.
-use Rattle.std.proofs.Common.{◌≡◌, ℕ, suc, zero, ◌+◌, ◌≤◌, ◌&&◌, not, Bool, List, [], ◌∷◌, ◌++◌, map, length, true, false, Option, Some, None, nat_le, ◌==◌, codes, ap, refl, arith, sym, ◌∙◌, if◌then◌else◌}
+use Rattle.std.proofs.Common.{◌≡◌, ℕ, ◌≤◌, ◌&&◌, not, Bool, List, [], ◌∷◌, ◌++◌, map, length, true, false, Option, Some, None, nat_le, ◌==◌, codes, ap, refl, arith, sym, ◌∙◌, if◌then◌else◌}
 use Rattle.std.specs.List.{AllByRecursion, list_all, slice_split, onto_first, join_with_byte}
 use Rattle.std.specs.Option.{option_map}
 use Rattle.std.proofs.lemmas.Bool.Decides.{nat_tests}
@@ -18,14 +18,15 @@ use Rattle.mos_values.specs.declared.item.Item.{Item}
 use Rattle.mos_values.specs.Distinct.{item_ids, story_ids}
 use Rattle.mos_values.specs.OrderValue.{OrderBody}
 use Rattle.mos_values.specs.StoryValue.{Story}
+use Rattle.mos_values.specs.declared.story_send.StorySend.{StorySend}
 use Rattle.world_laws.specs.World.{WorldEvent}
 use Rattle.script_edits.specs.declared.edit_verb.EditVerb.{EditVerb}
 use Rattle.script_edits.specs.declared.edit_verb.EditVerb.TheVariants as verbs
 use Rattle.script_edits.specs.Words.{Word, both, is_name, is_name_char, are_names, are_distinct, name_of, target_of, words_of}
-use Rattle.script_edits.specs.Stories.{item_named, slug_patch, story_named, header_named, order_named, story_with, story_parts, story_of, item_names, stories_of, if_distinct}
-use Rattle.script_edits.specs.Edits.{some_ids, some_items, some_stories, two_names, target_and, name_and, acts, edit_form, edit_with, edit_of, edit_verb_of}
+use Rattle.script_edits.specs.Stories.{item_named, script_named, slug_patch, story_named, order_named, story_with, story_parts, story_of, stories_of, if_distinct}
+use Rattle.script_edits.specs.Edits.{some_ids, some_items, some_stories, two_names, target_and, name_and, acts, edit_form, edit_of, edit_verb_of}
 use Rattle.world_scripts.specs.Events.{event_of, event_in, verb_of, line_limit}
-use Rattle.world_scripts.specs.PrintedCommands.{target_word, slug_words, named_items, story_word, action_words, edit_words, command_line, IsName, IsTarget, IsSayableItem, AreSayableItems, IsSayableStory, AreSayableStories, IsSayableOrder, IsSayableAction, IsSayableEdit}
+use Rattle.world_scripts.specs.PrintedCommands.{target_word, body_text, slug_words, named_items, story_word, action_words, edit_words, command_line, IsName, IsTarget, AreSayableItems, IsSayableStory, AreSayableStories, IsSayableOrder, IsSayableAction, IsSayableEdit}
 
 -- ---- parts
 
@@ -192,6 +193,10 @@ edit_back (edits.Metadata p) h =
 edit_back (edits.Act r a) h = action_back r a h.0 h.1
 edit_back (edits.Air r Ready) h = form_back verbs.Ready (codes "ready") refl r h []
 edit_back (edits.Air r NotReady) h = form_back verbs.NotReady (codes "notready") refl r h []
+edit_back (edits.Script s) h =
+    let x = body_text s.body in
+    form_back verbs.Script (codes "script") refl s.ro h.0 (s.story ∷ x ∷ [])
+    ∙ (ap (option_map (λ p. edits.Script (script_named s.ro p.0 p.1))) (two_back s.story x h.1 h.2) ∙ ap (λ (t : StorySend). Some (edits.Script t)) (sym h.3))
 
 -- ---- lines
 
@@ -242,6 +247,7 @@ edit_free (edits.Metadata p) h = (refl, (plain p.ro h.0, slug_free p.slug h.1.0 
 edit_free (edits.Act r a) h = action_free r a h.0 h.1
 edit_free (edits.Air r Ready) h = (refl, (plain r h, tt))
 edit_free (edits.Air r NotReady) h = (refl, (plain r h, tt))
+edit_free (edits.Script s) h = (refl, (plain s.ro h.0, (plain s.story h.1, (plain (body_text s.body) h.2, tt))))
 
 read_line : (line : List ℕ) → length line ≤ 1000 → event_in line ≡ event_of (words_of line)
 unfolding event_in

@@ -1,18 +1,21 @@
 -- Worked lines and made events, by computation.
-use Rattle.std.proofs.Common.{◌≡◌, List, [], ◌∷◌, Some, None, codes, refl}
+use Rattle.std.proofs.Common.{◌≡◌, [], ◌∷◌, ◌++◌, true, false, Some, None, codes, refl}
 use Rattle.std.specs.Fmt.{digits}
-use Rattle.mos_edits.specs.Entries.{Entry, entry_of}
+use Rattle.mos_edits.specs.Entries.{entry_of}
 use Rattle.mos_edits.specs.Orders.{apply}
 use Rattle.mos_edits.specs.Texts.{same_id}
 use Rattle.world_laws.specs.World.{World, opening}
 use Rattle.world_laws.specs.Outcomes.{Outcome}
-use Rattle.world_scripts.specs.Listing.{state_lines}
+use Rattle.mos_machines.specs.Server.{ServerOut, View}
+use Rattle.world_scripts.specs.Listing.{line, sent_words, state_lines, view_words}
+use Rattle.world_scripts.specs.PrintedCommands.{command_line}
 use Rattle.world_scripts.specs.Results.{listing, summary}
 use Rattle.mos_values.specs.declared.action.Action.TheVariants as actions
+use Rattle.mos_edits.specs.declared.edit.Edit.{Edit}
 use Rattle.mos_edits.specs.declared.edit.Edit.TheVariants as edits
 use Rattle.world_laws.specs.World.{PairingEvent, WorldEvent, Direction}
 use Rattle.script_edits.specs.Words.{is_name, is_number}
-use Rattle.script_edits.specs.Stories.{story_named, story_of, order_named, item_named}
+use Rattle.script_edits.specs.Stories.{story_named, story_of, order_named, item_named, script_named, named_body}
 use Rattle.script_edits.specs.Edits.{edit_of, edit_verb_of}
 use Rattle.world_scripts.specs.Events.{event_in, verb_of}
 use Rattle.world_scripts.specs.Scripts.{devices_in, script_of, Script}
@@ -60,6 +63,24 @@ item_twice = refl
 swap_items : event_in (codes "cmd iswap r A x z") ≡ Some (commands (edits.Act (codes "r") (actions.SwapItems (codes "A") (codes "x") (codes "z"))))
 unfolding event_in verb_of edit_of edit_verb_of is_name
 swap_items = refl
+
+-- the script of a story has a name for its text
+abbrev script_hi : Edit
+script_hi = edits.Script (script_named (codes "r") (codes "A") (codes "hi"))
+
+script_story : event_in (codes "cmd script r A hi") ≡ Some (commands script_hi)
+unfolding event_in verb_of edit_of edit_verb_of is_name
+script_story = refl
+
+two_texts : event_in (codes "cmd script r A hi there") ≡ None
+unfolding event_in verb_of edit_of edit_verb_of is_name
+two_texts = refl
+
+body_hi : named_body (codes "hi") ≡ codes "<storyBody>hi</storyBody>"
+body_hi = refl
+
+written_back : command_line script_hi ≡ codes "cmd script r A hi"
+written_back = refl
 
 -- ---- scripts
 
@@ -110,3 +131,28 @@ one_order = record (opening 1) { journal = entry_of (edits.Create (order_named (
 order_lines : listing (Outcome.Command (codes "OK") ∷ []) (state_lines one_order (λ d. codes "r" ∷ [])) ≡ codes "1 OK\norder r 1 A:x B\nserver 1 down\nview 1 r out\ndevice 1 upper - dial - idle\n"
 unfolding one_order digits apply same_id lib.Utf8.encode
 order_lines = refl
+
+-- an order of which a story has a script
+scripted_order : World
+scripted_order = record one_order { journal = one_order.journal ++ entry_of script_hi ∷ [] }
+
+script_lines : listing (Outcome.Command (codes "OK") ∷ Outcome.Script (codes "r") 1 2 ∷ []) (state_lines scripted_order (λ d. codes "r" ∷ [])) ≡ codes "1 OK\n2 script r 1 2\norder r 2 A!:x B\nserver 1 down\nview 1 r out\ndevice 1 upper - dial - idle\n"
+unfolding scripted_order one_order digits apply same_id lib.Utf8.encode
+script_lines = refl
+
+-- scripts that are still to be sent, and a READY behind them
+due_line : line (view_words (View.In 2 false (1 ∷ []))) ≡ codes "in 2 scripts 1\n"
+unfolding digits
+due_line = refl
+
+due_again_line : line (view_words (View.In 14 true (3 ∷ 12 ∷ []))) ≡ codes "in 14 scripts 2 again\n"
+unfolding digits
+due_again_line = refl
+
+again_line : line (view_words (View.In 14 true [])) ≡ codes "in 14 again\n"
+unfolding digits
+again_line = refl
+
+sent_line : line (sent_words (ServerOut.SendsScript (codes "r") 1 2)) ≡ codes "script r 1 2\n"
+unfolding digits lib.Utf8.encode
+sent_line = refl

@@ -1,16 +1,16 @@
 -- Lines that events are written as are read as those events.
-use Rattle.std.proofs.Common.{◌≡◌, ℕ, suc, zero, ◌+◌, ◌-◌, ◌*◌, ◌/◌, ◌%◌, ◌^◌, ◌<◌, ◌≤◌, ◌&&◌, not, Bool, List, [], ◌∷◌, ◌++◌, length, true, false, Option, Some, None, nat_le, ◌==◌, codes, ap, refl, arith, rules, sym, ◌∙◌, if◌then◌else◌}
+use Rattle.std.proofs.Common.{◌≡◌, ℕ, ◌+◌, ◌*◌, ◌/◌, ◌%◌, ◌<◌, ◌≤◌, not, Bool, List, [], ◌∷◌, ◌++◌, length, true, false, Option, Some, nat_le, ◌==◌, codes, ap, refl, arith, rules, ◌∙◌}
 use Rattle.std.specs.Fmt.{decimal}
-use Rattle.std.specs.List.{AllByRecursion, list_all, slice_split, onto_first, join_with_byte}
+use Rattle.std.specs.List.{AllByRecursion, list_all, onto_first, join_with_byte}
 use Rattle.std.proofs.lemmas.Bool.Decides.{nat_tests}
 use Rattle.std.proofs.lemmas.Fmt.{decimal_by_steps, length-decimal-le, digits_decimal, digits_value-decimal}
 use Rattle.std.proofs.lemmas.List.{length-append}
 use Rattle.std.proofs.lemmas.List.Splits.{slice_split-cons_no}
 use Rattle.std.proofs.lemmas.Str.Parse.{IsNumeralModel, numerals_by_fold}
 use Rattle.world_laws.specs.World.{Direction, PairingEvent, WorldEvent}
-use Rattle.script_edits.specs.Words.{Word, both, is_digit, is_name, is_name_char, is_number, value_after, number_of, name_of, words_of}
-use Rattle.world_scripts.specs.Events.{event_of, event_in, verb_of, at_number, event_with, line_limit}
-use Rattle.world_scripts.specs.Printed.{pairing_words, event_words, line_of, direction_word, IsShort, IsSayable, IsSayableAt}
+use Rattle.script_edits.specs.Words.{Word, both, is_digit, is_name, is_name_char, is_number, value_after, number_of, words_of}
+use Rattle.world_scripts.specs.Events.{event_of, event_in, verb_of, line_limit}
+use Rattle.world_scripts.specs.Printed.{line_of, IsShort, IsSayable, IsSayableAt}
 
 -- ---- numbers
 

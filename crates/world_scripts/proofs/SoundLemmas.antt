@@ -1,6 +1,5 @@
 -- The edits of scripts have encodings.
 use Rattle.std.proofs.Common.{◌≡◌, ℕ, ◌≤◌, Bool, true, false, List, [], ◌∷◌, map, length, ◌==◌, Option, Some, None, if◌then◌else◌, IfSome, refl, arith}
-use Rattle.std.specs.List.{slice_split}
 use Rattle.std.specs.Option.{option_map}
 use Rattle.mos_fields.specs.Characters.{Text}
 use Rattle.mos_machines.specs.Values.{edit_message}
@@ -10,13 +9,15 @@ use Rattle.mos_edits.specs.declared.edit.Edit.{Edit}
 use Rattle.mos_edits.specs.declared.edit.Edit.TheVariants as edits
 use Rattle.mos_values.specs.declared.item.Item.{Item}
 use Rattle.mos_values.specs.StoryValue.{Story}
-use Rattle.mos_values.specs.Parts.{must, maybe, maybe_as, maybe_raw, raws}
+use Rattle.mos_values.specs.Parts.{must, must_raw, maybe, maybe_as, maybe_raw, raws}
 use Rattle.mos_values.specs.Sound.{IsSound, IsSoundItem, AreSoundItems, IsSoundStory, AreSoundStories, IsSoundBody, IsSoundPatch, IsSoundAction}
-use Rattle.mos_values.specs.Views.{header_events, patch_events, item_events, story_head_events}
+use Rattle.mos_values.specs.Views.{header_events, patch_events, item_events, story_head_events, story_send_events}
 use Rattle.world_laws.specs.World.{WorldEvent}
 use Rattle.world_scripts.specs.WorldEvents.{HasSoundEdit}
-use Rattle.script_edits.specs.Words.{Word, words_of, both, all_three, at_least_one, are_names, target_of, name_of, number_of}
-use Rattle.script_edits.specs.Stories.{item_named, story_named, order_named, slug_patch, items_of, story_with, story_parts, story_of, stories_of, if_distinct}
+use Rattle.world_scripts.specs.PrintedCommands.{IsName}
+use Rattle.world_scripts.proofs.ScriptBodies.{named_raw}
+use Rattle.script_edits.specs.Words.{Word, words_of, both, all_three, is_name, target_of, name_of, number_of}
+use Rattle.script_edits.specs.Stories.{item_named, story_named, order_named, script_named, slug_patch, story_parts, story_of, stories_of, if_distinct}
 use Rattle.script_edits.specs.Edits.{some_ids, some_items, some_stories, two_names, target_and, name_and, acts, edit_form, edit_with, edit_of, edit_verb_of}
 use Rattle.script_edits.specs.declared.edit_verb.EditVerb.{EditVerb}
 use Rattle.script_edits.specs.declared.edit_verb.EditVerb.TheVariants as verbs
@@ -151,6 +152,24 @@ unfolding IsSound
 sound_meta r None = tt
 sound_meta r (Some slug) = sound_patch r slug
 
+-- the text of a script is a name
+second_named : (ws : List Word) → IfSome (two_names ws) (λ p. IsName p.1)
+second_named [] = tt
+second_named (x ∷ []) = tt
+second_named (x ∷ y ∷ []) = both_some (λ a. Unit {0}) IsName (λ p. IsName p.1) (λ a b. (a, b)) (λ a b u i. i) (name_of x) (name_of y) (any (name_of x)) (named_is y)
+  where
+    named_is : (w : Word) → IfSome (name_of w) IsName
+    named_is w = go (is_name w) refl
+      where
+        go : (b : Bool) → is_name w ≡ b → IfSome (if b then Some w else None) IsName
+        go true e = e
+        go false e = tt
+second_named (x ∷ y ∷ z ∷ ws) = tt
+
+sound_script : (r id x : Text) → IsName x → IsSoundEdit (edits.Script (script_named r id x))
+unfolding IsSound story_send_events must maybe must_raw raws
+sound_script r id x h = (tt, (tt, (named_raw x h, tt)))
+
 -- an edit that has nothing to be sound
 sound_delete : (r : Text) → IsSoundEdit (edits.Delete r)
 unfolding IsSound
@@ -172,6 +191,7 @@ sound_form verbs.Ready r [] = sound_air r Ready
 sound_form verbs.Ready r (w ∷ ws) = tt
 sound_form verbs.NotReady r [] = sound_air r NotReady
 sound_form verbs.NotReady r (w ∷ ws) = tt
+sound_form verbs.Script r ws = map_some (λ p. IsName p.1) IsSoundEdit (λ p. edits.Script (script_named r p.0 p.1)) (λ p h. sound_script r p.0 p.1 h) (two_names ws) (second_named ws)
 sound_form verbs.Insert r ws = sound_act r _ (map_some (λ p. SomeStories p.1) IsSoundAction (λ p. actions.InsertStories p.0 p.1) (λ p h. h) _ (targeted SomeStories some_stories some_stories_sound ws))
 sound_form verbs.Sub r ws = sound_act r _ (map_some (λ p. SomeStories p.1) IsSoundAction (λ p. actions.ReplaceStory p.0 p.1) (λ p h. h) _ (targeted SomeStories some_stories some_stories_sound ws))
 sound_form verbs.Move r ws = sound_act r _ (map_some (λ p. SomeIds p.1) IsSoundAction (λ p. actions.MoveStories p.0 p.1) (λ p h. h) _ (targeted SomeIds some_ids some_ids_sound ws))

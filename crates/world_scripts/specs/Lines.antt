@@ -5,7 +5,7 @@ use Rattle.std.specs.Char.{encode_utf8}
 use Rattle.std.specs.Fmt.{decimal}
 use Rattle.mos_fields.specs.Characters.{Text}
 use Rattle.world_laws.specs.Outcomes.{Outcome}
-use Rattle.world_laws.specs.Outcomes.Outcome.{Impossible, Done, Connection, Nothing, Taken, Unasked, Heartbeat, Edit, Again, AskAll, Ask, ListAll, List as Listed, Ack, Command}
+use Rattle.world_laws.specs.Outcomes.Outcome.{Impossible, Done, Connection, Nothing, Taken, Unasked, Heartbeat, Edit, Again, Script, AskAll, Ask, ListAll, List as Listed, Ack, Command}
 
 -- a text in UTF-8
 abbrev pub utf8 : Text → List ℕ
@@ -26,6 +26,7 @@ outcome_text Unasked = codes "unasked"
 outcome_text Heartbeat = codes "heartbeat"
 outcome_text (Edit ro k) = spaced (codes "edit") (spaced (utf8 ro) (decimal k))
 outcome_text (Again ro m) = spaced (codes "again") (spaced (utf8 ro) (decimal m))
+outcome_text (Script ro k m) = spaced (codes "script") (spaced (utf8 ro) (spaced (decimal k) (decimal m)))
 outcome_text AskAll = codes "roReqAll"
 outcome_text (Ask ro) = spaced (codes "roReq") (utf8 ro)
 outcome_text (ListAll n) = spaced (codes "roListAll") (decimal n)

@@ -1,14 +1,15 @@
 -- The state lines of a listing: what is said of a world behind the lines of its events.
-use Rattle.std.specs.Prelude.{◌≡◌, ◌<◌, ◌↔◌, ◌≢◌, ℕ, ◌+◌, List, [], ◌∷◌, ◌++◌, map, Bool, true, false, Option, Some, None, IsTrue, codes, AllPairs, Contains, zero, suc}
+use Rattle.std.specs.Prelude.{◌≡◌, ◌<◌, ◌↔◌, ◌≢◌, ℕ, ◌+◌, List, [], ◌∷◌, ◌++◌, map, Bool, true, false, Option, Some, None, if◌then◌else◌, ◌==◌, codes, AllPairs, Contains, zero, suc, length}
 use Rattle.std.specs.List.{flat_map, join_by}
 use Rattle.std.specs.Fmt.{decimal}
 use Rattle.mos_edits.specs.Texts.{Text}
-use Rattle.mos_edits.specs.Orders.{Item, Story, Order}
+use Rattle.mos_edits.specs.Orders.{Item, Story, StorySend, Order}
+use Rattle.mos_edits.specs.Scripts.{script_of}
 use Rattle.mos_edits.specs.Entries.{Entry, entry_count, order_now, is_before, insert_id}
 use Rattle.mos_machines.specs.Server.{ServerOut, Upper, View}
 use Rattle.mos_machines.specs.Device.{GateOut, Phase}
 use Rattle.world_laws.specs.World.{World, Pairing}
-use Rattle.world_scripts.specs.Lines.{utf8, spaced}
+use Rattle.world_scripts.specs.Lines.{utf8}
 
 -- ---- lines of words
 
@@ -23,23 +24,29 @@ connection_word (Some c) = decimal c
 
 -- ---- orders
 
--- behind a story's name, where it has items: a colon, and their names with commas between
+-- behind a story's name, where it has a script: `!`
+abbrev pub script_word : Option StorySend → List ℕ
+script_word None = []
+script_word (Some script) = codes "!"
+
+-- behind that, where it has items: a colon, and their names with commas between
 abbrev pub items_word : List Item → List ℕ
 items_word [] = []
 items_word (i ∷ items) = 58 ∷ join_by (λ (x : Item). utf8 x.id) (44 ∷ []) (i ∷ items)
 
-abbrev pub story_word : Story → List ℕ
-story_word s = utf8 s.id ++ items_word s.items
+-- a story of an order
+abbrev pub story_word : Order → Story → List ℕ
+story_word o s = utf8 s.id ++ script_word (script_of o s.id) ++ items_word s.items
 
 -- the stories of an order that is there
-abbrev pub stories_words : List Story → List (List ℕ)
-stories_words [] = codes "empty" ∷ []
-stories_words (s ∷ ss) = map story_word (s ∷ ss)
+abbrev pub stories_words : Order → List Story → List (List ℕ)
+stories_words o [] = codes "empty" ∷ []
+stories_words o (s ∷ ss) = map (story_word o) (s ∷ ss)
 
 -- an order, or that there is none
 abbrev pub order_words : Option Order → List (List ℕ)
 order_words None = codes "none" ∷ []
-order_words (Some o) = stories_words o.stories
+order_words (Some o) = stories_words o o.stories
 
 -- the roIDs of the entries, ascending
 abbrev pub entered : List Entry → List Text
@@ -55,6 +62,7 @@ abbrev pub sent_words : ServerOut → List (List ℕ)
 sent_words ServerOut.Idle = codes "idle" ∷ []
 sent_words (ServerOut.SendsEdit r k) = codes "edit" ∷ utf8 r ∷ decimal k ∷ []
 sent_words (ServerOut.SendsAgain r m) = codes "again" ∷ utf8 r ∷ decimal m ∷ []
+sent_words (ServerOut.SendsScript r k m) = codes "script" ∷ utf8 r ∷ decimal k ∷ decimal m ∷ []
 sent_words ServerOut.SendsBeat = codes "beat" ∷ []
 
 abbrev pub upper_words : Upper → List (List ℕ)
@@ -62,11 +70,19 @@ upper_words Upper.Down = codes "down" ∷ []
 upper_words (Upper.Greeting c) = codes "greeting" ∷ decimal c ∷ []
 upper_words (Upper.Open c out) = codes "open" ∷ decimal c ∷ sent_words out
 
+-- how many scripts are still to be sent, where any are
+abbrev pub due_words : ℕ → List (List ℕ)
+due_words c = if c == 0 then [] else codes "scripts" ∷ decimal c ∷ []
+
+-- that the READY is still to be sent again, where it is
+abbrev pub again_words : Bool → List (List ℕ)
+again_words false = []
+again_words true = codes "again" ∷ []
+
 abbrev pub view_words : View → List (List ℕ)
 view_words View.Out = codes "out" ∷ []
-view_words (View.Listed m) = codes "listed" ∷ decimal m ∷ []
-view_words (View.In n false) = codes "in" ∷ decimal n ∷ []
-view_words (View.In n true) = codes "in" ∷ decimal n ∷ codes "again" ∷ []
+view_words (View.Listed m scripts) = codes "listed" ∷ decimal m ∷ []
+view_words (View.In n again scripts) = codes "in" ∷ decimal n ∷ (due_words (length scripts) ++ again_words again)
 view_words (View.From k) = codes "from" ∷ decimal k ∷ []
 
 abbrev pub server_line : ℕ → Pairing → List ℕ

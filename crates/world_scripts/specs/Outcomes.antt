@@ -14,6 +14,7 @@ outcome_of held.Unasked = outcomes.Unasked
 outcome_of held.Heartbeat = outcomes.Heartbeat
 outcome_of (held.Edit ro k) = outcomes.Edit ro k
 outcome_of (held.Again ro m) = outcomes.Again ro m
+outcome_of (held.Script ro k m) = outcomes.Script ro k m
 outcome_of held.AskAll = outcomes.AskAll
 outcome_of (held.Ask ro) = outcomes.Ask ro
 outcome_of (held.ListAll n) = outcomes.ListAll n

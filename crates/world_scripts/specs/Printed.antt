@@ -4,7 +4,6 @@ use Rattle.std.specs.List.{join_with_byte}
 use Rattle.std.specs.Fmt.{decimal}
 use Rattle.world_laws.specs.World.{Direction, PairingEvent, WorldEvent}
 use Rattle.script_edits.specs.Words.{Word, is_name}
-use Rattle.world_scripts.specs.Events.{event_in}
 
 abbrev pub direction_word : Direction → Word
 direction_word Direction.ToServer = codes "s"

@@ -1,5 +1,5 @@
 -- The lines that commands are written as.
-use Rattle.std.specs.Prelude.{◌≡◌, ℕ, ◌≤◌, true, List, [], ◌∷◌, ◌++◌, map, length, Option, Some, None, codes}
+use Rattle.std.specs.Prelude.{◌≡◌, ℕ, ◌≤◌, true, List, [], ◌∷◌, ◌++◌, map, length, take, drop, ◌-◌, Option, Some, None, codes}
 use Rattle.std.specs.List.{AllByRecursion, join_with_byte}
 use Rattle.mos_fields.specs.Characters.{Text}
 use Rattle.mos_fields.specs.declared.air.Air.TheVariants.{Ready, NotReady}
@@ -11,7 +11,7 @@ use Rattle.mos_values.specs.declared.item.Item.{Item}
 use Rattle.mos_values.specs.Distinct.{item_ids, story_ids}
 use Rattle.mos_values.specs.OrderValue.{OrderBody}
 use Rattle.mos_values.specs.StoryValue.{Story}
-use Rattle.script_edits.specs.Stories.{item_named, story_named, header_named, slug_patch}
+use Rattle.script_edits.specs.Stories.{item_named, story_named, header_named, script_named, slug_patch}
 use Rattle.script_edits.specs.Words.{Word, is_name, are_names, are_distinct}
 
 -- ---- words
@@ -47,6 +47,10 @@ action_words r (actions.MoveItems a t ids) = codes "imove" ∷ r ∷ a ∷ targe
 action_words r (actions.DeleteItems a ids) = codes "idrop" ∷ r ∷ a ∷ ids
 action_words r (actions.SwapItems a x y) = codes "iswap" ∷ r ∷ a ∷ x ∷ y ∷ []
 
+-- the text of a storyBody: what stands between the tags `<storyBody>` and `</storyBody>`
+abbrev pub body_text : Text → Text
+body_text b = take (length (drop 11 b) - 12) (drop 11 b)
+
 -- the words behind `cmd`
 abbrev pub edit_words : Edit → List Word
 edit_words (edits.Create b) = codes "create" ∷ b.header.ro ∷ map story_word b.stories
@@ -56,6 +60,7 @@ edit_words (edits.Metadata p) = codes "meta" ∷ p.ro ∷ slug_words p.slug
 edit_words (edits.Act r a) = action_words r a
 edit_words (edits.Air r Ready) = codes "ready" ∷ r ∷ []
 edit_words (edits.Air r NotReady) = codes "notready" ∷ r ∷ []
+edit_words (edits.Script s) = codes "script" ∷ s.ro ∷ s.story ∷ body_text s.body ∷ []
 
 -- The line of a command, without its line feed.
 abbrev pub command_line : Edit → List ℕ
@@ -114,3 +119,4 @@ IsSayableEdit (edits.Delete r) = IsName r
 IsSayableEdit (edits.Metadata p) = IsName p.ro × ((slug : Text) × IsName slug × (p ≡ slug_patch p.ro slug))
 IsSayableEdit (edits.Act r a) = IsName r × IsSayableAction a
 IsSayableEdit (edits.Air r air) = IsName r
+IsSayableEdit (edits.Script s) = IsName s.ro × IsName s.story × IsName (body_text s.body) × (s ≡ script_named s.ro s.story (body_text s.body))

@@ -1,5 +1,5 @@
 -- What is written of a run: a line for each event and the state lines, or counts and the state lines.
-use Rattle.std.specs.Prelude.{ℕ, zero, suc, ◌+◌, List, [], ◌∷◌, ◌++◌, Bool, true, false, not, if◌then◌else◌, length, codes, bytes_eq}
+use Rattle.std.specs.Prelude.{ℕ, ◌+◌, List, [], ◌∷◌, ◌++◌, Bool, true, false, not, if◌then◌else◌, length, codes, bytes_eq}
 use Rattle.std.specs.Fmt.{decimal}
 use Rattle.world_laws.specs.Outcomes.{Outcome}
 use Rattle.world_scripts.specs.Lines.{outcome_text, spaced}

@@ -1,5 +1,5 @@
 -- Whole scripts.
-use Rattle.std.specs.Prelude.{ℕ, ◌+◌, Bool, List, [], ◌∷◌, take, drop, Option, Some, None, if◌then◌else◌, ◌==◌, ◌&&◌, nat_le, nat_lt, bytes_eq, codes}
+use Rattle.std.specs.Prelude.{ℕ, ◌+◌, List, [], ◌∷◌, take, drop, Option, Some, None, if◌then◌else◌, ◌==◌, ◌&&◌, nat_le, nat_lt, bytes_eq, codes}
 use Rattle.std.specs.List.{slice_split}
 use Rattle.world_laws.specs.World.{WorldEvent}
 use Rattle.script_edits.specs.Words.{number_of}

@@ -4,7 +4,8 @@ ghost use Rattle.world_scripts.specs.Lines.{outcome_text};
 ghost use Rattle.world_scripts.specs.Outcomes.{outcome_of};
 
 use crate::texts::{
-    push_named, push_named_and_numbered, push_named_twice, push_numbered, push_text, push_word,
+    push_named, push_named_and_numbered, push_named_and_numbered_twice, push_named_twice,
+    push_numbered, push_text, push_word,
 };
 use mos_fields::{Id, NoMemory, OptId, Text};
 use std::alloc::Global;
@@ -30,6 +31,8 @@ pub enum Outcome {
     Edit { ro: Id, k: u64 },
     /// The READY before entry `m` of the order `ro` was written again.
     Again { ro: Id, m: u64 },
+    /// The script of entry `k` of the order `ro` was written again, behind a list of `m` entries.
+    Script { ro: Id, k: u64, m: u64 },
     /// A request of the list of all orders was written.
     AskAll,
     /// A request of the order `ro` was written.
@@ -72,6 +75,9 @@ impl Outcome {
             Outcome::Edit { ro, k } => push_named_and_numbered(alloc, line, "edit", ro.text(), *k),
             Outcome::Again { ro, m } => {
                 push_named_and_numbered(alloc, line, "again", ro.text(), *m)
+            }
+            Outcome::Script { ro, k, m } => {
+                push_named_and_numbered_twice(alloc, line, "script", ro.text(), *k, *m)
             }
             Outcome::AskAll => push_word(line, "roReqAll"),
             Outcome::Ask { ro } => push_named(alloc, line, "roReq", ro.text()),

@@ -79,6 +79,22 @@ pub fn push_named_and_numbered(
     push_digits(alloc, line, number)
 }
 
+/// Appends a word, a text and two numbers.
+pub fn push_named_and_numbered_twice(
+    alloc: Global,
+    line: &mut String,
+    word: &str,
+    text: &Text,
+    number: u64,
+    other: u64,
+) -> Result<(), NoMemory>
+    ensures { OnOk result (string_bytes line.new ≡ string_bytes line.old ++ spaced word.now (spaced (utf8 text.now) (spaced (decimal number) (decimal other)))) }
+{
+    push_named_and_numbered(alloc, line, word, text, number)?;
+    push_word(line, " ")?;
+    push_digits(alloc, line, other)
+}
+
 /// Appends a word and two texts.
 pub fn push_named_twice(
     alloc: Global,

@@ -8,7 +8,7 @@ use Rattle.mos_machines.specs.Messages.{Message, Packet, Status, Step as Machine
 use Rattle.mos_machines.specs.Messages.Message.{Heartbeat, RoEdit, RoAck, RoReq, RoReqAll, RoList, RoListAll, RoElementStat, OtherMessage}
 use Rattle.mos_machines.specs.Server.{Upper, PeerState, ServerOut, beat_or_due, first_due, is_busy, list_of, next_by, peer_answered, peer_hear, peer_next, peer_opened, sent, upper_link}
 use Rattle.mos_machines.specs.Server.Upper.{Down, Greeting, Open}
-use Rattle.mos_machines.specs.Server.ServerOut.{Idle, SendsEdit, SendsAgain, SendsBeat}
+use Rattle.mos_machines.specs.Server.ServerOut.{Idle, SendsEdit, SendsAgain, SendsScript, SendsBeat}
 use Rattle.mos_machines.specs.Steps.{ServerState, ServerEvent, server_says, server_sent, server_step, server_stepped, with_peer}
 use Rattle.mos_machines.specs.Values.{edit_message, message_of, reread, seen}
 use Rattle.mos_machines.specs.Views.{IsPeerWithin}
@@ -134,6 +134,7 @@ edit-tag journal e answer = by e.edit
     by (edits.Metadata p) = refl
     by (edits.Act r a) = refl
     by (edits.Air r a) = refl
+    by (edits.Script s) = refl
 
 pub heard-tag : (journal : List Entry) (s : PeerState) (m : Message) → tag_of (answer_tag journal (message_of m) (message_of (peer_hear journal s m).1.message)) ≡ (peer_hear journal s m).1.tag
 heard-tag journal s (Heartbeat t) = refl
@@ -199,6 +200,11 @@ sent-tag journal now s c (SendsAgain r k) p e = subst (λ (o : Option Packet). b
     by_tag : Option Packet → Type 0
     by_tag None = Unit {0}
     by_tag (Some r) = tag_of (carried_tag (sent_tag r.tag)) ≡ r.tag
+sent-tag journal now s c (SendsScript r k m) p e = subst (λ (o : Option Packet). by_tag o) e refl
+  where
+    by_tag : Option Packet → Type 0
+    by_tag None = Unit {0}
+    by_tag (Some r) = tag_of (carried_tag (sent_tag r.tag)) ≡ r.tag
 
 next-tag-by : (journal : List Entry) (now : MosTime) (s : PeerState) (u : Upper) (p : Packet) → (next_by journal now s u).1 ≡ Some p → tag_of (carried_tag (sent_tag p.tag)) ≡ p.tag
 next-tag-by journal now s Down p e = absurd (cc)
@@ -206,6 +212,7 @@ next-tag-by journal now s (Greeting c) p e = absurd (cc)
 next-tag-by journal now s (Open c Idle) p e = sent-tag journal now s c (beat_or_due s.note (first_due s.views (λ r. 0) journal)) p e
 next-tag-by journal now s (Open c (SendsEdit r k)) p e = absurd (cc)
 next-tag-by journal now s (Open c (SendsAgain r m)) p e = absurd (cc)
+next-tag-by journal now s (Open c (SendsScript r k m)) p e = absurd (cc)
 next-tag-by journal now s (Open c SendsBeat) p e = absurd (cc)
 
 -- what is sent, as it was answered

@@ -11,7 +11,7 @@ ghost use Rattle.written_laws.specs.Worlds.{KeepsLimits};
 
 use mos_edits::Edit;
 use mos_fields::{Id, OptId, Samples};
-use mos_values::{Action, HeaderPatch, Item, OrderBody, Story};
+use mos_values::{Action, HeaderPatch, Item, OrderBody, Story, StorySend};
 use world_scripts::PairingEvent;
 
 fn samples_are_small(count: &Option<Samples>)
@@ -149,6 +149,12 @@ fn order_is_short(body: &OrderBody)
     id_is_short(&body.header.ro);
 }
 
+fn script_is_short(script: &StorySend)
+    ensures { IsShort script.now.ro }
+{
+    id_is_short(&script.ro);
+}
+
 fn ids_are_short(edit: &Edit)
     ensures ids { HasShortIds edit.now }
     ensures ro { IsShort (edit_ro edit.now) }
@@ -163,6 +169,7 @@ fn ids_are_short(edit: &Edit)
             target_is_short(action);
         }
         Edit::Air { ro, air: _ } => id_is_short(ro),
+        Edit::Script(script) => script_is_short(script.as_ref()),
     }
 }
 
