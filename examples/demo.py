@@ -173,6 +173,7 @@ class Demo:
         self.kill_gateway()
         say("gateway", "is killed")
         self.edit(f"insert {ORDER} - CLOSING:music")
+        self.edit(f"script {ORDER} HARBOUR Good_evening")
         self.start_gateway()
         say("gateway", "is started again")
         self.deck_comes_to(["titles", "map", "report", "caption", "music"], False)

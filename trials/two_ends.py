@@ -11,6 +11,7 @@ import threading
 import time
 
 DEVICES = ["dev1", "dev2"]
+WORDS = ["good", "evening", "the", "harbour", "is", "closed", "to", "ships", "until", "morning", "&amp;", "\u00fc", "<em>now</em>"]
 MISHAPS = 50
 LIMIT = 110.0
 
@@ -184,7 +185,10 @@ class Newsroom:
             return f"<roCreate><roID>{ro}</roID><roSlug>order {ro}</roSlug>{''.join(map(story, names))}</roCreate>", ro, names
         ro = rng.choice(ros)
         names = self.orders[ro]
-        kind = rng.choice(["insert"] * 4 + ["swap"] * 3 + ["move"] * 3 + ["delete"] * 2 + ["replace", "whole", "drop"])
+        kind = rng.choice(["insert"] * 4 + ["swap"] * 3 + ["move"] * 3 + ["script"] * 4 + ["delete"] * 2 + ["replace", "whole", "drop"])
+        if kind == "script" and names:
+            words = " ".join(rng.choice(WORDS) for _ in range(rng.randint(0, 40)))
+            return f"<roStorySend><roID>{ro}</roID><storyID>{rng.choice(names)}</storyID><storyBody><p>{words}</p></storyBody></roStorySend>", ro, names
         if kind == "drop" and len(ros) < 4 and rng.random() < 0.7:
             kind = "insert"
         if kind == "drop":

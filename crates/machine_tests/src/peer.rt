@@ -69,7 +69,7 @@ fn open(rt: &impl Abort, peer: &mut Peer, journal: &Journal) -> Result<(), Fail>
 fn list(alloc: Global, peer: &mut Peer, journal: &Journal, name: char) -> Result<(), Fail> {
     let ro = id(alloc, name)?;
     peer.reserve(&ro)?;
-    peer.listed(journal, &ro);
+    peer.listed(journal, &ro, Vec::new(alloc));
     peer.settle(journal, true);
     Ok(())
 }
@@ -98,7 +98,14 @@ fn send(rt: &impl Abort, alloc: Global, peer: &mut Peer, journal: &Journal) -> R
     assert!(rt; peer.is_busy(&first));
     assert!(rt; !peer.is_busy(&second));
     assert!(rt; answer(peer, journal, okay(alloc, 'S')?) == Step::Taken);
-    assert_eq!(rt; peer.view(&first), View::In { n: 1, again: false });
+    assert_eq!(rt;
+        peer.view(&first),
+        View::In {
+            n: 1,
+            again: false,
+            scripts: 0
+        }
+    );
     assert_eq!(rt; next_number(peer, journal, &second)?, Some(0));
     assert!(rt; answer(peer, journal, okay(alloc, 'S')?) == Step::Unasked);
     assert_eq!(rt; peer.view(&first), View::Out);

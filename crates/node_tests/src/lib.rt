@@ -19,6 +19,8 @@ mod releases;
 #[cfg(test)]
 mod restarts;
 #[cfg(test)]
+mod scripts;
+#[cfg(test)]
 mod servers;
 #[cfg(test)]
 mod texts;

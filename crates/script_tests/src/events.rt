@@ -34,6 +34,7 @@ fn edit_word(edit: &Edit) -> &'static str {
             Air::Ready => "READY",
             Air::NotReady => "NOT READY",
         },
+        Edit::Script(_) => "roStorySend",
     }
 }
 
@@ -110,6 +111,7 @@ cmd delete r = roDelete
 cmd meta r News = roMetadataReplace
 cmd ready r = READY
 cmd notready r = NOT READY
+cmd script r A hi = roStorySend
 open 1 = open
 open 0 = open
 accept 1 12 = accept
@@ -129,6 +131,11 @@ cmd insert r - = none
 cmd insert r A:x:y B = none
 cmd drop r = none
 cmd create r-1 = none
+cmd script r A = none
+cmd script r A hi there = none
+cmd script r A h-i = none
+cmd script r A B:x = none
+cmd script r - hi = none
 cmd iswap r A x = none
 open 01 = open
 open 1234567890 = none
@@ -150,7 +157,7 @@ fn lines_are_read(rt: HostRuntime) -> Result<(), Fail> {
             rows = rows.saturating_add(1);
         }
     }
-    assert_eq!(rt; rows, 48);
+    assert_eq!(rt; rows, 54);
     Ok(())
 }
 

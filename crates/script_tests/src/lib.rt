@@ -5,6 +5,8 @@
 #[cfg(test)]
 mod events;
 #[cfg(test)]
+mod golden;
+#[cfg(test)]
 mod plays;
 #[cfg(test)]
 mod reading;

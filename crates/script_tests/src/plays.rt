@@ -114,6 +114,26 @@ send 1: nothing
 got 1: taken
 ";
 
+/// A story gets a script, and the order is listed behind it, up to the confirmation.
+const SCRIPTED: &str = "cmd script r A hi: OK
+send 1: edit r 1
+read 1: roAck r OK
+back 1: taken
+want 1 r: done
+ask 1: roReq r
+hear 1: roList r 2
+got 1: taken
+ask 1: heartbeat
+hear 1: heartbeat
+";
+
+/// Its script is sent again.
+const SENT_AGAIN: &str = "send 1: script r 1 2
+read 1: roAck r OK
+back 1: taken
+got 1: taken
+";
+
 /// A third append that fails, up to the restart.
 const FAILED: &str = "cmd create r A: OK
 cmd insert r - B: OK
@@ -132,6 +152,8 @@ fn part_of(name: &str) -> &'static str {
         "crossed" => CROSSED,
         "asked_again" => ASKED_AGAIN,
         "ready" => READY,
+        "scripted" => SCRIPTED,
+        "sent_again" => SENT_AGAIN,
         "failed" => FAILED,
         _ => "",
     }
@@ -304,6 +326,50 @@ view 1 r in 3
 device 1 upper 1 dial 2 idle
 held 1 r in 3 C B A
 
+# a script is due behind a list
++opened
++scripted
+=
+order r 2 A! B C
+server 1 open 1 idle
+view 1 r in 2 scripts 1
+device 1 upper 1 dial 2 heartbeat
+held 1 r in 2 A B C
+
+# a script is sent again behind a list
++opened
++scripted
++sent_again
+=
+order r 2 A! B C
+server 1 open 1 idle
+view 1 r in 2
+device 1 upper 1 dial 2 idle
+held 1 r in 2 A! B C
+
+# a script that moves with its story
+cmd create r A B C: OK
+cmd script r Z hi: MISSING Z
+cmd script r A hi: OK
+cmd move r - A: OK
+=
+order r 3 B C A!
+server 1 down
+view 1 r out
+device 1 upper - dial - idle
+
+# a script that goes with its story
+cmd create r A B C: OK
+cmd script r Z hi: MISSING Z
+cmd script r A hi: OK
+cmd move r - A: OK
+cmd sub r A A: OK
+=
+order r 4 B C A
+server 1 down
+view 1 r out
+device 1 upper - dial - idle
+
 # an order that there is not
 +opened
 want 1 q: done
@@ -464,14 +530,23 @@ fn replayed(alloc: Global, bytes: &[u8], piece: usize) -> Result<(Status, String
 
 /// A script, and its listing.
 #[derive(Drop)]
-struct Worked {
+pub struct Worked {
     script: String,
     listing: String,
     count: u64,
 }
 
+/// A script of these devices that has no event yet.
+pub fn begun(alloc: Global, devices: &str) -> Result<Worked, NoMemory> {
+    Ok(Worked {
+        script: format!(in alloc; "{devices}\n")?,
+        listing: String::new(alloc),
+        count: 0,
+    })
+}
+
 /// Appends an event, and the line of its outcome.
-fn push_event(alloc: Global, worked: &mut Worked, line: &str) -> Result<(), NoMemory> {
+pub fn push_event(alloc: Global, worked: &mut Worked, line: &str) -> Result<(), NoMemory> {
     let Some((event, outcome)) = line.split_once(": ") else {
         return Ok(());
     };
@@ -497,25 +572,25 @@ fn push_events(alloc: Global, worked: &mut Worked, line: &str) -> Result<(), NoM
 
 /// A world's script, and its listing.
 fn worked_of(alloc: Global, world: &str) -> Result<Worked, NoMemory> {
-    let mut worked = Worked {
-        script: String::from_str(alloc, "devices 1\n")?,
-        listing: String::new(alloc),
-        count: 0,
-    };
+    let mut worked = begun(alloc, "devices 1")?;
     let Some((events, state)) = world.split_once("\n=\n") else {
         return Ok(worked);
     };
     for line in events.lines() {
         push_events(alloc, &mut worked, line)?;
     }
-    worked.listing.push_str(state)?;
-    worked.listing.push('\n')?;
+    push_state(&mut worked, state)?;
     Ok(worked)
 }
 
-/// What is written of a world where it isn't its listing.
-fn other_listing(alloc: Global, world: &str) -> Result<Option<String>, NoMemory> {
-    let worked = worked_of(alloc, world)?;
+/// Appends the state lines behind the lines of the events.
+pub fn push_state(worked: &mut Worked, state: &str) -> Result<(), NoMemory> {
+    worked.listing.push_str(state)?;
+    worked.listing.push('\n')
+}
+
+/// What is written of a script where it isn't its listing.
+pub fn other_listing(alloc: Global, worked: &Worked) -> Result<Option<String>, NoMemory> {
     let (ending, text) = replayed(alloc, worked.script.as_bytes(), 0)?;
     if worked.count > 0 && ending == Status::Done && text.as_str() == worked.listing.as_str() {
         return Ok(None);
@@ -527,12 +602,13 @@ fn other_listing(alloc: Global, world: &str) -> Result<Option<String>, NoMemory>
 fn worlds_have_their_listings(rt: HostRuntime) -> Result<(), Fail> {
     let mut worlds = 0u64;
     for world in WORLDS.split("\n\n") {
-        if let Some(text) = other_listing(rt.alloc(), world)? {
+        let worked = worked_of(rt.alloc(), world)?;
+        if let Some(text) = other_listing(rt.alloc(), &worked)? {
             assert!(rt; false, "{world}\n\nbut this was written:\n{text}");
         }
         worlds = worlds.saturating_add(1);
     }
-    assert_eq!(rt; worlds, 19);
+    assert_eq!(rt; worlds, 23);
     Ok(())
 }
 
@@ -604,9 +680,9 @@ fn first_out_of_step(alloc: Global, parts: &str) -> Result<Option<String>, NoMem
 
 #[test]
 fn both_ends_get_in_step_again(rt: HostRuntime) -> Result<(), Fail> {
-    for parts in "opened+asked opened+cut+relisted opened+crossed+asked_again opened+ready".split(
-        ' ',
-    ) {
+    let runs =
+        "opened+asked opened+cut+relisted opened+crossed+asked_again opened+ready opened+scripted+sent_again";
+    for parts in runs.split(' ') {
         if let Some(listing) = first_out_of_step(rt.alloc(), parts)? {
             assert!(rt; false, "{parts}\n{listing}");
         }
