@@ -7,7 +7,7 @@ use Rattle.mos_values.specs.Sound.{IsSound}
 use Rattle.mos_edits.specs.declared.edit.Edit.{Edit}
 use Rattle.mos_edits.specs.declared.edit.Edit.TheVariants as edits
 use Rattle.mos_values.specs.declared.message.Message.{Message}
-use Rattle.mos_values.specs.declared.message.Message.TheVariants.{RoCreate, RoReplace, RoMetadataReplace, RoDelete, RoElementAction, RoReadyToAir}
+use Rattle.mos_values.specs.declared.message.Message.TheVariants.{RoCreate, RoReplace, RoMetadataReplace, RoDelete, RoElementAction, RoReadyToAir, RoStorySend}
 use Rattle.port_replies.specs.Ports.{Asked, editor_heard, told}
 use Rattle.port_events.specs.declared.answer.PortAnswer.TheVariants as answers
 use Rattle.mos_edits.specs.Carried.{edit_in}
@@ -24,6 +24,7 @@ edit-carried (RoDelete ro) e h = ap edit_message (sym (same-edit (edits.Delete r
 edit-carried (RoMetadataReplace patch) e h = ap edit_message (sym (same-edit (edits.Metadata patch) e h))
 edit-carried (RoElementAction ro action) e h = ap edit_message (sym (same-edit (edits.Act ro action) e h))
 edit-carried (RoReadyToAir ro air) e h = ap edit_message (sym (same-edit (edits.Air ro air) e h))
+edit-carried (RoStorySend script) e h = ap edit_message (sym (same-edit (edits.Script script) e h))
 edit-carried m e h = absurd (cc)
 
 pub edit-sound : (m : Message) (e : Edit) → edit_in m ≡ Some e → IsSound m → IsSound (edit_message e)
@@ -41,6 +42,7 @@ edit-asked journal (RoDelete ro) e h = ap asks (same-edit (edits.Delete ro) e h)
 edit-asked journal (RoMetadataReplace patch) e h = ap asks (same-edit (edits.Metadata patch) e h)
 edit-asked journal (RoElementAction ro action) e h = ap asks (same-edit (edits.Act ro action) e h)
 edit-asked journal (RoReadyToAir ro air) e h = ap asks (same-edit (edits.Air ro air) e h)
+edit-asked journal (RoStorySend script) e h = ap asks (same-edit (edits.Script script) e h)
 edit-asked journal m e h = absurd (cc)
 
 -- any other message is answered at once
@@ -51,4 +53,5 @@ other-asked journal (RoDelete ro) h = absurd (cc)
 other-asked journal (RoMetadataReplace patch) h = absurd (cc)
 other-asked journal (RoElementAction ro action) h = absurd (cc)
 other-asked journal (RoReadyToAir ro air) h = absurd (cc)
+other-asked journal (RoStorySend script) h = absurd (cc)
 other-asked journal m h = refl
