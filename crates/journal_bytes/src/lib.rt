@@ -11,4 +11,4 @@ mod writing;
 
 pub use fault::JournalFault;
 pub use reader::JournalReader;
-pub use writing::entry_bytes;
+pub use writing::{entry_bytes, entry_envelope};

@@ -29,8 +29,9 @@ fn log_names(alloc: Global) -> Result<(Id, Id), NoMemory>
     Ok((mos, ncs))
 }
 
-/// An edit in the envelope of an entry.
-fn envelope_of(alloc: Global, edit: &Edit) -> Result<Envelope, NoMemory>
+/// An edit in the envelope of an entry: both names are `log`, and there is no messageID. The only error is that memory runs
+/// out.
+pub fn entry_envelope(alloc: Global, edit: &Edit) -> Result<Envelope, NoMemory>
     ensures { IfOk result (λ e. e ≡ log_envelope edit.now) }
 {
     let (mos, ncs) = log_names(alloc)?;
@@ -48,7 +49,7 @@ fn envelope_of(alloc: Global, edit: &Edit) -> Result<Envelope, NoMemory>
 pub fn entry_bytes(alloc: Global, e: &Entry) -> Result<Vec<u8>, NoMemory>
     ensures { IfOk result (λ bytes. bytes.items ≡ bytes_of_entry e.now) }
 {
-    let envelope = envelope_of(alloc, e.edit())?;
+    let envelope = entry_envelope(alloc, e.edit())?;
     let bytes = encode(alloc, &envelope);
     let_go(envelope);
     bytes
