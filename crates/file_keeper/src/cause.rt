@@ -5,6 +5,7 @@ ghost use Rattle.file_keeper.specs.Causes.{keep_fault as keep_fault_of, journal_
 use journal_bytes::JournalFault;
 use mos_fields::NoMemory;
 use rundown_log::KeepFault;
+use saved_ends::SaveFault;
 use std::io;
 use std::io::ErrorKind;
 
@@ -38,6 +39,15 @@ impl From<io::Error> for Cause {
         match (fault.kind(), fault.raw_os_error()) {
             (ErrorKind::OutOfMemory, None) => Cause::NoMemory,
             _ => Cause::System(fault),
+        }
+    }
+}
+
+impl From<SaveFault> for Cause {
+    fn from(fault: SaveFault) -> Cause {
+        match fault {
+            SaveFault::NoMemory => Cause::NoMemory,
+            SaveFault::Unsaved { number, fault } => Cause::Unsaved { number, fault },
         }
     }
 }
