@@ -15,9 +15,10 @@ pub enum Program {
     Gateway,
 }
 
-const SERVER_KEYS: [Key; 8] = [
+const SERVER_KEYS: [Key; 9] = [
     Key::NcsId,
     Key::Log,
+    Key::Disk,
     Key::Devices,
     Key::Upper,
     Key::Lower,
