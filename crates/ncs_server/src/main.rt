@@ -3,6 +3,7 @@
 #![tactic(auto)]
 
 mod checking;
+mod disk;
 mod journal;
 mod outside;
 mod ports;
