@@ -4,7 +4,7 @@ use Rattle.std.proofs.lemmas.List.{append-nil}
 use Rattle.mos_codec.proofs.ByteLemmas.{bytes_length, units_back}
 use Rattle.mos_codec.specs.Codec.{encoding_units}
 use Rattle.mos_edits.specs.Carried.{edit_in, edit_message}
-use Rattle.mos_edits.specs.Entries.{Entry, IsEntry, entry_of}
+use Rattle.mos_edits.specs.Entries.{Entry, IsEntry}
 use Rattle.mos_edits.specs.Orders.{edit_ro}
 use Rattle.mos_edits.specs.declared.edit.Edit.{Edit}
 use Rattle.mos_edits.specs.declared.edit.Edit.TheVariants.{Create, Replace, Delete, Metadata, Act, Air, Script}
@@ -12,13 +12,10 @@ use Rattle.mos_fields.specs.Characters.{units_in}
 use Rattle.mos_lexer.specs.Encodings.{Encodes}
 use Rattle.mos_lexer.specs.Units.{message_limit}
 use Rattle.mos_values.specs.MessageViews.{envelope_events}
-use Rattle.mos_values.specs.Sound.{IsSound}
 use Rattle.mos_values.specs.declared.message.Envelope.{Envelope}
-use Rattle.mos_values.specs.declared.message.Message.{Message}
-use Rattle.mos_values.specs.declared.message.Message.TheVariants as messages
 use Rattle.value_laws.specs.Laws.{EncodingsPinEnvelopes}
 use Rattle.journal_bytes.specs.Journals.{log_envelope}
-use Rattle.entry_spellings.specs.Spellings.{Spells, SpellsNone, entry_in, entry_of_edit}
+use Rattle.entry_spellings.specs.Spellings.{Spells}
 
 -- ---- how long a spelling is
 
@@ -44,22 +41,16 @@ edit_back (Act ro action) = refl
 edit_back (Air ro air) = refl
 edit_back (Script script) = refl
 
-edit_or : Edit → Option Edit → Edit
-edit_or none (Some x) = x
-edit_or none None = none
+same_some : (x y : Edit) → Some x ≡ Some y → x ≡ y
+same_some x y e = cc
 
 same_edit : (x y : Edit) → edit_message x ≡ edit_message y → x ≡ y
-same_edit x y e = ap (edit_or x) (sym (edit_back x) ∙ (ap edit_in e ∙ edit_back y))
+same_edit x y e = same_some x y (sym (edit_back x) ∙ (ap edit_in e ∙ edit_back y))
 
 same_entry : (e f : Entry) → IsEntry e → IsEntry f → e.edit ≡ f.edit → e ≡ f
 same_entry e f own also p =
     let q : e.ro ≡ f.ro = own ∙ (ap edit_ro p ∙ sym also) in
     λ i. record { ro = q i; edit = p i }
-
--- the entry is that of the edit in its own message
-pub entry_back : (e : Entry) → IsEntry e → entry_in (edit_message e.edit) ≡ Some e
-entry_back e own =
-    ap (λ (o : Option Edit). entry_of_edit o) (edit_back e.edit) ∙ ap Some (same_entry (entry_of e.edit) e refl own refl)
 
 -- ---- one entry
 
