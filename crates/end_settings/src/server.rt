@@ -46,16 +46,18 @@ fn server_from(
     ensures { result ≡ made server_with parts }
 {
     match parts {
-        Ok((((ncs_id, log), disk, devices), (upper, lower, editor), budget)) => Ok(ServerSettings {
-            ncs_id,
-            log,
-            disk,
-            devices,
-            upper,
-            lower,
-            editor,
-            budget,
-        }),
+        Ok((((ncs_id, log), disk, devices), (upper, lower, editor), budget)) => Ok(
+            ServerSettings {
+                ncs_id,
+                log,
+                disk,
+                devices,
+                upper,
+                lower,
+                editor,
+                budget,
+            },
+        ),
         Err(fault) => Err(fault),
     }
 }

@@ -44,13 +44,7 @@ fn serve_with<
         + Send
         + Sync
         + 'static,
->(
-    rt: HostRuntime,
-    threads: R,
-    given: &Given,
-    keeper: K,
-    outside: Outside<R>,
-) -> ProgramEnd
+>(rt: HostRuntime, threads: R, given: &Given, keeper: K, outside: Outside<R>) -> ProgramEnd
     requires devices { AreDevices (given.now.settings).devices }
     requires refused { (outside.listeners).refused ≡ 0 }
     ensures { IsServerRunEnd result }
@@ -88,13 +82,7 @@ fn serve_kept<
         + Send
         + Sync
         + 'static,
->(
-    rt: HostRuntime,
-    threads: R,
-    given: &Given,
-    keeper: K,
-    why: &mut Why,
-) -> ProgramEnd
+>(rt: HostRuntime, threads: R, given: &Given, keeper: K, why: &mut Why) -> ProgramEnd
     requires { AreDevices (given.now.settings).devices }
     ensures { IsServerRunEnd result }
 {
@@ -172,13 +160,7 @@ fn serve_on_disk<
         + Send
         + Sync
         + 'static,
->(
-    rt: HostRuntime,
-    threads: R,
-    given: &Given,
-    disk: &Text,
-    why: &mut Why,
-) -> ProgramEnd
+>(rt: HostRuntime, threads: R, given: &Given, disk: &Text, why: &mut Why) -> ProgramEnd
     requires { AreDevices (given.now.settings).devices }
     ensures { IsServerRunEnd result }
 {
