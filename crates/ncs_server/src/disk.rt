@@ -30,7 +30,8 @@ fn disk_at(rt: &HostRuntime, path: &str, why: &mut Why) -> Result<FileDisk, Prog
 
 // The keeper on this disk.
 fn keeper_on(alloc: Global, disk: FileDisk) -> Result<DiskKeeper<FileDisk>, ProgramEnd>
-    ensures { IfErr result (λ end. (end ≡ StoreFault) ⊎ (end ≡ NoMemory)) }
+    ensures fault { IfErr result (λ end. (end ≡ StoreFault) ⊎ (end ≡ NoMemory)) }
+    ensures run { IfErr result (λ end. IsServerRunEnd end) }
 {
     match DiskKeeper::open(alloc, disk) {
         Ok(keeper) => Ok(keeper),
@@ -47,6 +48,7 @@ fn keeper_on(alloc: Global, disk: FileDisk) -> Result<DiskKeeper<FileDisk>, Prog
 
 /// The keeper on the disk that is the file at this path, which is locked as long as the keeper lasts. What is no whole entry
 /// is saved and cut off. `StoreFault` where a call on the file failed.
+#[tactic(auto, using(program_ends::proofs::RunEnds::server_log))]
 pub(crate) fn disk_keeper_of(
     rt: &HostRuntime,
     disk: &Text,
