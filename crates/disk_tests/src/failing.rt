@@ -76,7 +76,9 @@ fn images_open(alloc: Global, disk: &MemDisk) -> Result<bool, FieldFault> {
 // A disk whose file has the records of R and S, and a damaged one, and whose call of this number fails.
 fn damaged(alloc: Global, number: u64) -> Result<MemDisk, NoMemory> {
     let mut bytes = file(alloc, &["R", "S", "T"], 0)?;
-    bytes[400] = 1;
+    if let Some(byte) = bytes.get_mut(400) {
+        *byte = 1;
+    }
     let fails = vec![in alloc; number; 1]?;
     Ok(MemDisk::new(alloc, bytes, fails))
 }
@@ -106,24 +108,22 @@ fn an_open_of_which_a_call_fails_leaves_the_entries(rt: HostRuntime) -> Result<(
 
 // Whether these are some of those, in their order.
 fn are_some(found: &[char], of: &[char]) -> bool {
-    match of {
-        [] => found.is_empty(),
-        [name, more @ ..] => match found {
-            [] => true,
-            [first, rest @ ..] if first == name => are_some(rest, more),
-            _ => are_some(found, more),
-        },
+    let mut rest = found;
+    for name in of {
+        if let [first, more @ ..] = rest
+            && first == name
+        {
+            rest = more;
+        }
     }
+    rest.is_empty()
 }
 
 // Whether these are the acknowledged entries, and behind them some of those whose append failed.
 fn may_stand(found: &[char], acknowledged: &[char], failed: &[char]) -> bool {
-    match acknowledged {
-        [] => are_some(found, failed),
-        [name, more @ ..] => match found {
-            [first, rest @ ..] if first == name => may_stand(rest, more, failed),
-            _ => false,
-        },
+    match found.get(acknowledged.len()..) {
+        Some(behind) if found.starts_with(acknowledged) => are_some(behind, failed),
+        _ => false,
     }
 }
 

@@ -1,6 +1,6 @@
 //! A journal on a file of the system.
 use crate::keepers::{append, load};
-use crate::records::{file, front};
+use crate::records::{RECORD, behind, file, front};
 use disk_keeper::DiskKeeper;
 use file_disk::{FileDisk, FileFault};
 use mos_fields::{FieldFault, let_go};
@@ -63,7 +63,7 @@ fn what_a_start_cuts_off_is_saved(rt: HostRuntime) -> Result<(), Fail> {
     assert!(rt; letters(&rt, path, Some('T'))?.as_slice() == ['R', 'T'].as_slice());
     let wanted = file(rt.alloc(), &["R", "T"], 0)?;
     assert!(rt; fs::read(&rt, path)?.as_slice() == wanted.as_slice());
-    assert!(rt; fs::read(&rt, saved)?.as_slice() == &bytes[173..300]);
+    assert!(rt; fs::read(&rt, saved)?.as_slice() == behind(front(&bytes, 300), RECORD));
     assert!(rt; letters(&rt, path, None)?.as_slice() == ['R', 'T'].as_slice());
     assert!(rt; fs::metadata(&rt, "cut.disk.cut-2").is_err());
     Ok(())

@@ -38,7 +38,9 @@ fn what_is_no_record_is_cut_off(rt: HostRuntime) -> Result<(), Fail> {
     assert!(rt; opens(alloc, &[1], &[], &[0])?);
     assert!(rt; opens(alloc, &[7], &[], &[0])?);
     let mut bytes = file(alloc, &["R"], 0)?;
-    bytes[0] = 7;
+    if let Some(byte) = bytes.get_mut(0) {
+        *byte = 7;
+    }
     assert!(rt; opens(alloc, &bytes, &[], &[0])?);
     Ok(())
 }

@@ -50,3 +50,11 @@ pub fn front(bytes: &[u8], count: usize) -> &[u8] {
         None => bytes,
     }
 }
+
+/// The bytes behind the first so many.
+pub fn behind(bytes: &[u8], count: usize) -> &[u8] {
+    match bytes.get(count..) {
+        Some(rest) => rest,
+        None => &[],
+    }
+}
