@@ -128,7 +128,7 @@ third (Ok x) (Err f) c h = tt
 third (Ok x) (Ok y) (Err f) h = tt
 third (Ok x) (Ok y) (Ok z) h = h
 
-first : (a : Given ((Text × Text) × Option Text × List DeviceSettings)) (b : Given (ℕ × ℕ × ℕ)) (c : Given ℕ) → IfOk a (λ t. AreDevices t.2) → IfOk (made server_with (joined3 a b c)) (λ (s : ServerSettings). AreDevices s.devices)
+first : (a : Given (Text × Text × List DeviceSettings)) (b : Given (ℕ × ℕ × ℕ)) (c : Given ℕ) → IfOk a (λ t. AreDevices t.2) → IfOk (made server_with (joined3 a b c)) (λ (s : ServerSettings). AreDevices s.devices)
 first (Err f) b c h = tt
 first (Ok x) (Err f) c h = tt
 first (Ok x) (Ok y) (Err f) h = tt

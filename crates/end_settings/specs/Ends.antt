@@ -15,12 +15,12 @@ use Rattle.end_settings.specs.Devices.{devices_of}
 
 -- ---- the server's
 
-abbrev pub server_with : ((Text × Text) × Option Text × List DeviceSettings) × (ℕ × ℕ × ℕ) × ℕ → ServerSettings
-server_with t = record { ncs_id = t.0.0.0; log = t.0.0.1; disk = t.0.1; devices = t.0.2; upper = t.1.0; lower = t.1.1; editor = t.1.2; budget = t.2 }
+abbrev pub server_with : (Text × Text × List DeviceSettings) × (ℕ × ℕ × ℕ) × ℕ → ServerSettings
+server_with t = record { ncs_id = t.0.0; log = t.0.1; devices = t.0.2; upper = t.1.0; lower = t.1.1; editor = t.1.2; budget = t.2 }
 
 unfoldable pub server_of : Members → Given ServerSettings
 server_of ms = made server_with (joined3
-    (joined3 (joined (must id_in keys.NcsId (value_of keys.NcsId ms)) (must filled_in keys.Log (value_of keys.Log ms))) (maybe filled_in keys.Disk (value_of keys.Disk ms)) (devices_of (value_of keys.Devices ms)))
+    (joined3 (must id_in keys.NcsId (value_of keys.NcsId ms)) (must filled_in keys.Log (value_of keys.Log ms)) (devices_of (value_of keys.Devices ms)))
     (joined3 (otherwise port_in 10541 keys.Upper (value_of keys.Upper ms)) (otherwise port_in 10540 keys.Lower (value_of keys.Lower ms)) (otherwise port_in 10560 keys.Editor (value_of keys.Editor ms)))
     (otherwise budget_in 1073741824 keys.Budget (value_of keys.Budget ms)))
 

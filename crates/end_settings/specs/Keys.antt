@@ -6,7 +6,6 @@ use Rattle.end_settings.specs.declared.key.Key.TheVariants as keys
 abbrev pub key_name : Key → List ℕ
 key_name keys.NcsId = codes "ncs_id"
 key_name keys.Log = codes "log"
-key_name keys.Disk = codes "disk"
 key_name keys.Devices = codes "devices"
 key_name keys.DeviceMosId = codes "mos_id"
 key_name keys.DeviceHost = codes "host"

@@ -9,8 +9,6 @@ pub enum Key {
     NcsId,
     /// `log`, the path of the server's file of entries.
     Log,
-    /// `disk`, the path of the file in which the server keeps its entries in place of that one.
-    Disk,
     /// `devices`, the tables of the server's devices.
     Devices,
     /// `mos_id` of a device's table.
@@ -55,7 +53,6 @@ impl Key {
         match self {
             Key::NcsId => "ncs_id",
             Key::Log => "log",
-            Key::Disk => "disk",
             Key::Devices => "devices",
             Key::DeviceMosId => "mos_id",
             Key::DeviceHost => "host",

@@ -8,9 +8,9 @@ ghost use Rattle.end_settings.specs.Given.{Gives, made};
 use crate::devices::{Devices, device_list};
 use crate::document::read_document;
 use crate::fault::SettingsFault;
-use crate::given::{pair_given, triple_given};
+use crate::given::triple_given;
 use crate::key::Key;
-use crate::values::{budget, optional_path, port, required_id, required_text};
+use crate::values::{budget, port, required_id, required_text};
 use mos_fields::{Id, Text};
 use std::alloc::Global;
 use toml::Table;
@@ -20,10 +20,8 @@ use toml::Table;
 pub struct ServerSettings {
     /// The newsroom system's ID.
     pub ncs_id: Id,
-    /// The path of the file of entries, where `disk` isn't given.
+    /// The path of the file of entries.
     pub log: Text,
-    /// The path of the file in which the entries are kept in place of `log`, in a form that outlives a crash.
-    pub disk: Option<Text>,
     /// The devices, 1 to 64, with distinct IDs.
     pub devices: Devices,
     /// The port for running order messages at which the server listens; 10541 unless given.
@@ -36,28 +34,22 @@ pub struct ServerSettings {
     pub budget: u64,
 }
 
-/// The ID, where the entries are kept, and the devices.
-type Names = ((Id, Text), Option<Text>, Devices);
-
 /// The settings of these parts.
 fn server_from(
-    parts: Result<(Names, (u16, u16, u16), u64), SettingsFault>,
+    parts: Result<((Id, Text, Devices), (u16, u16, u16), u64), SettingsFault>,
 ) -> Result<ServerSettings, SettingsFault>
     ensures { result ≡ made server_with parts }
 {
     match parts {
-        Ok((((ncs_id, log), disk, devices), (upper, lower, editor), budget)) => Ok(
-            ServerSettings {
-                ncs_id,
-                log,
-                disk,
-                devices,
-                upper,
-                lower,
-                editor,
-                budget,
-            },
-        ),
+        Ok(((ncs_id, log, devices), (upper, lower, editor), budget)) => Ok(ServerSettings {
+            ncs_id,
+            log,
+            devices,
+            upper,
+            lower,
+            editor,
+            budget,
+        }),
         Err(fault) => Err(fault),
     }
 }
@@ -68,14 +60,13 @@ fn server_settings_of(alloc: Global, table: &Table) -> Result<ServerSettings, Se
 {
     let ncs_id = required_id(alloc, table, Key::NcsId);
     let log = required_text(alloc, table, Key::Log);
-    let disk = optional_path(alloc, table, Key::Disk);
     let devices = device_list(alloc, table);
     let upper = port(table, Key::Upper, 10_541);
     let lower = port(table, Key::Lower, 10_540);
     let editor = port(table, Key::Editor, 10_560);
     let budget = budget(table, Key::Budget, 1_073_741_824);
     server_from(triple_given(
-        triple_given(pair_given(ncs_id, log), disk, devices),
+        triple_given(ncs_id, log, devices),
         triple_given(upper, lower, editor),
         budget,
     ))
@@ -84,11 +75,11 @@ fn server_settings_of(alloc: Global, table: &Table) -> Result<ServerSettings, Se
 /// The server's settings in a TOML text.
 ///
 /// `NotToml` comes exactly where the text is no TOML in UTF-8. Else `Missing` or `BadValue` comes exactly at the first key
-/// that is required and lacking, or whose value isn't allowed, in the order `ncs_id`, `log`, `disk`, `devices`, and in its
-/// tables, one after the other, `mos_id`, `host`, `upper`, `lower`; then `upper`, `lower`, `editor`, `budget`. `disk` may be
-/// lacking. IDs have 1 to 128 characters, a host and a path at least one, all of them such as XML 1.0 allows. `devices` is
-/// an array of 1 to 64 tables; a `mos_id` that an earlier table has isn't allowed. Ports are 1 to 65535, a budget is 1 to
-/// 1099511627776. Other keys are read over.
+/// that is required and lacking, or whose value isn't allowed, in the order `ncs_id`, `log`, `devices`, and in its tables,
+/// one after the other, `mos_id`, `host`, `upper`, `lower`; then `upper`, `lower`, `editor`, `budget`. IDs have 1 to 128
+/// characters, a host and a path at least one, all of them such as XML 1.0 allows. `devices` is an array of 1 to 64 tables;
+/// a `mos_id` that an earlier table has isn't allowed. Ports are 1 to 65535, a budget is 1 to 1099511627776. Other keys are
+/// read over.
 pub fn read_server_settings(alloc: Global, text: &[u8]) -> Result<ServerSettings, SettingsFault>
     ensures settings { Gives (server_in text.now) result }
     ensures devices { IfOk result (λ s. AreDevices s.devices) }

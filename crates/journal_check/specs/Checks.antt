@@ -1,11 +1,10 @@
--- What a start finds in a journal's bytes, or in those of a disk.
-use Rattle.std.specs.Prelude.{◌≡◌, ℕ, suc, ◌+◌, ◌-◌, Bool, true, false, cond, List, [], ◌∷◌, length, take, drop}
+-- What a start finds in a journal's bytes.
+use Rattle.std.specs.Prelude.{◌≡◌, ℕ, suc, ◌-◌, Bool, true, false, cond, List, [], ◌∷◌, length, take, drop}
 use Rattle.std.specs.List.{AllByRecursion}
 use Rattle.journal_bytes.specs.Journals.{HasRead, ReaderState}
 use Rattle.mos_edits.specs.Entries.{Entry, IsAccepted}
 use Rattle.mos_edits.specs.declared.edit.Edit.{Edit}
 use Rattle.mos_edits.specs.declared.edit.Edit.TheVariants as edits
-use Rattle.journal_records.specs.Records.{Scans, records}
 use Rattle.journal_check.specs.declared.checking.JournalFound.{JournalFound}
 
 -- ---- orders
@@ -43,13 +42,3 @@ pub record IsFound (bytes : List ℕ) (f : JournalFound) : Type 0 where
   pub accepted : IsAccepted [] all
   pub entries : f.entries ≡ length all
   pub orders : f.orders ≡ creations all - deletions all
-
--- The bytes of the disk's file stand for these entries, each of which is accepted after those before it. What is left stands
--- behind the byte that ends the file.
-pub record IsFoundOnDisk (bytes : List ℕ) (f : JournalFound) : Type 0 where
-  pub all : List Entry
-  pub scans : Scans bytes all
-  pub accepted : IsAccepted [] all
-  pub entries : f.entries ≡ length all
-  pub orders : f.orders ≡ creations all - deletions all
-  pub rest : f.rest ≡ length bytes - (length (records all) + 1)

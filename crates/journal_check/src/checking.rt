@@ -22,7 +22,7 @@ pub struct JournalFound {
     pub entries: u64,
     /// How many orders they leave: those that were created, but for those that were deleted.
     pub orders: u64,
-    /// How many bytes behind the last whole entry a start sets aside or cuts off.
+    /// How many bytes behind the last whole message a start sets aside or cuts off.
     pub rest: u64,
 }
 
@@ -91,7 +91,7 @@ fn entries_in(alloc: Global, bytes: &[u8]) -> Result<(Entries, u64), StartCause>
 }
 
 // Starts a server with these entries.
-pub(crate) fn start_with(alloc: Global, entries: Entries, devices: u32) -> Result<(), StartCause>
+fn start_with(alloc: Global, entries: Entries, devices: u32) -> Result<(), StartCause>
     requires least { 1 ≤ devices }
     requires most { devices ≤ 64 }
     ensures { OnOk result (IsAccepted [] entries) }
@@ -110,7 +110,7 @@ pub(crate) fn start_with(alloc: Global, entries: Entries, devices: u32) -> Resul
 }
 
 // How many orders these entries leave.
-pub(crate) fn count_orders(entries: &[Entry]) -> u64
+fn count_orders(entries: &[Entry]) -> u64
     ensures { result ≡ creations entries.now - deletions entries.now }
 {
     count_creations(entries).saturating_sub(count_deletions(entries))

@@ -5,11 +5,9 @@ ghost use Rattle.program_ends.specs.Ends.{IsServerRunEnd};
 
 use crate::settings::settings_in;
 use end_settings::ServerSettings;
-use journal_check::{JournalFound, check_disk, check_journal};
-use mos_fields::Text;
+use journal_check::{JournalFound, check_journal};
 use ncs_core::StartCause;
 use program_ends::{FileOf, ProgramEnd, Why, path_of};
-use std::alloc::Global;
 use std::fs;
 use std::io::ErrorKind;
 
@@ -72,30 +70,7 @@ fn say_none(rt: &HostRuntime, path: &str, log: &str, devices: usize) {
     );
 }
 
-// Where the entries are kept: on the disk, or else in the journal.
-fn place_of(settings: &ServerSettings) -> &Text {
-    match &settings.disk {
-        Some(disk) => disk,
-        None => &settings.log,
-    }
-}
-
-// What a start finds in these bytes.
-fn look_at(
-    alloc: Global,
-    bytes: &[u8],
-    settings: &ServerSettings,
-) -> Result<JournalFound, StartCause>
-    requires { AreDevices settings.now.devices }
-{
-    let devices = settings.devices.len() as u32;
-    match settings.disk {
-        Some(_) => check_disk(alloc, bytes, devices),
-        None => check_journal(alloc, bytes, devices),
-    }
-}
-
-// Looks at the journal, or the disk, at this path.
+// Looks at the journal at this path.
 fn check_log(
     rt: &HostRuntime,
     path: &str,
@@ -115,7 +90,7 @@ fn check_log(
         }
         Err(end) => return Err(end),
     };
-    match look_at(rt.alloc(), &bytes, settings) {
+    match check_journal(rt.alloc(), &bytes, devices as u32) {
         Ok(found) => {
             say_found(rt, path, log, devices, found);
             Ok(())
@@ -134,7 +109,7 @@ pub(crate) fn check_server(rt: &HostRuntime, path: &str, why: &mut Why) -> Resul
         Ok(given) => given,
         Err(end) => return Err(end),
     };
-    let Ok(log) = path_of(rt.alloc(), place_of(&given.settings)) else {
+    let Ok(log) = path_of(rt.alloc(), &given.settings.log) else {
         return Err(ProgramEnd::NoMemory);
     };
     check_log(rt, path, log.as_str(), &given.settings, why)

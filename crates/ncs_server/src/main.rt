@@ -3,7 +3,6 @@
 #![tactic(auto)]
 
 mod checking;
-mod disk;
 mod journal;
 mod outside;
 mod ports;

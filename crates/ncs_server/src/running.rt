@@ -4,14 +4,13 @@ ghost use Rattle.end_settings.specs.Devices.{AreDevices};
 ghost use Rattle.program_ends.specs.Ends.{IsServerRunEnd};
 ghost use Rattle.program_ends.specs.declared.program_end.ProgramEnd.TheVariants.{Usage};
 
-use crate::disk::disk_keeper_of;
 use crate::journal::{keeper_of, lock_of};
 use crate::outside::{Outside, outside_of};
 use crate::settings::{Given, settings_in};
-use mos_fields::{Text, let_go};
+use file_keeper::FileKeeper;
+use mos_fields::let_go;
 use port_tcp::SystemClock;
 use program_ends::{ProgramEnd, Why};
-use rundown_log::Keeper;
 use server_serving::ncs_serve_by_threads;
 use settings_help::server_start_line;
 use stamped_lines::say;
@@ -32,7 +31,6 @@ fn say_start(rt: &HostRuntime, given: &Given) {
 // Serves by these settings, with a keeper of the journal, and what the ports and the workers share.
 #[tactic(auto, using(program_ends::proofs::RunEnds::server_served))]
 fn serve_with<
-    K: Keeper + Drop + Send + 'static,
     R: Net<Listener = TcpListener, Stream = TcpStream>
         + Clock
         + AllocGlobal
@@ -44,7 +42,13 @@ fn serve_with<
         + Send
         + Sync
         + 'static,
->(rt: HostRuntime, threads: R, given: &Given, keeper: K, outside: Outside<R>) -> ProgramEnd
+>(
+    rt: HostRuntime,
+    threads: R,
+    given: &Given,
+    keeper: FileKeeper<HostRuntime>,
+    outside: Outside<R>,
+) -> ProgramEnd
     requires devices { AreDevices (given.now.settings).devices }
     requires refused { (outside.listeners).refused ≡ 0 }
     ensures { IsServerRunEnd result }
@@ -70,7 +74,6 @@ fn serve_with<
 
 // The same with a keeper alone.
 fn serve_kept<
-    K: Keeper + Drop + Send + 'static,
     R: Net<Listener = TcpListener, Stream = TcpStream>
         + Clock
         + AllocGlobal
@@ -82,7 +85,13 @@ fn serve_kept<
         + Send
         + Sync
         + 'static,
->(rt: HostRuntime, threads: R, given: &Given, keeper: K, why: &mut Why) -> ProgramEnd
+>(
+    rt: HostRuntime,
+    threads: R,
+    given: &Given,
+    keeper: FileKeeper<HostRuntime>,
+    why: &mut Why,
+) -> ProgramEnd
     requires { AreDevices (given.now.settings).devices }
     ensures { IsServerRunEnd result }
 {
@@ -119,9 +128,9 @@ fn serve_locked<
     }
 }
 
-// Serves by these settings, with the journal in the file `log`.
+// Serves by these settings.
 #[tactic(auto, using(program_ends::proofs::RunEnds::server_log))]
-fn serve_on_log<
+fn serve<
     R: Net<Listener = TcpListener, Stream = TcpStream>
         + Clock
         + AllocGlobal
@@ -144,52 +153,6 @@ fn serve_on_log<
             end
         }
         Err(end) => end,
-    }
-}
-
-// The same, with the journal on a disk at this path.
-fn serve_on_disk<
-    R: Net<Listener = TcpListener, Stream = TcpStream>
-        + Clock
-        + AllocGlobal
-        + Threads
-        + Wait
-        + Eprint
-        + Copy
-        + Drop
-        + Send
-        + Sync
-        + 'static,
->(rt: HostRuntime, threads: R, given: &Given, disk: &Text, why: &mut Why) -> ProgramEnd
-    requires { AreDevices (given.now.settings).devices }
-    ensures { IsServerRunEnd result }
-{
-    match disk_keeper_of(&rt, disk, why) {
-        Ok(keeper) => serve_kept(rt, threads, given, keeper, why),
-        Err(end) => end,
-    }
-}
-
-// Serves by these settings.
-fn serve<
-    R: Net<Listener = TcpListener, Stream = TcpStream>
-        + Clock
-        + AllocGlobal
-        + Threads
-        + Wait
-        + Eprint
-        + Copy
-        + Drop
-        + Send
-        + Sync
-        + 'static,
->(rt: HostRuntime, threads: R, given: &Given, why: &mut Why) -> ProgramEnd
-    requires { AreDevices (given.now.settings).devices }
-    ensures { IsServerRunEnd result }
-{
-    match &given.settings.disk {
-        Some(disk) => serve_on_disk(rt, threads, given, disk, why),
-        None => serve_on_log(rt, threads, given, why),
     }
 }
 
@@ -220,8 +183,8 @@ fn run_with<
 /// settings.
 ///
 /// `Usage` comes exactly where these words aren't one. What else isn't as it should be is looked for in this order: the
-/// settings' file, the settings, the journal's file, the ports, the journal; a disk is opened whole before the ports. Memory may
-/// run out at each. Where there is more to say of why it ended, `why` has the line.
+/// settings' file, the settings, the journal's file, the ports, the journal. Memory may run out at each. Where there is more to
+/// say of why it ended, `why` has the line.
 pub fn run_server<
     R: Net<Listener = TcpListener, Stream = TcpStream>
         + Clock

@@ -13,9 +13,6 @@ FILE is TOML:
   ncs_id   the newsroom system's ID; required
   log      the path of the journal, a file that is made where there is none;
            required
-  disk     the path of a file in which the entries are kept in place of log,
-           in a form that outlives a loss of power; it is made where there is
-           none, and log isn't read then
   devices  an array of 1 to 64 tables, one for each gateway; required
              mos_id  the device's ID; required, and no other table has it
              host    where it is found, a name or an address; required

@@ -15,10 +15,9 @@ pub enum Program {
     Gateway,
 }
 
-const SERVER_KEYS: [Key; 9] = [
+const SERVER_KEYS: [Key; 8] = [
     Key::NcsId,
     Key::Log,
-    Key::Disk,
     Key::Devices,
     Key::Upper,
     Key::Lower,

@@ -1,7 +1,7 @@
 //! What a program says of itself as it starts to serve.
 ghost use Rattle.std.specs.Prelude.{◌≡◌, ◌++◌, IfOk, OnOk, string_bytes};
 ghost use Rattle.std.specs.Net.Text.{ip_text};
-ghost use Rattle.settings_help.specs.Starts.{device_count, gate_ports, gate_start, kept_in, port_part, server_place, server_ports, server_start};
+ghost use Rattle.settings_help.specs.Starts.{device_count, gate_ports, gate_start, port_part, server_place, server_ports, server_start};
 
 use crate::parts::{push_id, push_number, push_text, push_word};
 use end_settings::{GateSettings, ServerSettings};
@@ -47,25 +47,8 @@ fn push_ports(alloc: Global, out: &mut String, settings: &ServerSettings) -> Res
     push_port(alloc, out, ", editor", settings.editor)
 }
 
-// Appends where the entries are kept.
-fn push_kept(alloc: Global, out: &mut String, settings: &ServerSettings) -> Result<(), NoMemory>
-    ensures { OnOk result (string_bytes out.new ≡ string_bytes out.old ++ kept_in (settings.now).log (settings.now).disk) }
-{
-    match &settings.disk {
-        Some(disk) => {
-            push_word(out, ": disk ")?;
-            push_text(alloc, out, disk)
-        }
-        None => {
-            push_word(out, ": journal ")?;
-            push_text(alloc, out, &settings.log)
-        }
-    }
-}
-
-/// The line of a server that starts to serve, without a line feed: its version and ID, its journal or disk, its ports and the
-/// address that they listen at, and how many devices it has. The only error is that memory runs out, here and in the other
-/// line.
+/// The line of a server that starts to serve, without a line feed: its version and ID, its journal, its ports and the address
+/// that they listen at, and how many devices it has. The only error is that memory runs out, here and in the other line.
 pub fn server_start_line(
     alloc: Global,
     settings: &ServerSettings,
@@ -76,7 +59,8 @@ pub fn server_start_line(
     let mut line = String::new(alloc);
     push_word(&mut line, "ncs_server 0.1.0 ")?;
     push_id(alloc, &mut line, &settings.ncs_id)?;
-    push_kept(alloc, &mut line, settings)?;
+    push_word(&mut line, ": journal ")?;
+    push_text(alloc, &mut line, &settings.log)?;
     push_ports(alloc, &mut line, settings)?;
     push_word(&mut line, " at ")?;
     push_address(alloc, &mut line, listen)?;

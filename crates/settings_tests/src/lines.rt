@@ -33,13 +33,6 @@ log = "log" -> Missing(ncs_id): ncs.toml|
 ncs_id = "ncs1" -> Missing(log): ncs.toml|
 ncs_id = "ncs1"|log = "" -> BadValue(log): ncs.toml: a path is a text that isn't empty, of characters such as XML 1.0 allows|
 ncs_id = "ncs1"|log = "log" -> Missing(devices): ncs.toml|
-disk = "disk"|$ ->
-ncs_id = "ncs1"|disk = "disk" -> Missing(log): ncs.toml|
-ncs_id = "ncs1"|log = ""|disk = "" -> BadValue(log): ncs.toml: a path is a text that isn't empty, of characters such as XML 1.0 allows|
-ncs_id = "ncs1"|log = "log"|disk = ""|devices = [] -> BadValue(disk): ncs.toml: a path is a text that isn't empty, of characters such as XML 1.0 allows|
-ncs_id = "ncs1"|log = "log"|disk = 1 -> BadValue(disk): ncs.toml: a path is a text that isn't empty, of characters such as XML 1.0 allows|
-ncs_id = "ncs1"|log = "log"|disk = "disk" -> Missing(devices): ncs.toml|
-$|disk = "disk" -> ncs.toml, devices table 1 (dev1): key disk isn't known and isn't used|
 ncs_id = "ncs1"|log = "log"|devices = [] -> BadValue(devices): ncs.toml: an array of 1 to 64 tables, each begun by [[devices]]|
 ncs_id = "ncs1"|log = "log"|[devices]|mos_id = "m1" -> BadValue(devices): ncs.toml: an array of 1 to 64 tables, each begun by [[devices]]|
 ncs_id = "ncs1"|log = "log"|[[devices]]|mos_id = "dev1" -> Missing(host): ncs.toml, devices table 1 (dev1)|
@@ -69,7 +62,6 @@ mos_id = "m1"|ncs_id = "ncs1"|host = 1 -> BadValue(host): ncs.toml: a host is a 
 $|mos_id = "m2" -> NotToml: ncs.toml, line 4: ?|
 $|uper = 1|server_uper = 1 -> ncs.toml: key server_uper isn't known and isn't used|ncs.toml: key uper isn't known and isn't used|
 $|log = "log"|[[devices]]|mos = "m" -> ncs.toml: key devices isn't known and isn't used|ncs.toml: key log isn't known and isn't used|
-$|disk = "disk" -> ncs.toml: key disk isn't known and isn't used|
 $|server_upper = 0 -> BadValue(server_upper): ncs.toml: a port is a whole number from 1 to 65535|
 $|server_lower = true -> BadValue(server_lower): ncs.toml: a port is a whole number from 1 to 65535|
 $|objects = "" -> BadValue(objects): ncs.toml: a path is a text that isn't empty, of characters such as XML 1.0 allows|
