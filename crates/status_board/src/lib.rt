@@ -10,6 +10,7 @@ mod elements;
 mod fault;
 mod links;
 mod numbers;
+mod rows;
 mod sizes;
 
 pub use board::Board;

@@ -1,6 +1,7 @@
 //! A list of numbers in which the places of each number are found from the last to the first.
-ghost use Rattle.std.specs.Prelude.{◌≡◌, ◌+◌, ◌<◌, ◌≤◌, [], ◌∷◌, ◌++◌, length, get_or, take, OnOk};
-ghost use Rattle.status_board.specs.Links.{last_of};
+ghost use Rattle.std.specs.Prelude.{◌≡◌, ◌+◌, ◌<◌, ◌≤◌, [], ◌∷◌, ◌++◌, length, get_or, take, OnOk, ℕ, Some, cond, nat_eq, vec_len, vec_capacity};
+ghost use Rattle.indexmap.specs.IndexMap.{get, spare};
+ghost use Rattle.status_board.specs.Links.{AreLinked, last_of};
 
 use indexmap::IndexMap;
 use mos_fields::NoMemory;
@@ -81,10 +82,41 @@ impl Links {
         ensures numbers { self.new.numbers ≡ self.old.numbers ++ n ∷ [] }
         ensures spare { self.new.spare + 1 ≡ self.old.spare }
     {
-        let older = self.last(n);
-        self.numbers.push(n).unwrap();
-        self.older.push(older).unwrap();
-        self.newest.insert(n, self.numbers.len()).unwrap();
+        let before = self.last(n);
+        push_all(&mut self.numbers, &mut self.older, &mut self.newest, n, before);
         self.room -= 1;
     }
+}
+
+// Says where the last of a number stands.
+fn note_place(newest: &mut IndexMap<u64, usize>, n: u64, place: usize)
+    requires { 1 ≤ spare newest.old }
+    ensures places { (q : ℕ) → get nat_eq newest.new q ≡ cond (nat_eq n q) (Some place) (get nat_eq newest.old q) }
+    ensures spare { spare newest.old ≤ spare newest.new + 1 }
+{
+    newest.insert(n, place).unwrap();
+}
+
+// Puts a number behind the others, of which the last place before was this.
+fn push_all(
+    numbers: &mut Vec<u64>,
+    older: &mut Vec<usize>,
+    newest: &mut IndexMap<u64, usize>,
+    n: u64,
+    before: usize,
+)
+    requires linked { AreLinked (λ q. get nat_eq newest.old q) older.old.items numbers.old.items }
+    requires before { before ≡ last_of n numbers.old.items }
+    requires numbers { vec_len numbers.old < vec_capacity numbers.old }
+    requires older { vec_len older.old < vec_capacity older.old }
+    requires newest { 1 ≤ spare newest.old }
+    ensures items { numbers.new.items ≡ numbers.old.items ++ n ∷ [] }
+    ensures linked { AreLinked (λ q. get nat_eq newest.new q) older.new.items numbers.new.items }
+    ensures numbers { vec_len numbers.new + vec_capacity numbers.old ≤ vec_len numbers.old + 1 + vec_capacity numbers.new }
+    ensures older { vec_len older.new + vec_capacity older.old ≤ vec_len older.old + 1 + vec_capacity older.new }
+    ensures newest { spare newest.old ≤ spare newest.new + 1 }
+{
+    numbers.push(n).unwrap();
+    older.push(before).unwrap();
+    note_place(newest, n, numbers.len());
 }
