@@ -3,8 +3,10 @@ use Rattle.std.proofs.Common.{◌≡◌, ℕ, zero, suc, ◌+◌, ◌<◌, ◌�
 use Rattle.std.specs.Prelude.{◌==◌}
 use Rattle.std.proofs.Common.{length-append}
 use Rattle.std.proofs.lemmas.Bool.Decides.{nat_tests}
-use Rattle.std.proofs.lemmas.List.{get_or_append_left, get_or-take, take-append-le, take_all, length-map}
-use Rattle.std.proofs.Math.Seq.{get_or-append_seam}
+use Rattle.std.proofs.lemmas.List.{get_or_append_left, get_or-take, length-take, take-append-le, take_all, length-map}
+use Rattle.std.proofs.Math.Seq.{get_or-append_seam, drop-cons}
+use Rattle.std.proofs.lemmas.List.{drop_all, take_more}
+use Rattle.std.proofs.lemmas.List.Elements.{filter-append}
 use Rattle.std.specs.List.{position_from}
 use Rattle.status_board.specs.Links.{AreLinked, behind_one, last_by, last_of, or_zero}
 
@@ -129,21 +131,85 @@ module _ {X : Type 0} (num : X → ℕ) (n : ℕ) (xs : List X) where
   pub along-back : (i at : ℕ) → i ≤ length xs → at ≡ last_of n (take i (map num xs)) → Along num n xs at
   along-back i at le e =
       let w = last-within (λ m. m == n) (take i (map num xs)) in
-      let t = length-take-le i (map num xs) in
+      let t = length-take i (map num xs) in
+      let l = length-map xs num in
       record {
-        within = omega (arith, le, e, w, t);
+        within = omega (arith, le, e, w, t, l);
         hit = λ k h.
             let b = last-hit (λ m. m == n) (take i (map num xs)) k 0 (sym e ∙ h) in
-            let lt : k < i = omega (arith, e, h, w, t) in
+            let lt : k < i = omega (arith, e, h, w, t, l) in
             let g : get_or (take i (map num xs)) k 0 ≡ n = grind (arith, nat_tests, b) in
             sym (get_or-take i (map num xs) k 0 lt) ∙ g;
       }
 
   pub along-start : (ns : List ℕ) (at : ℕ) → ns ≡ map num xs → at ≡ last_of n ns → Along num n xs at
   along-start ns at e f =
-      let l = length-map num xs in
+      let l = length-map xs num in
       along-back (length xs) at (omega arith) (f ∙ ap (last_of n) (e ∙ sym (take_all (length xs) (map num xs) (omega (arith, l)))))
 
   -- the place before one
   pub before-is : (ns : List ℕ) (here at next : ℕ) → ns ≡ map num xs → Along num n xs at → at ≡ here + 1 → next ≡ last_of (get_or ns here 0) (take here ns) → next ≡ last_of n (take here (map num xs))
-  before-is ns here at next e a f g = g ∙ ap (λ l. last_of (get_or l here 0) (take here l)) e ∙ ap (λ m. last_of m (take here (map num xs))) (a.hit here f)
+  before-is ns here at next e a f g = g ∙ ap (λ l. last_of (get_or l here 0) (take here l)) e ∙ ap (λ m. last_of m (take here (map num xs))) (a.hit here (omega (arith, f)))
+
+  pub before-less : (here at next : ℕ) → at ≡ here + 1 → next ≡ last_of n (take here (map num xs)) → next < at
+  before-less here at next a e =
+      let w = last-within (λ m. m == n) (take here (map num xs)) in
+      let t = length-take here (map num xs) in
+      omega (arith, a, e, w, t)
+
+  module _ (P : X → Bool) (fits : (x : X) → P x ≡ true → num x ≡ n) where
+    -- one report looked at, the last first: the first that passes the test among those behind
+    pub first-step : (here next at : ℕ) (x : X) (found found' : Option ℕ) (same : Bool) → at ≡ here + 1 → here < length xs → x ≡ get_or xs here x → found ≡ position_from P at (drop at xs) → same ≡ P x → found' ≡ (if same then Some here else found)
+        → next ≡ last_of n (take here (map num xs)) → found' ≡ position_from P next (drop next xs)
+    first-step here next at x found found' same a lt is f s f' e =
+        let b : suc here ≡ at = omega (arith, a) in
+        let d : drop here xs ≡ x ∷ drop at xs = drop-cons xs here x lt ∙ ap (λ y. y ∷ drop (suc here) xs) (sym is) ∙ ap (λ j. x ∷ drop j xs) b in
+        let step : found' ≡ position_from P here (drop here xs) =
+            f' ∙ ap (λ b. if b then Some here else found) s ∙ ap (λ o. cond (P x) (Some here) o) (f ∙ ap (λ j. position_from P j (drop at xs)) a) ∙ ap (position_from P here) (sym d) in
+        let skip = skip-first num P n fits 0 here xs in
+        let z : 0 + here ≡ here = omega arith in
+        let y : 0 + last_of n (take here (map num xs)) ≡ last_of n (take here (map num xs)) = omega arith in
+        step ∙ ap (λ j. position_from P j (drop here xs)) (sym z) ∙ sym skip ∙ ap (λ j. position_from P j (drop (last_of n (take here (map num xs))) xs)) y ∙ ap (λ j. position_from P j (drop j xs)) (sym e)
+
+    pub first-start : (at : ℕ) → at ≡ last_of n (map num xs) → None ≡ position_from P at (drop at xs)
+    first-start at e =
+        let skip = skip-first num P n fits 0 (length xs) xs in
+        let l = length-map xs num in
+        let t : take (length xs) (map num xs) ≡ map num xs = take_all (length xs) (map num xs) (omega (arith, l)) in
+        let y : 0 + last_of n (map num xs) ≡ last_of n (map num xs) = omega arith in
+        let g : drop (length xs) xs ≡ [] = drop_all (length xs) xs (omega arith) in
+        sym (ap (position_from P (0 + length xs)) g) ∙ sym skip ∙ ap (λ l. position_from P (0 + last_of n l) (drop (last_of n l) xs)) t ∙ ap (λ j. position_from P j (drop (last_of n (map num xs)) xs)) y ∙ ap (λ j. position_from P j (drop j xs)) (sym e)
+
+    -- the last that passes it
+    pub last-start : (at : ℕ) → at ≡ last_of n (map num xs) → last_by P xs ≡ last_by P (take at xs)
+    last-start at e =
+        let l = length-map xs num in
+        let t : take (length xs) (map num xs) ≡ map num xs = take_all (length xs) (map num xs) (omega (arith, l)) in
+        ap (last_by P) (sym (take_all (length xs) xs (omega arith))) ∙ skip-last num P n fits (length xs) xs ∙ ap (λ l. last_by P (take (last_of n l) xs)) t ∙ ap (λ j. last_by P (take j xs)) (sym e)
+
+    taken : (here at : ℕ) (x : X) → at ≡ here + 1 → here < length xs → x ≡ get_or xs here x → take at xs ≡ take here xs ++ x ∷ []
+    taken here at x a lt is = ap (λ j. take j xs) a ∙ take_more xs here x lt ∙ ap (λ y. take here xs ++ y ∷ []) (sym is)
+
+    pub last-here : (here at : ℕ) (x : X) → at ≡ here + 1 → here < length xs → x ≡ get_or xs here x → last_by P xs ≡ last_by P (take at xs) → P x ≡ true → at ≡ last_by P xs
+    last-here here at x a lt is h p =
+        let s = last-push P (take here xs) x in
+        let t = length-take here xs in
+        let q : last_by P (take here xs ++ x ∷ []) ≡ suc (length (take here xs)) = s ∙ ap (λ b. if b then suc (length (take here xs)) else last_by P (take here xs)) p in
+        let r : last_by P xs ≡ suc (length (take here xs)) = h ∙ ap (last_by P) (taken here at x a lt is) ∙ q in
+        omega (arith, r, a, t, lt)
+
+    pub last-step : (here next at : ℕ) (x : X) → at ≡ here + 1 → here < length xs → x ≡ get_or xs here x → last_by P xs ≡ last_by P (take at xs) → P x ≡ false → next ≡ last_of n (take here (map num xs)) → last_by P xs ≡ last_by P (take next xs)
+    last-step here next at x a lt is h p e =
+        h ∙ ap (last_by P) (taken here at x a lt is) ∙ last-push P (take here xs) x ∙ ap (λ b. if b then suc (length (take here xs)) else last_by P (take here xs)) p
+        ∙ skip-last num P n fits here xs ∙ ap (λ j. last_by P (take j xs)) (sym e)
+
+    -- all that pass it
+    pub all-start : (at : ℕ) → at ≡ last_of n (map num xs) → filter P xs ≡ filter P (take at xs)
+    all-start at e =
+        let l = length-map xs num in
+        let t : take (length xs) (map num xs) ≡ map num xs = take_all (length xs) (map num xs) (omega (arith, l)) in
+        ap (filter P) (sym (take_all (length xs) xs (omega arith))) ∙ skip-filter num P n fits (length xs) xs ∙ ap (λ l. filter P (take (last_of n l) xs)) t ∙ ap (λ j. filter P (take j xs)) (sym e)
+
+    pub all-step : (here next at : ℕ) (x : X) → at ≡ here + 1 → here < length xs → x ≡ get_or xs here x → next ≡ last_of n (take here (map num xs)) → filter P (take at xs) ≡ filter P (take next xs) ++ filter P (x ∷ [])
+    all-step here next at x a lt is e =
+        ap (filter P) (taken here at x a lt is) ∙ filter-append P (take here xs) (x ∷ []) ∙ ap (λ l. l ++ filter P (x ∷ [])) (skip-filter num P n fits here xs ∙ ap (λ j. filter P (take j xs)) (sym e))

@@ -1,9 +1,15 @@
 -- What a board keeps beside its reports.
-use Rattle.std.specs.Prelude.{◌≡◌, ℕ, suc, ◌≤◌, List, length, get_or, map}
+use Rattle.std.specs.Prelude.{◌≡◌, ℕ, zero, suc, ◌≤◌, List, [], ◌∷◌, Bool, true, false, length, get_or, map}
 use Rattle.mos_fields.specs.Characters.{Text}
 use Rattle.status_board.specs.Board.{Report, answer_units, is_of_order, size_limit}
 use Rattle.status_board.specs.Links.{last_by}
 use Rattle.status_board.specs.Numbers.{element_of, order_of}
+
+-- the first that passes the test stands at the place
+abbrev pub StandsAt : {X : Type 0} → (X → Bool) → List X → ℕ → Type 0
+StandsAt test [] n = ⊥
+StandsAt test (x ∷ xs) zero = test x ≡ true
+StandsAt test (x ∷ xs) (suc n) = (test x ≡ false) × StandsAt test xs n
 
 -- The last report of each device and order has beside it how many code units the answer has that lists them all.
 pub record AreCounted (reports : List Report) (units : List ℕ) : Type 0 where

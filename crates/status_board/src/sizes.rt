@@ -58,15 +58,15 @@ fn optional_units(field: Field, text: &Option<Text>) -> u64
 }
 
 /// The code units of what a roAck says of a report, 2^64 - 1 where that is smaller.
-pub(crate) fn group_units(report: &(u32, ElementStat), nothing: &Text) -> u64
+pub(crate) fn group_units(s: &ElementStat, nothing: &Text) -> u64
     requires { nothing.now ≡ [] }
-    ensures { result ≡ capped (units_in (group_events (group_of report.now))) }
+    ensures { result ≡ capped (units_in (group_events (group_of (0, s.now)))) }
 {
-    let story = text_units(Field::StoryID, text_or(&report.1.story, nothing));
-    let item = text_units(Field::ItemID, text_or(&report.1.item, nothing));
-    let obj = text_units(Field::ObjID, text_or(&report.1.obj, nothing));
-    let channel = optional_units(Field::ItemChannel, &report.1.channel);
-    let status = text_units(Field::Status, &report.1.status);
+    let story = text_units(Field::StoryID, text_or(&s.story, nothing));
+    let item = text_units(Field::ItemID, text_or(&s.item, nothing));
+    let obj = text_units(Field::ObjID, text_or(&s.obj, nothing));
+    let channel = optional_units(Field::ItemChannel, &s.channel);
+    let status = text_units(Field::Status, &s.status);
     let names = story.saturating_add(item).saturating_add(obj);
     names.saturating_add(channel).saturating_add(status)
 }
