@@ -1,6 +1,10 @@
 -- What a board keeps beside its reports, once one is put behind them or in the place of another.
 use Rattle.std.proofs.Common.{◌≡◌, ◌≢◌, ℕ, zero, suc, ◌+◌, ◌<◌, ◌≤◌, List, [], ◌∷◌, ◌++◌, length, map, get_or, slice_set, Bool, true, false, cond, Option, Some, None, refl, sym, ap, subst, ◌∙◌, ◌&&◌, if◌then◌else◌, arith, length-append}
-use Rattle.std.specs.Prelude.{◌==◌}
+use Rattle.std.specs.Prelude.{◌==◌, ◌-◌}
+use Rattle.std.proofs.lemmas.Bool.Decides.{nat_tests}
+use Rattle.mos_edits.proofs.Identifiers.{same-self}
+use Rattle.mos_values.specs.Units.{capped, units_in}
+use Rattle.mos_values.specs.Views.{group_events}
 use Rattle.std.specs.List.{position_from, sum_by}
 use Rattle.std.proofs.lemmas.List.{get_or_append_left, get_or-set_same, get_or-set_other, length-set, map-append}
 use Rattle.std.proofs.lemmas.List.Sums.{sum_by-append, sum_by-cons}
@@ -10,7 +14,7 @@ use Rattle.mos_fields.specs.declared.level.Level.{Level}
 use Rattle.mos_edits.specs.Texts.{same_id}
 use Rattle.mos_values.specs.Names.{text_or_none}
 use Rattle.mos_values.specs.declared.element_stat.ElementStat.{ElementStat}
-use Rattle.status_board.specs.Board.{Report, answer_units, find_report, is_of_element, is_of_order, is_of_same, put_report, size_limit}
+use Rattle.status_board.specs.Board.{Report, answer_units, find_report, group_of, is_of_element, is_of_order, is_of_same, put_report, size_limit}
 use Rattle.status_board.specs.Links.{behind_one, last_by}
 use Rattle.status_board.specs.Numbers.{element_of, order_of}
 use Rattle.status_board.specs.Tables.{AreCounted, IsKept, StandsAt}
@@ -26,8 +30,8 @@ module _ {X : Type 0} (P : X → Bool) where
   stands-from c v (x ∷ xs) h = go (P x) refl h (stands-from (c + 1) v xs)
     where
       go : (b : Bool) → P x ≡ b → cond b (Some c) (position_from P (c + 1) xs) ≡ Some v → (position_from P (c + 1) xs ≡ Some v → (k : ℕ) × (v ≡ c + 1 + k) × StandsAt P xs k) → (k : ℕ) × (v ≡ c + k) × StandsAt P (x ∷ xs) k
-      go true e h r = let z : c ≡ v = grind (arith, h) in (0, (omega (arith, z), e))
-      go false e h r = let t = r h in let q = t.1 in (suc t.0, (omega (arith, q), (e, t.2)))
+      go true e h r = let z : c ≡ v = grind (arith, h) in (0, omega (arith, z), e)
+      go false e h r = let t = r h in let q = t.1 in (suc t.0, omega (arith, q), (e, t.2))
 
   pub stands : (v : ℕ) (xs : List X) → position_from P 0 xs ≡ Some v → StandsAt P xs v
   stands v xs h = let t = stands-from 0 v xs h in let q = t.1 in let z : t.0 ≡ v = omega (arith, q) in subst (StandsAt P xs) z t.2
@@ -262,3 +266,66 @@ last-some P (x ∷ xs) (suc i) d lt h = go (P x) (last_by P xs) (last-some P xs 
     go : (b : Bool) (m : ℕ) → 1 ≤ m → 1 ≤ behind_one b m
     go b zero e = absurd (omega (arith, e))
     go b (suc m) e = omega arith
+
+-- ---- the answer with a report more
+
+self-number : (n : ℕ) → (n == n) ≡ true
+self-number n = grind (arith, nat_tests)
+
+both-true : (a b : Bool) → a ≡ true → b ≡ true → a && b ≡ true
+both-true a b h k = rw h k
+
+own-order : (r : Report) → is_of_order r.0 r.1.ro r ≡ true
+own-order r = both-true (r.0 == r.0) (same_id r.1.ro r.1.ro) (self-number r.0) (same-self r.1.ro)
+
+size-is : (r : Report) → units_in (group_events (group_of (0, r.1))) ≡ group_size r
+unfolding group_size
+size-is r = refl
+
+module _ (R : List Report) (us : List ℕ) (k : AreCounted R us) (r : Report) where
+  -- what stands of a report's order fits
+  pub answer-fits : (i : ℕ) → i < length R → is_of_order r.0 r.1.ro (get_or R i r) ≡ true → answer_units r.0 r.1.ro R ≤ size_limit
+  answer-fits i lt h =
+      let s = last-some (is_of_order r.0 r.1.ro) R i r lt h in
+      let e : last_by (is_of_order r.0 r.1.ro) R ≡ suc (last_by (is_of_order r.0 r.1.ro) R - 1) = omega (arith, s) in
+      k.within r.0 r.1.ro (last_by (is_of_order r.0 r.1.ro) R - 1) e
+
+  pub units-set : (i : ℕ) (x : Report) (b t a v : ℕ) → StandsAt (is_of_same r) R i → x ≡ get_or R i x → b ≡ capped (answer_units r.0 r.1.ro R) → t ≡ capped (units_in (group_events (group_of (0, x.1)))) → a ≡ capped (units_in (group_events (group_of (0, r.1))))
+      → (t ≤ b) × (v ≡ capped (b - t + a) → v ≡ capped (answer_units r.0 r.1.ro (put_report r R)))
+  units-set i x b t a v at is eb et ea =
+      let lt = stands-within (is_of_same r) R i at in
+      let here : is_of_order r.0 r.1.ro (get_or R i r) ≡ true = same-element r (get_or R i r) (stands-test (is_of_same r) R i r at) in
+      let own-x : is_of_order r.0 r.1.ro x ≡ true = subst (λ y. is_of_order r.0 r.1.ro y ≡ true) (at-default R i r x lt ∙ sym is) here in
+      let f = answer-fits i lt here in
+      let wx = weight-own r.0 r.1.ro x own-x in
+      let wr = weight-own r.0 r.1.ro r (own-order r) in
+      let sx = size-is x in
+      let sr = size-is r in
+      let s = answer-set r.0 r.1.ro R i x r lt is in
+      let m = answer-at r.0 r.1.ro R i x lt is in
+      let p : answer_units r.0 r.1.ro (slice_set R i r) ≡ answer_units r.0 r.1.ro (put_report r R) = ap (answer_units r.0 r.1.ro) (stands-put r R i at) in
+      (omega (arith, eb, et, f, wx, sx, m), λ e. omega (arith, e, eb, et, ea, f, wx, wr, sx, sr, s, m, p))
+
+pub units-push : (R : List Report) (r : Report) (b a v : ℕ) → position_from (is_of_same r) 0 R ≡ None → b ≡ capped (answer_units r.0 r.1.ro R) → a ≡ capped (units_in (group_events (group_of (0, r.1)))) → v ≡ capped (b + a) → v ≡ capped (answer_units r.0 r.1.ro (put_report r R))
+units-push R r b a v none eb ea e =
+    let wr = weight-own r.0 r.1.ro r (own-order r) in
+    let sr = size-is r in
+    let s = answer-push r.0 r.1.ro R r in
+    let p : answer_units r.0 r.1.ro (R ++ r ∷ []) ≡ answer_units r.0 r.1.ro (put_report r R) = ap (answer_units r.0 r.1.ro) (none-put r 0 R none) in
+    omega (arith, e, eb, ea, wr, sr, s, p)
+
+-- a number within the limit is told as it is
+pub told-whole : (u n m : ℕ) → u ≡ capped n → n ≤ size_limit → m ≡ n → u ≡ m
+told-whole u n m e le f = omega (arith, e, le, f)
+
+-- the number beside the last report of an order
+pub told-last : (R : List Report) (us : List ℕ) (d : ℕ) (ro : Text) (n u : ℕ) → AreCounted R us → n ≡ last_by (is_of_order d ro) R → 1 ≤ n → u ≡ get_or us (n - 1) u → u ≡ capped (answer_units d ro R)
+told-last R us d ro n u k e le is =
+    let l : last_by (is_of_order d ro) R ≡ suc (n - 1) = omega (arith, e, le) in
+    let w = last-within (is_of_order d ro) R in
+    let each = k.each in
+    let lt : n - 1 < length us = omega (arith, e, le, w, each) in
+    let a = k.last d ro (n - 1) l in
+    let m = k.within d ro (n - 1) l in
+    let z : u ≡ answer_units d ro R = is ∙ at-default us (n - 1) u 0 lt ∙ a in
+    omega (arith, z, m)
