@@ -211,10 +211,10 @@ module _ (R : List Report) (us : List ℕ) (k : AreCounted R us) (r : Report) (u
               let q : answer_units d ro R ≡ answer_units d ro (slice_set R i r) = omega (arith, p, z, y) in
               let m = k.within d ro n g in
               let apart : n ≢ j = λ t.
-                  let a : is_of_order d ro (get_or R n x) ≡ true = last-hit (is_of_order d ro) R n x g in
-                  let f : is_of_order r.0 r.1.ro (get_or R n x) ≡ true = subst (λ v. is_of_order r.0 r.1.ro (get_or R v x) ≡ true) (sym t) (last-hit (is_of_order r.0 r.1.ro) R j x at) in
-                  let v : true ≡ false = sym a ∙ sym (same-order r (get_or R n x) f d ro) ∙ b in
-                  absurd (cc) in
+              let a : is_of_order d ro (get_or R n x) ≡ true = last-hit (is_of_order d ro) R n x g in
+              let f : is_of_order r.0 r.1.ro (get_or R n x) ≡ true = subst (λ v. is_of_order r.0 r.1.ro (get_or R v x) ≡ true) (sym t) (last-hit (is_of_order r.0 r.1.ro) R j x at) in
+              let v : true ≡ false = sym a ∙ sym (same-order r (get_or R n x) f d ro) ∙ b in
+              absurd (cc) in
               (get_or-set_other us j n u 0 apart ∙ k.last d ro n g ∙ q, omega (arith, q, m))
 
 -- what stands at a place, whatever is given in its stead

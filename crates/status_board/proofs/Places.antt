@@ -57,24 +57,25 @@ linked-push f g older older' ns ns' n o v h p e e' w u =
     go : (q : ℕ) (b : Bool) → or_zero (cond b (Some v) (f q)) ≡ (if b then suc (length ns) else last_of q ns)
     go q true = omega (arith, w)
     go q false = h.last q
+
     place : (i : ℕ) → i < length (ns ++ n ∷ []) → get_or (older ++ o ∷ []) i 0 ≡ last_of (get_or (ns ++ n ∷ []) i 0) (take i (ns ++ n ∷ []))
     place i lt =
         let each = h.each in
         let len = length-append ns (n ∷ []) in
         side i (length ns)
-          (λ l.
-            get_or_append_left older (o ∷ []) 0 i (omega (arith, l, each))
-            ∙ h.before i l
-            ∙ ap (λ m. last_of m (take i ns)) (sym (get_or_append_left ns (n ∷ []) 0 i l))
-            ∙ ap (last_of (get_or (ns ++ n ∷ []) i 0)) (sym (take-append-le i ns (n ∷ []) (omega (arith, l)))))
-          (λ r.
-            let z : length ns ≡ i = omega (arith, r, lt, len) in
-            subst (λ j. get_or (older ++ o ∷ []) j 0 ≡ last_of (get_or (ns ++ n ∷ []) j 0) (take j (ns ++ n ∷ []))) z
-              (ap (λ j. get_or (older ++ o ∷ []) j 0) (sym each)
-               ∙ get_or-append_seam older o [] 0
-               ∙ p
-               ∙ ap (λ m. last_of m ns) (sym (get_or-append_seam ns n [] 0))
-               ∙ ap (last_of (get_or (ns ++ n ∷ []) (length ns) 0)) (sym (take-append-le (length ns) ns (n ∷ []) (omega arith) ∙ take_all (length ns) ns (omega arith)))))
+        (λ l.
+        get_or_append_left older (o ∷ []) 0 i (omega (arith, l, each))
+        ∙ h.before i l
+        ∙ ap (λ m. last_of m (take i ns)) (sym (get_or_append_left ns (n ∷ []) 0 i l))
+        ∙ ap (last_of (get_or (ns ++ n ∷ []) i 0)) (sym (take-append-le i ns (n ∷ []) (omega (arith, l)))))
+        (λ r.
+        let z : length ns ≡ i = omega (arith, r, lt, len) in
+        subst (λ j. get_or (older ++ o ∷ []) j 0 ≡ last_of (get_or (ns ++ n ∷ []) j 0) (take j (ns ++ n ∷ []))) z
+        (ap (λ j. get_or (older ++ o ∷ []) j 0) (sym each)
+        ∙ get_or-append_seam older o [] 0
+        ∙ p
+        ∙ ap (λ m. last_of m ns) (sym (get_or-append_seam ns n [] 0))
+        ∙ ap (last_of (get_or (ns ++ n ∷ []) (length ns) 0)) (sym (take-append-le (length ns) ns (n ∷ []) (omega arith) ∙ take_all (length ns) ns (omega arith)))))
 
 -- ---- along the places of one number
 
@@ -113,6 +114,7 @@ module _ {X : Type 0} (num : X → ℕ) (P : X → Bool) (n : ℕ) (fits : (x : 
     where
       after : c + 1 + i ≡ c + suc i
       after = omega arith
+
       go : (m : ℕ) (b : Bool) → position_from P (c + 1 + m) (drop m xs) ≡ position_from P (c + 1 + i) (drop i xs) → (b ≡ false → P x ≡ false)
           → position_from P (c + behind_one b m) (drop (behind_one b m) (x ∷ xs)) ≡ position_from P (c + suc i) (drop i xs)
       go (suc m) b h f = let e : c + suc (suc m) ≡ c + 1 + suc m = omega arith in ap (λ o. position_from P o (drop (suc m) xs)) e ∙ h ∙ ap (λ o. position_from P o (drop i xs)) after
@@ -165,7 +167,7 @@ module _ {X : Type 0} (num : X → ℕ) (n : ℕ) (xs : List X) where
         let b : suc here ≡ at = omega (arith, a) in
         let d : drop here xs ≡ x ∷ drop at xs = drop-cons xs here x lt ∙ ap (λ y. y ∷ drop (suc here) xs) (sym is) ∙ ap (λ j. x ∷ drop j xs) b in
         let step : found' ≡ position_from P here (drop here xs) =
-            f' ∙ ap (λ b. if b then Some here else found) s ∙ ap (λ o. cond (P x) (Some here) o) (f ∙ ap (λ j. position_from P j (drop at xs)) a) ∙ ap (position_from P here) (sym d) in
+        f' ∙ ap (λ b. if b then Some here else found) s ∙ ap (λ o. cond (P x) (Some here) o) (f ∙ ap (λ j. position_from P j (drop at xs)) a) ∙ ap (position_from P here) (sym d) in
         let skip = skip-first num P n fits 0 here xs in
         let z : 0 + here ≡ here = omega arith in
         let y : 0 + last_of n (take here (map num xs)) ≡ last_of n (take here (map num xs)) = omega arith in

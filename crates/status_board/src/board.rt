@@ -136,7 +136,16 @@ impl Board {
         ensures { result ≡ position_from (is_of_element_so d ro.now level story.now item.now) 0 self.now.reports }
     {
         let nothing = Text::new(*self.rows.allocator());
-        find_row(&self.rows, &self.elements, d, ro, level, story, item, &nothing)
+        find_row(
+            &self.rows,
+            &self.elements,
+            d,
+            ro,
+            level,
+            story,
+            item,
+            &nothing,
+        )
     }
 
     // The place of the first report of a report's element, from 0.

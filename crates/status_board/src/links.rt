@@ -83,7 +83,13 @@ impl Links {
         ensures spare { self.new.spare + 1 ≡ self.old.spare }
     {
         let before = self.last(n);
-        push_all(&mut self.numbers, &mut self.older, &mut self.newest, n, before);
+        push_all(
+            &mut self.numbers,
+            &mut self.older,
+            &mut self.newest,
+            n,
+            before,
+        );
         self.room -= 1;
     }
 }

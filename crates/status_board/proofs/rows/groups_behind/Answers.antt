@@ -17,16 +17,17 @@ next-init c =
     let rows = c.args.rows.now in
     let fits : (r : Report) → is_of_order c.args.d c.args.ro.now r ≡ true → order_of r ≡ n = λ r h. order-fits c.args.d c.args.ro.now r h ∙ sym c.order_number-n.ensures in
     let s : c.last-at.result ≡ last_of n (map order_of rows) = c.last-at.ensures ∙ ap (last_of n) c.requires in
-    let g = all-start order_of n rows (is_of_order c.args.d c.args.ro.now) fits c.last-at.result s in
-    (ap (λ l. l ++ reverse (groups c.args.d c.args.ro.now (take c.last-at.result rows))) c.new-out.ensures.items ∙ ap (λ l. reverse (map group_of l)) (sym g),
-     along-start order_of n rows c.args.orders.now.numbers c.last-at.result c.requires c.last-at.ensures)
+    let g = all-start order_of n rows (is_of_order c.args.d c.args.ro.now) fits c.last-at.result s in (
+      ap (λ l. l ++ reverse (groups c.args.d c.args.ro.now (take c.last-at.result rows))) c.new-out.ensures.items ∙ ap (λ l. reverse (map group_of l)) (sym g),
+      along-start order_of n rows c.args.orders.now.numbers c.last-at.result c.requires c.last-at.ensures,
+    )
 
 pub next-smaller : goal.next-smaller
 next-smaller c =
     let t = c.next-test.true in
     let a : c.next.at ≡ (c.next.at - 1) + 1 = omega (arith, t) in
     before-less order_of c.order_number-n.result c.args.rows.now (c.next.at - 1) c.next.at c.before-at.result a
-      (before-is order_of c.order_number-n.result c.args.rows.now c.args.orders.now.numbers (c.next.at - 1) c.next.at c.before-at.result c.requires c.next.invariant.1 a c.before-at.ensures)
+    (before-is order_of c.order_number-n.result c.args.rows.now c.args.orders.now.numbers (c.next.at - 1) c.next.at c.before-at.result c.requires c.next.invariant.1 a c.before-at.ensures)
 
 pub next-preserved : goal.next-preserved
 next-preserved c =

@@ -52,7 +52,11 @@ invariant_of-self c =
     let u : c.args.units ≡ answer_units c.args.d c.args.s.ro (slice_set R c.args.at r) = c.requires.units ∙ ap (λ (v : List Report). answer_units c.args.d c.args.s.ro (slice_set v c.args.at r)) (sym view) in
     let len = c.put_over.ensures.len in
     let cap = c.put_over.ensures.capacity in
-    let i1 = c.self.invariant.1 in
-    (kept-set R c.put_over.new.rows.items c.self.inside.units.items (slice_set c.self.inside.units.items (c.last_row-last.result - 1) c.args.units) c.self.inside.elements.numbers c.self.inside.orders.numbers c.args.at (c.last_row-last.result - 1) r c.args.units
-      c.self.invariant.0 at l c.put_over.ensures.items refl u c.requires.within,
-     omega (arith, i1, len, cap), c.self.invariant.2, c.self.invariant.3, c.self.invariant.4)
+    let i1 = c.self.invariant.1 in (
+      kept-set R c.put_over.new.rows.items c.self.inside.units.items (slice_set c.self.inside.units.items (c.last_row-last.result - 1) c.args.units) c.self.inside.elements.numbers c.self.inside.orders.numbers c.args.at (c.last_row-last.result - 1) r c.args.units
+          c.self.invariant.0 at l c.put_over.ensures.items refl u c.requires.within,
+      omega (arith, i1, len, cap),
+      c.self.invariant.2,
+      c.self.invariant.3,
+      c.self.invariant.4,
+    )

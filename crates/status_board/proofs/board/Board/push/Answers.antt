@@ -24,7 +24,11 @@ invariant_of-self c =
     let ul = c.push.ensures.upper_bound in
     let uc = c.push.ensures.capacity in
     let e = c.push-2.ensures.spare in
-    let o = c.push-3.ensures.spare in
-    (kept-push R c.put_last.new.rows.items c.self.inside.units.items c.push.new.self.items c.self.inside.elements.numbers c.push-2.new.self.numbers c.self.inside.orders.numbers c.push-3.new.self.numbers
-      r c.args.units c.element_of_report-element.result c.order_number-order.result c.self.invariant.0 c.put_last.ensures.items us c.push-2.ensures.numbers c.push-3.ensures.numbers c.element_of_report-element.ensures order u c.requires.within,
-     omega (arith, s, room, i1, pl, pc), omega (arith, s, room, i2, ul, uc), omega (arith, s, room, i3, e), omega (arith, s, room, i4, o))
+    let o = c.push-3.ensures.spare in (
+      kept-push R c.put_last.new.rows.items c.self.inside.units.items c.push.new.self.items c.self.inside.elements.numbers c.push-2.new.self.numbers c.self.inside.orders.numbers c.push-3.new.self.numbers
+          r c.args.units c.element_of_report-element.result c.order_number-order.result c.self.invariant.0 c.put_last.ensures.items us c.push-2.ensures.numbers c.push-3.ensures.numbers c.element_of_report-element.ensures order u c.requires.within,
+      omega (arith, s, room, i1, pl, pc),
+      omega (arith, s, room, i2, ul, uc),
+      omega (arith, s, room, i3, e),
+      omega (arith, s, room, i4, o),
+    )
