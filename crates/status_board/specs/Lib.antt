@@ -1,0 +1,4 @@
+pub mod Board
+pub mod Links
+pub mod Numbers
+pub mod Tables
