@@ -2,7 +2,7 @@
 use Rattle.std.specs.Prelude.{◌≡◌, ℕ, Bool, true, false, List, [], ◌++◌, take, slice_get, Option, Some, None}
 use Rattle.mos_edits.specs.Entries.{Entry, Refusal, acceptance, IsAccepted}
 use Rattle.mos_io.specs.Counts.{Rose}
-use Rattle.rundown_log.specs.Keeping.{AreHeld, AreKept, Certainty, IsFront}
+use Rattle.rundown_log.specs.Keeping.{AreKept, Certainty, all_certain}
 use Rattle.rundown_log.specs.declared.keeper.KeepFault.{KeepFault}
 use Rattle.rundown_log.specs.declared.keeper.KeepFault.TheVariants as keeping
 use Rattle.ncs_core.specs.declared.fault.CommandFault.{CommandFault}
@@ -49,10 +49,22 @@ load_cause_of keeping.NoMemory = NoMemory
 
 -- ---- what of the keeper is known
 
+-- the entries that a keeper keeps begin with the journal
+abbrev pub IsFront : Option (List Entry) → List Entry → Type 0
+IsFront None journal = Unit {0}
+IsFront (Some kept) journal = (rest : List Entry) × (kept ≡ journal ++ rest)
+
 -- a journal that need not be loaded again
 pub record IsLoadedFront (kept : Option (List Entry)) (journal : List Entry) : Type 0 where
   pub accepted : IsAccepted [] journal
   pub front : IsFront kept journal
+
+-- While the server runs, the keeper keeps the journal and nothing is in doubt. Once an append of this run failed, the entries
+-- that stand for certain are the journal, and those that are kept begin with it.
+abbrev pub AreHeld : Bool → Option (List Entry) → Certainty → List Entry → Type 0
+AreHeld stopped None c journal = Unit {0}
+AreHeld true (Some kept) c journal = (c.certain ≡ Some journal) × IsFront (Some kept) journal
+AreHeld false (Some kept) c journal = (kept ≡ journal) × (c ≡ all_certain (Some journal))
 
 -- a journal of accepted entries, which the keeper holds
 pub record IsKept (stopped : Bool) (kept : Option (List Entry)) (c : Certainty) (journal : List Entry) : Type 0 where
