@@ -1,7 +1,7 @@
 """A server and a gateway over loopback, driven by edit_orders; `./run demo` builds the three programs and runs this.
 
 An order is created, two of its stories are swapped, the gateway is killed, the order is edited meanwhile, the gateway is started
-again, and the order is released. Each line shows who says it. It waits for what the programs say, and ends with 0 exactly where the
+again, has the order that it kept and then the newest, and the order is released. Each line shows who says it. It waits for what the programs say, and ends with 0 exactly where the
 gateway's deck ends with the server's order, released, and with 1 else: where a program ends, or nothing is said for two minutes.
 
 Usage: examples/demo.py [FOLDER]. The programs are FOLDER/crates/NAME/out/NAME, of this repository unless another is given; with
@@ -61,6 +61,8 @@ class Demo:
         self.answers = queue.Queue()
         # what the deck was told last, since its gateway was started
         self.deck, self.armed, self.news = None, False, threading.Condition()
+        # the first playlist since then
+        self.kept = None
 
     def left(self):
         """So many seconds are left."""
@@ -78,7 +80,7 @@ class Demo:
             it.write(f'[[devices]]\nmos_id = "{DEVICE}"\nhost = "127.0.0.1"\nupper = {self.gate_upper}\nlower = {self.gate_lower}\n')
         with open(f"{self.folder}/gateway.toml", "w", encoding="utf-8") as it:
             it.write(f'mos_id = "{DEVICE}"\nncs_id = "{NCS}"\nhost = "127.0.0.1"\nupper = {self.gate_upper}\nlower = {self.gate_lower}\n')
-            it.write(f"server_upper = {self.upper}\nserver_lower = {self.lower}\n")
+            it.write(f"server_upper = {self.upper}\nserver_lower = {self.lower}\nstore = \"{self.folder}/store\"\n")
 
     def start(self, name, file, out):
         with open(f"{self.folder}/{name}.err", "ab") as errors:
@@ -98,7 +100,7 @@ class Demo:
 
     def start_gateway(self):
         with self.news:
-            self.deck, self.armed = None, False
+            self.deck, self.armed, self.kept = None, False, None
         self.gateway = self.start("device_gateway", "gateway.toml", subprocess.PIPE)
         threading.Thread(target=self.hear_deck, args=(self.gateway,), daemon=True).start()
 
@@ -112,6 +114,7 @@ class Demo:
                 if gateway is self.gateway and words[1:2] == [ORDER]:
                     if words[0] == "load":
                         self.deck, self.armed = words[2:], False
+                        self.kept = self.kept or self.deck
                     else:
                         self.armed = words[0] == "arm"
                     self.news.notify_all()
@@ -123,6 +126,16 @@ class Demo:
             while (self.deck, self.armed) != (wanted, armed):
                 if not self.news.wait(min(self.left(), 0.5)) and self.gateway.poll() is not None:
                     raise Failed(f"the gateway ended with {self.gateway.returncode}")
+
+    def deck_began_with(self, items):
+        """Waits for the first playlist since the gateway's start, which has to be these items."""
+        wanted = [f"{item}={item}" for item in items]
+        with self.news:
+            while self.kept is None:
+                if not self.news.wait(min(self.left(), 0.5)) and self.gateway.poll() is not None:
+                    raise Failed(f"the gateway ended with {self.gateway.returncode}")
+            if self.kept != wanted:
+                raise Failed(f"the gateway kept {self.kept}, and held {wanted}")
 
     def start_editor(self):
         with open(f"{self.folder}/edit_orders.err", "ab") as errors:
@@ -176,6 +189,7 @@ class Demo:
         self.edit(f"script {ORDER} HARBOUR Good_evening")
         self.start_gateway()
         say("gateway", "is started again")
+        self.deck_began_with(["titles", "map", "report", "caption"])
         self.deck_comes_to(["titles", "map", "report", "caption", "music"], False)
         self.edit(f"ready {ORDER}")
         self.deck_comes_to(["titles", "map", "report", "caption", "music"], True)

@@ -275,6 +275,30 @@ def faults_of_decks(gateways, orders, until):
         time.sleep(0.1)
 
 
+def faults_of_kept(gateways, server, orders):
+    """What isn't as it should be where gateways are killed and started again while the server is down: each deck has its lines all the same."""
+    server.kill()
+    faults = []
+    for it in gateways.values():
+        it.kill()
+        open(it.out, "w").close()
+        it.start()
+    until = time.time() + 15
+    while True:
+        faults = []
+        for device, it in gateways.items():
+            lists, armed = told_by_deck(it.out)
+            for ro, names in sorted(orders.items()):
+                wanted = playlist(names, device)
+                if lists.get(ro) != wanted:
+                    faults.append(f"without a server, the deck of {device} that was started again holds {lists.get(ro)} of {ro}, and its gateway kept {wanted}")
+            if armed:
+                faults.append(f"without a server, the deck of {device} that was started again is armed for {sorted(armed)}")
+        if not faults or time.time() > until:
+            return faults
+        time.sleep(0.1)
+
+
 def main(built, seed):
     seed = int(seed) if seed else random.SystemRandom().randrange(1 << 32)
     rng = random.Random(seed)
@@ -290,7 +314,7 @@ def main(built, seed):
     for d in DEVICES:
         with open(f"{folder}/{d}.toml", "w") as it:
             it.write(f'mos_id = "{d}"\nncs_id = "ncs1"\nhost = "127.0.0.1"\nupper = {ports[d + ".upper"]}\nlower = {ports[d + ".lower"]}\n')
-            it.write(f'server_upper = {proxies["upper"].port}\nserver_lower = {proxies["lower"].port}\n')
+            it.write(f'server_upper = {proxies["upper"].port}\nserver_lower = {proxies["lower"].port}\nstore = "{folder}/{d}.store"\n')
     server = Program(f"{built}/crates/ncs_server/out/ncs_server", f"{folder}/ncs.toml", folder, "ncs")
     gateways = {d: Program(f"{built}/crates/device_gateway/out/device_gateway", f"{folder}/{d}.toml", folder, d) for d in DEVICES}
     every = [server, *gateways.values()]
@@ -374,6 +398,9 @@ def main(built, seed):
         for it in every:
             if not it.is_alive():
                 faults.append(f"{it.name} ended by itself, with status {it.process.returncode}")
+        # and has what it holds without a server
+        if decks_tell and not faults:
+            faults += faults_of_kept(gateways, server, newsroom.orders)
         print(f"{acknowledged} edits acknowledged, {unanswered} without an answer, {refused} refused; {mishaps} mishaps: {kills} programs killed, {cuts} connections cut")
         print(f"{len(newsroom.orders)} orders at the end, with {sum(map(len, newsroom.orders.values()))} stories, after {time.time() - begin:.1f} s")
     finally:
@@ -387,7 +414,7 @@ def main(built, seed):
         return 1
     subprocess.run(["rm", "-rf", folder])
     if decks_tell:
-        print("ok: no acknowledged edit was lost, and each gateway's deck ends with the newest orders, released")
+        print("ok: no acknowledged edit was lost, and each gateway's deck ends with the newest orders, released, and has them after a restart without a server")
     else:
         print("ok: no acknowledged edit was lost; what the gateways hold wasn't seen")
     return 0

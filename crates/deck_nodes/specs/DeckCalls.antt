@@ -1,5 +1,5 @@
 -- What a gateway asks of its decks at a step, and what becomes of them.
-use Rattle.std.specs.Prelude.{◌≡◌, ℕ, List, true, false, Option, if◌then◌else◌}
+use Rattle.std.specs.Prelude.{◌≡◌, ℕ, List, Bool, true, false, Option, if◌then◌else◌, ◌||◌}
 use Rattle.mos_edits.specs.Texts.{Text, same_id}
 use Rattle.mos_edits.specs.Orders.{Order}
 use Rattle.mos_edits.specs.Entries.{Kind, kind, Entry}
@@ -33,12 +33,13 @@ edit_call IsAction Okay ro = Load ro
 edit_call IsNotReady Okay ro = Disarm ro
 edit_call kind status ro = NoCall
 
--- An edit that is read. A READY of an order that is in step and held arms before it is answered.
-abbrev pub read_call : GateState → ℕ → Decks → Entry → DeckCall
-read_call g c decks e =
+-- An edit that is read, where its append fails or not. A READY of an order that is in step and held arms before it is answered,
+-- unless the gateway is stopped.
+abbrev pub read_call : Bool → GateState → ℕ → Decks → Entry → DeckCall
+read_call fails g c decks e =
     if would_arm g c (RoEdit e)
     then Arm e.ro
-    else (if is_link g.upper c then edit_call (kind e.edit) (read_result g decks e).status e.ro else NoCall)
+    else (if is_link g.upper c then edit_call (kind e.edit) (read_result g decks fails e).status e.ro else NoCall)
 
 -- An answer to what is in flight: a list of the order that was asked for, or that there is none, loads it.
 abbrev pub answer_call : GateOut → Message → DeckCall
@@ -46,19 +47,24 @@ answer_call (AsksFor r) (RoList q o) = if same_id q r then Load r else NoCall
 answer_call (AsksFor r) (RoAck q t) = if same_id q r then (if is_no_order t then Load r else NoCall) else NoCall
 answer_call a m = NoCall
 
--- No other event changes what an order holds.
-abbrev pub event_call : GateState → DeviceEvent → DeckCall
-event_call g (ReadUpper c (RoEdit e) decks) = read_call g c decks e
-event_call g (ReadAnswer c m) = if is_link g.link c then answer_call g.out m else NoCall
-event_call g e = NoCall
+-- one that isn't made
+abbrev pub call_unless : Bool → DeckCall → DeckCall
+call_unless true call = NoCall
+call_unless false call = call
 
-abbrev pub asked_call : GateState → Asked DeviceEvent → DeckCall
-asked_call g (Asked.Steps e saying) = event_call g e
-asked_call g (Asked.Says a) = NoCall
+-- No other event changes what an order holds. A list is kept where the gateway isn't stopped and the append doesn't fail.
+abbrev pub event_call : Bool → GateState → DeviceEvent → DeckCall
+event_call fails g (ReadUpper c (RoEdit e) decks) = read_call fails g c decks e
+event_call fails g (ReadAnswer c m) = call_unless (g.stopped || fails) (if is_link g.link c then answer_call g.out m else NoCall)
+event_call fails g e = NoCall
+
+abbrev pub asked_call : Bool → GateState → Asked DeviceEvent → DeckCall
+asked_call fails g (Asked.Steps e saying) = event_call fails g e
+asked_call fails g (Asked.Says a) = NoCall
 
 -- at the port to the server
-abbrev pub upper_call : GateState → Decks → ℕ → What → DeckCall
-upper_call g decks c what = asked_call g (upper_with decks c what)
+abbrev pub upper_call : Bool → GateState → Decks → ℕ → What → DeckCall
+upper_call fails g decks c what = asked_call fails g (upper_with decks c what)
 
 -- Where a step finds no memory, only the decks that it had to arm before were called.
 abbrev pub refused_call : DeckCall → DeckCall

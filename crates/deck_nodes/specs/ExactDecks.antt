@@ -1,11 +1,11 @@
 -- Decks that have what the gateway holds, and how a READY is answered with them.
-use Rattle.std.specs.Prelude.{◌≡◌, List, [], ◌∷◌, length, Bool, true, Option, None, Some, ◌↔◌}
+use Rattle.std.specs.Prelude.{◌≡◌, List, [], ◌∷◌, length, Bool, true, false, Option, None, Some, ◌↔◌}
 use Rattle.mos_edits.specs.Texts.{Text}
 use Rattle.mos_edits.specs.Orders.{Order}
 use Rattle.mos_machines.specs.Messages.{is_link}
 use Rattle.mos_machines.specs.Messages.Status.{Okay, NoDeck}
-use Rattle.mos_machines.specs.Device.{GateState, is_in, is_some_order}
-use Rattle.mos_machines.specs.Tables.{gate_of}
+use Rattle.mos_machines.specs.Device.{is_in, is_some_order}
+use Rattle.gateway_core.specs.State.{gate_of}
 use Rattle.mos_values.specs.declared.message.Message.TheVariants as carried
 use Rattle.mos_fields.specs.declared.air.Air.TheVariants.{Ready}
 use Rattle.port_events.specs.declared.answer.PortAnswer.{PortAnswer}
@@ -32,10 +32,6 @@ abbrev pub TellsArmed : Text → (Text → Option Order) → Text → Option (Te
 TellsArmed mos held ro None = Unit {0}
 TellsArmed mos held ro (Some rows) = rows ro ≡ record { list = playlist_of (held ro) mos; armed = true }
 
--- no order is held
-abbrev pub HoldsNone : GateState → Type 0
-HoldsNone g = (ro : Text) → g.held ro ≡ None
-
 -- the event is a READY of this order at the port to the server
 abbrev pub IsReadyOf : PortEvent → Text → Type 0
 IsReadyOf e ro = (e.side ≡ Upper) × (e.what ≡ Heard (carried.RoReadyToAir ro Ready))
@@ -45,7 +41,7 @@ abbrev pub AllTell : {D : Type 0} → (D → DeckView) → (Option (Text → Row
 AllTell view P [] = Unit {0}
 AllTell view P (d ∷ ds) = P (view d).told × AllTell view P ds
 
-module _ {D : Type 0} (view : D → DeckView) (mos : Text) where
+module _ {K D : Type 0} (view : D → DeckView) (mos : Text) where
   abbrev pub HaveLists : (Text → Option Order) → List D → Type 0
   HaveLists held decks = AllTell view (TellsLists mos held) decks
 
@@ -53,14 +49,14 @@ module _ {D : Type 0} (view : D → DeckView) (mos : Text) where
   AreArmed held ro decks = AllTell view (TellsArmed mos held ro) decks
 
   -- The gateway knows how many decks are left in its rack, and each has the playlists of the orders that are held.
-  pub record AreStocked (n : GateNodeTables) (handed : Bool) (decks : List D) : Type 0 where
+  pub record AreStocked (n : GateNodeTables K) (handed : Bool) (decks : List D) : Type 0 where
     pub known : n.decks ≡ record { handed = handed; left = length decks }
     pub lists : HaveLists (gate_of n.gate).held decks
 
   -- A READY is answered `OK` only where each deck that is left is armed with the playlist of the order that is held, and
-  -- `NO DECK` exactly where the order is in step and held, decks were handed in and none is left.
-  pub record IsReadyAnswer (m : GateNodeTables) (e : PortEvent) (a : PortAnswer) (n : GateNodeTables) (ro : Text) (handed : Bool) (left : List D) : Type 0 where
+  -- `NO DECK` exactly where the gateway isn't stopped, the order is in step and held, decks were handed in and none is left.
+  pub record IsReadyAnswer (m : GateNodeTables K) (e : PortEvent) (a : PortAnswer) (n : GateNodeTables K) (ro : Text) (handed : Bool) (left : List D) : Type 0 where
     pub okay : a ≡ acked ro Okay → AreArmed (gate_of n.gate).held ro left
     pub no_deck :
         (a ≡ acked ro NoDeck)
-        ↔ ((is_link (gate_of m.gate).upper e.link ≡ true) × (is_in ((gate_of m.gate).phase ro) ≡ true) × (is_some_order ((gate_of m.gate).held ro) ≡ true) × (handed ≡ true) × (left ≡ []))
+        ↔ ((is_link (gate_of m.gate).upper e.link ≡ true) × ((gate_of m.gate).stopped ≡ false) × (is_in ((gate_of m.gate).phase ro) ≡ true) × (is_some_order ((gate_of m.gate).held ro) ≡ true) × (handed ≡ true) × (left ≡ []))

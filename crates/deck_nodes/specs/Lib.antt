@@ -1,5 +1,7 @@
 pub mod Ports
+pub mod KeptSteps
 pub mod DeckCalls
+pub mod Loading
 pub mod Left
 pub mod Telling
 pub mod GatewayNodes

@@ -1,18 +1,21 @@
 -- How the calls of the decks are found: before a message is read, and from what is known of its order after it.
-use Rattle.std.specs.Prelude.{ℕ, List, length, Bool, true, false, Option, None, Some, if◌then◌else◌, ◌&&◌}
+use Rattle.std.specs.Prelude.{ℕ, List, length, Result, Bool, true, false, Option, None, Some, if◌then◌else◌, ◌&&◌}
 use Rattle.mos_edits.specs.Texts.{Text, same_id}
+use Rattle.mos_edits.specs.Entries.{Entry}
 use Rattle.mos_machines.specs.Messages.{is_link}
 use Rattle.mos_machines.specs.Device.{Decks, GateState, Phase, would_arm}
 use Rattle.mos_machines.specs.Device.Phase.{InStep, OutOfStep}
-use Rattle.mos_machines.specs.Steps.{DeviceStep}
 use Rattle.mos_machines.specs.Values.{seen}
 use Rattle.mos_values.specs.declared.message.Message.{Message}
 use Rattle.mos_values.specs.declared.message.Message.TheVariants as carried
 use Rattle.mos_fields.specs.declared.air.Air.TheVariants.{NotReady}
+use Rattle.rundown_log.specs.declared.keeper.KeepFault.{KeepFault}
 use Rattle.gateway_core.specs.Gots.{says_no_order}
+use Rattle.gateway_core.specs.State.{KeptGate, gate_of}
 use Rattle.port_replies.specs.Ports.{ComesTo}
 use Rattle.port_events.specs.declared.answer.PortAnswer.{PortAnswer}
 use Rattle.port_events.specs.declared.event.What.{What}
+use Rattle.deck_nodes.specs.KeptSteps.{IsKeptStep}
 use Rattle.deck_nodes.specs.Ports.{upper_with}
 use Rattle.deck_rack.specs.Decks.{DeckView}
 use Rattle.deck_nodes.specs.DeckCalls.{DeckCall, IsDeckCall, answer_call, refused_call, upper_call}
@@ -74,10 +77,11 @@ list_call g c m = if is_link g.link c then answer_call g.out (seen m) else NoCal
 -- ---- at the port to the server
 
 -- What happened there came to this: the gate's step, and the calls of the decks. `known` says how many were left before.
-pub record IsUpperStep {D : Type 0} (view : D → DeckView) (mos : Text) (known : Decks) (g : GateState) (c : ℕ) (what : What) (a : PortAnswer) (h : GateState) (decks left : List D) : Type 0 where
-  pub gate : ComesTo DeviceStep g (upper_with (still_left known (length left)) c what) a h
-  pub rack : IsDeckCall view mos h.held (upper_call g (still_left known (length left)) c what) decks left
+pub record IsUpperStep {K D : Type 0} (appended : K → Entry → Result (Unit {0}) KeepFault → K → Type 0) (view : D → DeckView) (mos : Text) (known : Decks) (g : KeptGate K) (c : ℕ) (what : What) (a : PortAnswer) (h : KeptGate K) (decks left : List D) : Type 0 where
+  pub fails : Bool
+  pub gate : ComesTo (IsKeptStep appended fails) g (upper_with (still_left known (length left)) c what) a h
+  pub rack : IsDeckCall view mos (gate_of h).held (upper_call fails (gate_of g) (still_left known (length left)) c what) decks left
 
--- There was no memory.
+-- There was no memory: only the decks that had to be armed before were called.
 abbrev pub IsUpperRefusal : {D : Type 0} → (D → DeckView) → Text → Decks → GateState → ℕ → What → List D → List D → Type 0
-IsUpperRefusal view mos known g c what decks left = IsDeckCall view mos g.held (refused_call (upper_call g (still_left known (length left)) c what)) decks left
+IsUpperRefusal view mos known g c what decks left = IsDeckCall view mos g.held (refused_call (upper_call false g (still_left known (length left)) c what)) decks left

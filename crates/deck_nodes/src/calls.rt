@@ -2,9 +2,9 @@
 ghost use Rattle.std.specs.Prelude.{◌≡◌, length, Option};
 ghost use Rattle.mos_edits.specs.Texts.{Text};
 ghost use Rattle.mos_edits.specs.Orders.{Order};
-ghost use Rattle.mos_machines.specs.Tables.{gate_of};
 ghost use Rattle.gateway_core.specs.Parts.{decks_of};
-ghost use Rattle.deck_nodes.specs.DeckCalls.{IsDeckCall};
+ghost use Rattle.gateway_core.specs.State.{gate_of};
+ghost use Rattle.deck_nodes.specs.DeckCalls.{IsDeckCall, call_unless};
 ghost use Rattle.deck_nodes.specs.DeckCalls.DeckCall.{Load};
 ghost use Rattle.deck_nodes.specs.Left.{still_left};
 ghost use Rattle.deck_nodes.specs.Telling.{arm_call, arm_if as arm_if_of, disarm_call, load_call, read_told, told_call};
@@ -14,6 +14,7 @@ use deck_rack::{Deck, Rack};
 use gateway_core::{DeckState, Gate, Phase};
 use mos_fields::{Air, Id};
 use mos_values::Message;
+use rundown_log::Keeper;
 
 // How many of the decks that were left are in the rack still.
 pub fn left_in<D: Deck>(known: DeckState, rack: &Rack<D>) -> DeckState
@@ -38,8 +39,9 @@ fn arm_if<D: Deck>(rack: &mut Rack<D>, ro: &Id, arms: bool)
     }
 }
 
-/// Arms the decks where this message, read on this connection, is a READY of an order that is in step and held.
-pub fn arm_for<D: Deck>(gate: &Gate, rack: &mut Rack<D>, link: u64, m: &Message)
+/// Arms the decks where this message, read on this connection, is a READY of an order that is in step and held, and the gateway
+/// isn't stopped.
+pub fn arm_for<K: Keeper, D: Deck>(gate: &Gate<K>, rack: &mut Rack<D>, link: u64, m: &Message)
     ensures called { (held : Text → Option Order) → IsDeckCall D.view rack.old.mos held (arm_call (gate_of gate.now) link m.now) rack.old.decks.items rack.new.decks.items }
     ensures mos { rack.new.mos ≡ rack.old.mos }
     ensures handed { rack.new.handed ≡ rack.old.handed }
@@ -51,7 +53,7 @@ pub fn arm_for<D: Deck>(gate: &Gate, rack: &mut Rack<D>, link: u64, m: &Message)
 }
 
 /// Loads the decks with the playlist of the order that is held, or of none.
-pub fn load<D: Deck>(gate: &Gate, rack: &mut Rack<D>, ro: &Id)
+pub fn load<K: Keeper, D: Deck>(gate: &Gate<K>, rack: &mut Rack<D>, ro: &Id)
     ensures called { IsDeckCall D.view rack.old.mos (gate_of gate.now).held (Load ro.now) rack.old.decks.items rack.new.decks.items }
     ensures mos { rack.new.mos ≡ rack.old.mos }
     ensures handed { rack.new.handed ≡ rack.old.handed }
@@ -59,8 +61,19 @@ pub fn load<D: Deck>(gate: &Gate, rack: &mut Rack<D>, ro: &Id)
     rack.load(ro, gate.order(ro));
 }
 
+/// Loads them once a list of this order was taken, where it was kept: the gateway isn't stopped then.
+pub fn load_kept<K: Keeper, D: Deck>(gate: &Gate<K>, rack: &mut Rack<D>, ro: &Id)
+    ensures called { IsDeckCall D.view rack.old.mos (gate_of gate.now).held (call_unless (gate_of gate.now).stopped (Load ro.now)) rack.old.decks.items rack.new.decks.items }
+    ensures mos { rack.new.mos ≡ rack.old.mos }
+    ensures handed { rack.new.handed ≡ rack.old.handed }
+{
+    if !gate.is_stopped() {
+        load(gate, rack, ro);
+    }
+}
+
 // Loads them where the order is in step.
-fn load_in_step<D: Deck>(gate: &Gate, rack: &mut Rack<D>, ro: &Id)
+fn load_in_step<K: Keeper, D: Deck>(gate: &Gate<K>, rack: &mut Rack<D>, ro: &Id)
     ensures called { IsDeckCall D.view rack.old.mos (gate_of gate.now).held (load_call ((gate_of gate.now).phase ro.now) ro.now) rack.old.decks.items rack.new.decks.items }
     ensures mos { rack.new.mos ≡ rack.old.mos }
     ensures handed { rack.new.handed ≡ rack.old.handed }
@@ -72,7 +85,7 @@ fn load_in_step<D: Deck>(gate: &Gate, rack: &mut Rack<D>, ro: &Id)
 }
 
 // Disarms them for an order that isn't asked for.
-fn disarm<D: Deck>(gate: &Gate, rack: &mut Rack<D>, ro: &Id)
+fn disarm<K: Keeper, D: Deck>(gate: &Gate<K>, rack: &mut Rack<D>, ro: &Id)
     ensures called { IsDeckCall D.view rack.old.mos (gate_of gate.now).held (disarm_call ((gate_of gate.now).phase ro.now) ro.now) rack.old.decks.items rack.new.decks.items }
     ensures mos { rack.new.mos ≡ rack.old.mos }
     ensures handed { rack.new.handed ≡ rack.old.handed }
@@ -84,7 +97,7 @@ fn disarm<D: Deck>(gate: &Gate, rack: &mut Rack<D>, ro: &Id)
 }
 
 // Tells the decks of a message that was read, by how its order stands now.
-fn tell<D: Deck>(gate: &Gate, rack: &mut Rack<D>, m: &Message)
+fn tell<K: Keeper, D: Deck>(gate: &Gate<K>, rack: &mut Rack<D>, m: &Message)
     ensures called { IsDeckCall D.view rack.old.mos (gate_of gate.now).held (told_call (gate_of gate.now) m.now) rack.old.decks.items rack.new.decks.items }
     ensures mos { rack.new.mos ≡ rack.old.mos }
     ensures handed { rack.new.handed ≡ rack.old.handed }
@@ -106,7 +119,7 @@ fn tell<D: Deck>(gate: &Gate, rack: &mut Rack<D>, m: &Message)
 
 /// Tells the decks of a message that was read on this connection: an edit that was taken loads them with what is held then,
 /// NOT READY that was taken disarms them.
-pub fn tell_read<D: Deck>(gate: &Gate, rack: &mut Rack<D>, link: u64, m: &Message)
+pub fn tell_read<K: Keeper, D: Deck>(gate: &Gate<K>, rack: &mut Rack<D>, link: u64, m: &Message)
     ensures called { IsDeckCall D.view rack.old.mos (gate_of gate.now).held (read_told (gate_of gate.now) link m.now) rack.old.decks.items rack.new.decks.items }
     ensures mos { rack.new.mos ≡ rack.old.mos }
     ensures handed { rack.new.handed ≡ rack.old.handed }

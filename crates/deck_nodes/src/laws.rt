@@ -9,15 +9,17 @@ ghost use Rattle.deck_nodes.specs.GatewayNodes.{GateNodeTables};
 ghost use Rattle.deck_nodes.specs.Left.{as_seen};
 ghost use Rattle.deck_nodes.specs.NodeSteps.{IsNodeRefusal, IsNodeStep};
 
+use rundown_log::Keeper;
+
 /// Where the gateway knows how many decks are left, and each has the playlists of the orders that are held, so it is after
 /// each step, and after one for which there was no memory.
-pub fn decks_stay_stocked()
-    ensures step { (mos : Text) (m n : GateNodeTables) (e : Event) (a : Answer) (handed : Bool) (decks left : List DeckView) → IsNodeStep as_seen mos m e a n decks left → AreStocked as_seen mos m handed decks → AreStocked as_seen mos n handed left }
-    ensures refusal { (mos : Text) (m n : GateNodeTables) (e : Event) (handed : Bool) (decks left : List DeckView) → IsNodeRefusal as_seen mos m e n decks left → AreStocked as_seen mos m handed decks → AreStocked as_seen mos n handed left }
+pub fn decks_stay_stocked<K: Keeper>()
+    ensures step { (mos : Text) (m n : GateNodeTables K) (e : Event) (a : Answer) (handed : Bool) (decks left : List DeckView) → IsNodeStep K.appended as_seen mos m e a n decks left → AreStocked as_seen mos m handed decks → AreStocked as_seen mos n handed left }
+    ensures refusal { (mos : Text) (m n : GateNodeTables K) (e : Event) (handed : Bool) (decks left : List DeckView) → IsNodeRefusal K.appended as_seen mos m e n decks left → AreStocked as_seen mos m handed decks → AreStocked as_seen mos n handed left }
 {}
 
 /// A READY is answered `OK` only where each deck that is left is armed with the playlist of the order that is held, and
-/// `NO DECK` exactly where decks were handed in and none is left, of an order that is in step and held.
-pub fn readies_are_exact()
-    ensures { (mos : Text) (m n : GateNodeTables) (e : Event) (a : Answer) (handed : Bool) (decks left : List DeckView) (ro : Text) → IsNodeStep as_seen mos m e a n decks left → AreStocked as_seen mos m handed decks → IsReadyOf e ro → IsReadyAnswer as_seen mos m e a n ro handed left }
+/// `NO DECK` exactly where the gateway isn't stopped, decks were handed in and none is left, of an order that is in step and held.
+pub fn readies_are_exact<K: Keeper>()
+    ensures { (mos : Text) (m n : GateNodeTables K) (e : Event) (a : Answer) (handed : Bool) (decks left : List DeckView) (ro : Text) → IsNodeStep K.appended as_seen mos m e a n decks left → AreStocked as_seen mos m handed decks → IsReadyOf e ro → IsReadyAnswer as_seen mos m e a n ro handed left }
 {}

@@ -2,11 +2,11 @@
 ghost use Rattle.std.specs.Prelude.{◌≡◌, IfOk};
 ghost use Rattle.mos_edits.specs.Texts.{same_id};
 ghost use Rattle.mos_machines.specs.Messages.{is_link as is_link_of};
-ghost use Rattle.mos_machines.specs.Tables.{gate_of};
 ghost use Rattle.mos_machines.specs.Device.GateOut.{AsksFor};
 ghost use Rattle.mos_machines.specs.Values.{seen};
 ghost use Rattle.gateway_core.specs.Gots.{says_no_order as says_no_order_of};
 ghost use Rattle.gateway_core.specs.Parts.{asking_of};
+ghost use Rattle.gateway_core.specs.State.{gate_of};
 ghost use Rattle.deck_nodes.specs.DeckCalls.{answer_call};
 ghost use Rattle.deck_nodes.specs.Telling.{is_list_of as is_list_for, list_call, listed_call};
 
@@ -14,6 +14,7 @@ use gateway_core::{Asking, Gate};
 use mos_fields::{Id, NoMemory, OptId, Slug};
 use mos_values::Message;
 use order_table::is_same;
+use rundown_log::Keeper;
 
 // NO RUNNING ORDER, in code units.
 const NO_RUNNING_ORDER: [u16; 16] = [
@@ -77,7 +78,11 @@ fn listed_by(out: &Asking, m: &Message) -> Result<Option<Id>, NoMemory>
 }
 
 /// The order of which an answer on this connection is a list, or says that there is none; `None` where it is no such answer.
-pub fn listed_order(gate: &Gate, link: u64, m: &Message) -> Result<Option<Id>, NoMemory>
+pub fn listed_order<K: Keeper>(
+    gate: &Gate<K>,
+    link: u64,
+    m: &Message,
+) -> Result<Option<Id>, NoMemory>
     ensures { IfOk result (λ ro. listed_call ro ≡ list_call (gate_of gate.now) link m.now) }
 {
     if is_link(gate.own_link(), link) {

@@ -1,10 +1,12 @@
 //! The gate's steps at its port to the server.
 ghost use Rattle.std.specs.Prelude.{◌≡◌, IfOk, OnErr};
-ghost use Rattle.mos_machines.specs.Steps.{DeviceEvent, DeviceStep};
-ghost use Rattle.mos_machines.specs.Tables.{gate_of};
+ghost use Rattle.mos_machines.specs.Steps.{DeviceEvent};
 ghost use Rattle.mos_machines.specs.Values.{seen};
+ghost use Rattle.mos_values.specs.Sound.{IsSound};
 ghost use Rattle.gateway_core.specs.Parts.{decks_of};
-ghost use Rattle.port_replies.specs.Ports.{Asked, ComesTo, said};
+ghost use Rattle.gateway_core.specs.State.{LeavesGate};
+ghost use Rattle.port_replies.specs.Ports.{Asked, said};
+ghost use Rattle.deck_nodes.specs.KeptSteps.{IsComing};
 ghost use Rattle.deck_nodes.specs.Ports.{heard_said, sent_said, step_said};
 
 use gateway_core::{DeckState, Gate};
@@ -12,6 +14,7 @@ use machine_answers::{Heard, Sent, Step};
 use mos_fields::{MosTime, NoMemory, let_go};
 use mos_values::Message;
 use port_events::PortAnswer;
+use rundown_log::Keeper;
 
 // What is said to what became of an answer, or of an end.
 fn step_answer(step: Step) -> PortAnswer
@@ -49,71 +52,77 @@ fn sent_answer(sent: Sent) -> PortAnswer
 }
 
 /// A connection of the server was accepted.
-pub fn accepted(gate: &mut Gate, link: u64) -> PortAnswer
-    ensures { ComesTo DeviceStep (gate_of gate.old) (Asked.Steps (DeviceEvent.UpperAccepted link) said) result (gate_of gate.new) }
+pub fn accepted<K: Keeper>(gate: &mut Gate<K>, link: u64) -> PortAnswer
+    ensures { IsComing K.appended gate.old (Asked.Steps (DeviceEvent.UpperAccepted link) said) result gate.new }
 {
     gate.upper_accepted(link);
     PortAnswer::Done
 }
 
-/// A message came on it, while the decks stand so.
-pub fn read(
-    gate: &mut Gate,
+/// A sound message came on it, while the decks stand so.
+pub fn read<K: Keeper>(
+    gate: &mut Gate<K>,
     link: u64,
     m: &Message,
     decks: DeckState,
 ) -> Result<PortAnswer, NoMemory>
-    ensures ok { IfOk result (λ a. ComesTo DeviceStep (gate_of gate.old) (Asked.Steps (DeviceEvent.ReadUpper link (seen m.now) (decks_of decks)) said) a (gate_of gate.new)) }
-    ensures err { OnErr result (gate.new ≡ gate.old) }
+    requires { IsSound m.now }
+    ensures ok { IfOk result (λ a. IsComing K.appended gate.old (Asked.Steps (DeviceEvent.ReadUpper link (seen m.now) (decks_of decks)) said) a gate.new) }
+    ensures err { OnErr result (LeavesGate K.appended gate.old gate.new) }
 {
     let heard = gate.read_upper(link, m, decks)?;
     Ok(heard_answer(heard))
 }
 
 /// It ended.
-pub fn left(gate: &mut Gate, link: u64) -> PortAnswer
-    ensures { ComesTo DeviceStep (gate_of gate.old) (Asked.Steps (DeviceEvent.UpperLeft link) said) result (gate_of gate.new) }
+pub fn left<K: Keeper>(gate: &mut Gate<K>, link: u64) -> PortAnswer
+    ensures { IsComing K.appended gate.old (Asked.Steps (DeviceEvent.UpperLeft link) said) result gate.new }
 {
     step_answer(gate.upper_left(link))
 }
 
 /// The gateway opened a connection.
-pub fn opened(gate: &mut Gate, link: u64) -> PortAnswer
-    ensures { ComesTo DeviceStep (gate_of gate.old) (Asked.Steps (DeviceEvent.DeviceOpened link) said) result (gate_of gate.new) }
+pub fn opened<K: Keeper>(gate: &mut Gate<K>, link: u64) -> PortAnswer
+    ensures { IsComing K.appended gate.old (Asked.Steps (DeviceEvent.DeviceOpened link) said) result gate.new }
 {
     gate.device_opened(link);
     PortAnswer::Done
 }
 
 /// The message that is sent on it next.
-pub fn next(gate: &mut Gate, link: u64, now: &MosTime) -> Result<PortAnswer, NoMemory>
-    ensures ok { IfOk result (λ a. ComesTo DeviceStep (gate_of gate.old) (Asked.Steps (DeviceEvent.NextAsk link now.now) said) a (gate_of gate.new)) }
-    ensures err { OnErr result (gate.new ≡ gate.old) }
+pub fn next<K: Keeper>(gate: &mut Gate<K>, link: u64, now: &MosTime) -> Result<PortAnswer, NoMemory>
+    ensures ok { IfOk result (λ a. IsComing K.appended gate.old (Asked.Steps (DeviceEvent.NextAsk link now.now) said) a gate.new) }
+    ensures err { OnErr result (LeavesGate K.appended gate.old gate.new) }
 {
     let sent = gate.next_ask(link, now)?;
     Ok(sent_answer(sent))
 }
 
-/// An answer came on it.
-pub fn answered(gate: &mut Gate, link: u64, m: &Message) -> Result<PortAnswer, NoMemory>
-    ensures ok { IfOk result (λ a. ComesTo DeviceStep (gate_of gate.old) (Asked.Steps (DeviceEvent.ReadAnswer link (seen m.now)) said) a (gate_of gate.new)) }
-    ensures err { OnErr result (gate.new ≡ gate.old) }
+/// An answer came on it, which is sound.
+pub fn answered<K: Keeper>(
+    gate: &mut Gate<K>,
+    link: u64,
+    m: &Message,
+) -> Result<PortAnswer, NoMemory>
+    requires { IsSound m.now }
+    ensures ok { IfOk result (λ a. IsComing K.appended gate.old (Asked.Steps (DeviceEvent.ReadAnswer link (seen m.now)) said) a gate.new) }
+    ensures err { OnErr result (LeavesGate K.appended gate.old gate.new) }
 {
     let step = gate.read_answer(link, m)?;
     Ok(step_answer(step))
 }
 
 /// A heartbeat is to be sent when nothing else is due.
-pub fn beat(gate: &mut Gate) -> PortAnswer
-    ensures { ComesTo DeviceStep (gate_of gate.old) (Asked.Steps DeviceEvent.GateBeat said) result (gate_of gate.new) }
+pub fn beat<K: Keeper>(gate: &mut Gate<K>) -> PortAnswer
+    ensures { IsComing K.appended gate.old (Asked.Steps DeviceEvent.GateBeat said) result gate.new }
 {
     gate.beat();
     PortAnswer::Done
 }
 
 /// The connection that the gateway opened ended.
-pub fn dropped(gate: &mut Gate, link: u64) -> PortAnswer
-    ensures { ComesTo DeviceStep (gate_of gate.old) (Asked.Steps (DeviceEvent.GateDropped link) said) result (gate_of gate.new) }
+pub fn dropped<K: Keeper>(gate: &mut Gate<K>, link: u64) -> PortAnswer
+    ensures { IsComing K.appended gate.old (Asked.Steps (DeviceEvent.GateDropped link) said) result gate.new }
 {
     step_answer(gate.device_dropped(link))
 }

@@ -5,6 +5,7 @@ use crate::nodes::{accept, node, says};
 use deck_nodes::GateNode;
 use deck_rack::{MemDeck, Rack};
 use mos_fields::{Air, let_go};
+use rundown_log::MemKeeper;
 use std::alloc::Global;
 use std::test::Fail;
 
@@ -53,7 +54,7 @@ fn note_deck(alloc: Global, deck: &MemDeck, notes: &mut Vec<char>) -> Result<(),
 // `OK`, `OK` and so.
 fn play(
     alloc: Global,
-    node: &mut GateNode,
+    node: &mut GateNode<MemKeeper>,
     rack: &mut Memory,
     wanted: &str,
     notes: &mut Vec<char>,
@@ -71,7 +72,7 @@ fn play(
 // The notes of two decks that fail at these calls, or none where a message is answered otherwise.
 fn played(alloc: Global, i: u64, j: u64, wanted: &str) -> Result<String, Fail> {
     let mut rack = rack_of(alloc, i, j)?;
-    let mut node = node(alloc, &rack);
+    let mut node = node(alloc, &mut rack);
     let mut notes = Vec::new(alloc);
     let played = play(alloc, &mut node, &mut rack, wanted, &mut notes);
     let_go(node);
@@ -109,7 +110,7 @@ fn left_after(number: u64, i: u64, j: u64) -> usize {
 // The event of this number, each of which makes one call: the order is created, released, taken back, changed and released again.
 fn is_answered(
     alloc: Global,
-    node: &mut GateNode,
+    node: &mut GateNode<MemKeeper>,
     rack: &mut Memory,
     number: u64,
     left: usize,
@@ -126,7 +127,7 @@ fn is_answered(
 // Whether two such decks are gone exactly after their failing calls, and a READY is answered `NO DECK` exactly where none is left.
 fn falls_as_listed(
     alloc: Global,
-    node: &mut GateNode,
+    node: &mut GateNode<MemKeeper>,
     rack: &mut Memory,
     i: u64,
     j: u64,
@@ -143,7 +144,7 @@ fn falls_as_listed(
 
 fn falls(alloc: Global, i: u64, j: u64) -> Result<bool, Fail> {
     let mut rack = rack_of(alloc, i, j)?;
-    let mut node = node(alloc, &rack);
+    let mut node = node(alloc, &mut rack);
     let falls = falls_as_listed(alloc, &mut node, &mut rack, i, j);
     let_go(node);
     let_go(rack);

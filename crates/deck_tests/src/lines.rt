@@ -6,6 +6,7 @@ use deck_nodes::GateNode;
 use deck_rack::{LineDeck, Rack};
 use mos_fields::let_go;
 use mos_io::MemSink;
+use rundown_log::MemKeeper;
 use std::alloc::Global;
 use std::test::Fail;
 
@@ -22,7 +23,7 @@ fn rack_of(alloc: Global, mos: &str) -> Result<Lines, Fail> {
 // Creates the order, and appends what the decks have written then.
 fn play(
     alloc: Global,
-    node: &mut GateNode,
+    node: &mut GateNode<MemKeeper>,
     rack: &mut Lines,
     out: &mut Vec<u8>,
 ) -> Result<bool, Fail> {
@@ -37,7 +38,7 @@ fn play(
 // Whether the deck of this device writes so.
 fn writes(alloc: Global, mos: &str, wanted: &str) -> Result<bool, Fail> {
     let mut rack = rack_of(alloc, mos)?;
-    let mut node = node(alloc, &rack);
+    let mut node = node(alloc, &mut rack);
     let mut out = Vec::new(alloc);
     let created = play(alloc, &mut node, &mut rack, &mut out);
     let_go(node);

@@ -7,6 +7,7 @@ use mos_fields::{NoMemory, let_go};
 use mos_values::{MachInfo, Message, Unreads};
 use object_table::ObjectTable;
 use port_events::{PortAnswer, PortEvent, Side, SoundMessage, What};
+use rundown_log::MemKeeper;
 use std::alloc::Global;
 use std::test::Fail;
 
@@ -30,7 +31,7 @@ fn info(alloc: Global) -> MachInfo {
 }
 
 /// A node that holds no order, with the decks of this rack.
-pub fn node<D: Deck>(alloc: Global, rack: &Rack<D>) -> GateNode {
+pub fn node<D: Deck>(alloc: Global, rack: &mut Rack<D>) -> GateNode<MemKeeper> {
     GateNode::new(
         alloc,
         Gate::new(alloc),
@@ -50,7 +51,7 @@ fn event(what: What) -> PortEvent {
 }
 
 fn take<D: Deck>(
-    node: &mut GateNode,
+    node: &mut GateNode<MemKeeper>,
     rack: &mut Rack<D>,
     what: What,
 ) -> Result<PortAnswer, NoMemory> {
@@ -61,7 +62,7 @@ fn take<D: Deck>(
 }
 
 /// Accepts the connection.
-pub fn accept<D: Deck>(node: &mut GateNode, rack: &mut Rack<D>) -> Result<(), Fail> {
+pub fn accept<D: Deck>(node: &mut GateNode<MemKeeper>, rack: &mut Rack<D>) -> Result<(), Fail> {
     let_go(take(node, rack, What::Accepted)?);
     Ok(())
 }
@@ -86,7 +87,7 @@ fn status(alloc: Global, answer: &PortAnswer) -> Result<String, Fail> {
 /// Whether a message on that connection is answered a roAck with this status.
 pub fn says<D: Deck>(
     alloc: Global,
-    node: &mut GateNode,
+    node: &mut GateNode<MemKeeper>,
     rack: &mut Rack<D>,
     message: SoundMessage,
     wanted: &str,

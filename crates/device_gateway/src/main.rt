@@ -71,6 +71,6 @@ fn main(rt: HostRuntime) -> ExitCode {
     if decks.push(deck).is_err() {
         return said(&rt, ProgramEnd::NoMemory, &why);
     }
-    let end = run_gateway(rt, &words, decks, &mut why);
+    let end = run_gateway(rt, rt, &words, decks, &mut why);
     said(&rt, end, &why)
 }

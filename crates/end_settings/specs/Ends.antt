@@ -26,13 +26,13 @@ server_of ms = made server_with (joined3
 
 -- ---- the gateway's
 
-abbrev pub gate_with : ((Text × Text × Text) × (ℕ × ℕ) × (ℕ × ℕ)) × (Option Text × Option Text × Option Text) × ℕ → GateSettings
-gate_with t = record { mos_id = t.0.0.0; ncs_id = t.0.0.1; host = t.0.0.2; upper = t.0.1.0; lower = t.0.1.1; server_upper = t.0.2.0; server_lower = t.0.2.1; objects = t.1.0; manufacturer = t.1.1; model = t.1.2; budget = t.2 }
+abbrev pub gate_with : (((Text × Text) × Text × Text) × (ℕ × ℕ) × (ℕ × ℕ)) × (Option Text × Option Text × Option Text) × ℕ → GateSettings
+gate_with t = record { mos_id = t.0.0.0.0; ncs_id = t.0.0.0.1; host = t.0.0.1; store = t.0.0.2; upper = t.0.1.0; lower = t.0.1.1; server_upper = t.0.2.0; server_lower = t.0.2.1; objects = t.1.0; manufacturer = t.1.1; model = t.1.2; budget = t.2 }
 
 unfoldable pub gate_of : Members → Given GateSettings
 gate_of ms = made gate_with (joined3
     (joined3
-    (joined3 (must id_in keys.MosId (value_of keys.MosId ms)) (must id_in keys.NcsId (value_of keys.NcsId ms)) (must filled_in keys.Host (value_of keys.Host ms)))
+    (joined3 (joined (must id_in keys.MosId (value_of keys.MosId ms)) (must id_in keys.NcsId (value_of keys.NcsId ms))) (must filled_in keys.Host (value_of keys.Host ms)) (must filled_in keys.Store (value_of keys.Store ms)))
     (joined (otherwise port_in 10541 keys.Upper (value_of keys.Upper ms)) (otherwise port_in 10540 keys.Lower (value_of keys.Lower ms)))
     (joined (otherwise port_in 10541 keys.ServerUpper (value_of keys.ServerUpper ms)) (otherwise port_in 10540 keys.ServerLower (value_of keys.ServerLower ms))))
     (joined3 (maybe filled_in keys.Objects (value_of keys.Objects ms)) (maybe text_in keys.Manufacturer (value_of keys.Manufacturer ms)) (maybe text_in keys.Model (value_of keys.Model ms)))

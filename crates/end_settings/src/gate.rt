@@ -22,6 +22,8 @@ pub struct GateSettings {
     pub ncs_id: Id,
     /// Where the server is found.
     pub host: Text,
+    /// The path of the file in which the gateway keeps its orders.
+    pub store: Text,
     /// The port for running order messages at which the gateway listens; 10541 unless given.
     pub upper: u16,
     /// The port for media object messages at which the gateway listens; 10540 unless given.
@@ -40,8 +42,8 @@ pub struct GateSettings {
     pub budget: u64,
 }
 
-/// The keys before `objects`: names, the gateway's ports, the server's ports.
-type Address = ((Id, Id, Text), (u16, u16), (u16, u16));
+/// The keys before `objects`: names and where the server and the orders are, the gateway's ports, the server's ports.
+type Address = (((Id, Id), Text, Text), (u16, u16), (u16, u16));
 
 /// `objects`, `manufacturer` and `model`.
 type Texts = (Option<Text>, Option<Text>, Option<Text>);
@@ -54,11 +56,13 @@ fn gate_from(
 {
     match parts {
         Ok((address, (objects, manufacturer, model), budget)) => {
-            let ((mos_id, ncs_id, host), (upper, lower), (server_upper, server_lower)) = address;
+            let (((mos_id, ncs_id), host, store), (upper, lower), (server_upper, server_lower)) =
+                address;
             Ok(GateSettings {
                 mos_id,
                 ncs_id,
                 host,
+                store,
                 upper,
                 lower,
                 server_upper,
@@ -80,6 +84,7 @@ fn gate_settings_of(alloc: Global, table: &Table) -> Result<GateSettings, Settin
     let mos_id = required_id(alloc, table, Key::MosId);
     let ncs_id = required_id(alloc, table, Key::NcsId);
     let host = required_text(alloc, table, Key::Host);
+    let store = required_text(alloc, table, Key::Store);
     let upper = port(table, Key::Upper, 10_541);
     let lower = port(table, Key::Lower, 10_540);
     let server_upper = port(table, Key::ServerUpper, 10_541);
@@ -90,7 +95,7 @@ fn gate_settings_of(alloc: Global, table: &Table) -> Result<GateSettings, Settin
     let budget = budget(table, Key::Budget, 1_073_741_824);
     gate_from(triple_given(
         triple_given(
-            triple_given(mos_id, ncs_id, host),
+            triple_given(pair_given(mos_id, ncs_id), host, store),
             pair_given(upper, lower),
             pair_given(server_upper, server_lower),
         ),
@@ -102,8 +107,8 @@ fn gate_settings_of(alloc: Global, table: &Table) -> Result<GateSettings, Settin
 /// The gateway's settings in a TOML text.
 ///
 /// `NotToml` comes exactly where the text is no TOML in UTF-8. Else `Missing` or `BadValue` comes exactly at the first key
-/// that is required and lacking, or whose value isn't allowed, in the order `mos_id`, `ncs_id`, `host`, which are required,
-/// `upper`, `lower`, `server_upper`, `server_lower`, `objects`, `manufacturer`, `model`, `budget`. IDs have 1 to 128
+/// that is required and lacking, or whose value isn't allowed, in the order `mos_id`, `ncs_id`, `host`, `store`, which are
+/// required, `upper`, `lower`, `server_upper`, `server_lower`, `objects`, `manufacturer`, `model`, `budget`. IDs have 1 to 128
 /// characters, a host and a path at least one, all of them such as XML 1.0 allows; `manufacturer` and `model` may be empty.
 /// Ports are 1 to 65535, a budget is 1 to 1099511627776. Other keys are read over.
 pub fn read_gate_settings(alloc: Global, text: &[u8]) -> Result<GateSettings, SettingsFault>

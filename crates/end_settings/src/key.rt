@@ -35,6 +35,8 @@ pub enum Key {
     MosId,
     /// `host`, where the gateway finds its server.
     Host,
+    /// `store`, the path of the file in which the gateway keeps its orders.
+    Store,
     /// `server_upper`, the server's port for running order messages.
     ServerUpper,
     /// `server_lower`, the server's port for media object messages.
@@ -68,6 +70,7 @@ impl Key {
             Key::Listen => "listen",
             Key::MosId => "mos_id",
             Key::Host => "host",
+            Key::Store => "store",
             Key::ServerUpper => "server_upper",
             Key::ServerLower => "server_lower",
             Key::Objects => "objects",

@@ -98,7 +98,7 @@ fn goes_on(alloc: Global, keeper: &mut FileKeeper<HostRuntime>) -> Result<bool, 
 fn an_append_goes_on_behind_what_was_loaded(rt: HostRuntime) -> Result<(), Fail> {
     let bytes = write_entries(&rt, "more_log", "RST")?;
     fs::write(&rt, "more_log", front(&bytes, 400))?;
-    let mut keeper = FileKeeper::open(&rt, "more_log")?;
+    let mut keeper = FileKeeper::open(&rt, "log", "more_log")?;
     let goes_on = goes_on(rt.alloc(), &mut keeper);
     let_go(keeper);
     assert!(rt; goes_on?);

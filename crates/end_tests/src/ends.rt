@@ -8,6 +8,7 @@ const LINES: &str = "0 Closed
 1 Usage
 2 NoFile: the settings
 2 NoFile: log
+2 NoFile: store
 2 NoFile: objects
 2 NoPort 10541
 4 ListenFault
@@ -24,12 +25,13 @@ fn end_at(row: u32) -> ProgramEnd {
         1 => ProgramEnd::Usage,
         2 => ProgramEnd::NoFile(FileOf::Settings),
         3 => ProgramEnd::NoFile(FileOf::Log),
-        4 => ProgramEnd::NoFile(FileOf::Objects),
-        5 => ProgramEnd::NoPort(10_541),
-        6 => ProgramEnd::ListenFault,
-        7 => ProgramEnd::NoWorker,
-        8 => ProgramEnd::StoreFault,
-        9 => ProgramEnd::BadEntry { number: u64::MAX },
+        4 => ProgramEnd::NoFile(FileOf::Store),
+        5 => ProgramEnd::NoFile(FileOf::Objects),
+        6 => ProgramEnd::NoPort(10_541),
+        7 => ProgramEnd::ListenFault,
+        8 => ProgramEnd::NoWorker,
+        9 => ProgramEnd::StoreFault,
+        10 => ProgramEnd::BadEntry { number: u64::MAX },
         _ => ProgramEnd::NoMemory,
     }
 }
@@ -52,7 +54,7 @@ fn lines(alloc: Global, count: u32) -> Result<String, Fail> {
 
 #[test]
 fn each_end_has_its_number_and_its_line(rt: HostRuntime) -> Result<(), Fail> {
-    let lines = lines(rt.alloc(), 11)?;
+    let lines = lines(rt.alloc(), 12)?;
     assert_eq!(rt; lines.as_str(), LINES);
     Ok(())
 }

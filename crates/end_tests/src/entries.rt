@@ -100,7 +100,7 @@ pub fn append_all<R: Files + AllocGlobal + Clock + Eprint + Copy + Drop>(
 
 /// Makes a file of the entries of these orders, and gives its bytes.
 pub fn write_entries(rt: &HostRuntime, path: &str, names: &str) -> Result<Vec<u8>, Fail> {
-    let mut keeper = FileKeeper::open(rt, path)?;
+    let mut keeper = FileKeeper::open(rt, "log", path)?;
     let appended = append_all(rt.alloc(), &mut keeper, names);
     let_go(keeper);
     if !appended? {
@@ -112,7 +112,7 @@ pub fn write_entries(rt: &HostRuntime, path: &str, names: &str) -> Result<Vec<u8
 /// The letters of what is loaded from a file that has these bytes.
 pub fn load_bytes(rt: &HostRuntime, path: &str, bytes: &[u8]) -> Result<Vec<char>, Fail> {
     fs::write(rt, path, bytes)?;
-    let mut keeper = FileKeeper::open(rt, path)?;
+    let mut keeper = FileKeeper::open(rt, "log", path)?;
     let loaded = load(rt.alloc(), &mut keeper);
     let_go(keeper);
     Ok(loaded?)

@@ -45,7 +45,7 @@ fn a_message_that_is_no_entry_fails_and_is_left(rt: HostRuntime) -> Result<(), F
 
 #[test]
 fn a_file_is_opened_or_fails(rt: HostRuntime) -> Result<(), Fail> {
-    assert!(rt; matches!(FileKeeper::open(&rt, "none/log"), Err(KeepFault::Failed)));
+    assert!(rt; matches!(FileKeeper::open(&rt, "log", "none/log"), Err(KeepFault::Failed)));
     assert!(rt; load_bytes(&rt, "empty_log", &[])?.is_empty());
     Ok(())
 }
@@ -59,7 +59,7 @@ fn stretch(rt: &HostRuntime, path: &str, length: u64) -> Result<(), Fail> {
 
 /// What an append to a file answers.
 fn append_to(rt: &HostRuntime, path: &str) -> Result<Result<(), KeepFault>, Fail> {
-    let mut keeper = FileKeeper::open(rt, path)?;
+    let mut keeper = FileKeeper::open(rt, "log", path)?;
     let answer = append(rt.alloc(), &mut keeper, 'R');
     let_go(keeper);
     Ok(answer?)
@@ -68,7 +68,7 @@ fn append_to(rt: &HostRuntime, path: &str) -> Result<Result<(), KeepFault>, Fail
 #[test]
 fn a_file_that_is_too_long_is_left(rt: HostRuntime) -> Result<(), Fail> {
     stretch(&rt, "long_log", 1_099_511_627_777)?;
-    let mut keeper = FileKeeper::open(&rt, "long_log")?;
+    let mut keeper = FileKeeper::open(&rt, "log", "long_log")?;
     let loaded = crate::entries::load(rt.alloc(), &mut keeper);
     let_go(keeper);
     assert!(rt; loaded?.as_slice() == ['!'].as_slice());

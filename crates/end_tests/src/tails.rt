@@ -14,7 +14,7 @@ fn is_beside(rt: &HostRuntime, path: &str, end: &str) -> Result<bool, Fail> {
 
 /// Whether the entries of R and S, which have 328 bytes, are loaded from a file and left there.
 fn leaves_two(rt: &HostRuntime, path: &str) -> Result<bool, Fail> {
-    let mut keeper = FileKeeper::open(rt, path)?;
+    let mut keeper = FileKeeper::open(rt, "log", path)?;
     let loaded = load(rt.alloc(), &mut keeper);
     let_go(keeper);
     Ok(loaded?.as_slice() == ['R', 'S'].as_slice() && fs::metadata(rt, path)?.len() == 328)
@@ -94,7 +94,7 @@ fn what_cant_be_saved_is_not_cut_off(rt: HostRuntime) -> Result<(), Fail> {
         sync: 0,
         cuts: 0,
     };
-    let mut keeper = FileKeeper::open(&Weak { rt, plan }, "full_log")?;
+    let mut keeper = FileKeeper::open(&Weak { rt, plan }, "log", "full_log")?;
     let loaded = load(rt.alloc(), &mut keeper);
     let_go(keeper);
     assert!(rt; loaded?.as_slice() == ['!'].as_slice());

@@ -55,7 +55,7 @@ fn append_four(
 
 fn lengths_behind(rt: HostRuntime, path: &str, plan: Plan) -> Result<Lengths, Fail> {
     let weak = Weak { rt, plan };
-    let mut keeper = FileKeeper::open(&weak, path)?;
+    let mut keeper = FileKeeper::open(&weak, "log", path)?;
     let lengths = append_four(&rt, path, &mut keeper);
     let_go(keeper);
     lengths

@@ -3,7 +3,7 @@ ghost use Rattle.std.specs.Prelude.{◌≡◌, ◌≤◌, ◌<◌, [], OnOk, len
 
 use crate::cause::Cause;
 use crate::file::MOST;
-use crate::lines::{say_fault, say_refused};
+use crate::lines::{Name, say_fault, say_refused};
 use crate::reading::{PIECE, room};
 use journal_bytes::{JournalFault, JournalReader};
 use std::alloc::Global;
@@ -99,15 +99,15 @@ fn find<F: Read + Seek>(alloc: Global, file: &mut F) -> Option<u64> {
 /// Says why a load failed. Of a journal that is damaged it looks for the place.
 pub(crate) fn say_unloaded<R: AllocGlobal + Clock + Eprint, F: Read + Seek>(
     rt: &R,
-    path: &str,
+    name: &Name,
     file: &mut F,
     cause: Cause,
 ) {
     match cause {
         Cause::Damaged => match find(rt.alloc(), file) {
-            Some(at) => say_refused(rt, path, at),
-            None => say_fault(rt, path, cause),
+            Some(at) => say_refused(rt, name, at),
+            None => say_fault(rt, name, cause),
         },
-        _ => say_fault(rt, path, cause),
+        _ => say_fault(rt, name, cause),
     }
 }

@@ -10,7 +10,7 @@ ghost use Rattle.file_keeper.specs.Reading.{AreRead};
 use crate::cause::{Cause, keep_fault};
 use crate::damage::say_unloaded;
 use crate::file::{MOST, length_of, write_behind};
-use crate::lines::{say_fault, say_loaded};
+use crate::lines::{Name, say_fault, say_loaded};
 use crate::reading::load_file;
 use journal_bytes::entry_bytes;
 use mos_fields::{NoMemory, let_go, pair_ok};
@@ -44,7 +44,7 @@ use std::time::Clock;
 #[derive(Drop)]
 pub struct FileKeeper<R: Files + AllocGlobal + Clock + Eprint + Copy + Drop> {
     rt: R,
-    path: String,
+    name: Name,
     file: R::File,
     // the length to which the file is still to be cut before more is written
     torn: Option<u64>,
@@ -92,7 +92,7 @@ fn put<F: Write + OpenFile>(file: &mut F, torn: &mut Option<u64>, bytes: &[u8]) 
 // The same, and whether they are on the disk. Why not is said where that is asked for.
 fn put_said<R: Files + AllocGlobal + Clock + Eprint>(
     rt: &R,
-    path: &str,
+    name: &Name,
     file: &mut R::File,
     torn: &mut Option<u64>,
     bytes: &[u8],
@@ -104,7 +104,7 @@ fn put_said<R: Files + AllocGlobal + Clock + Eprint>(
         Ok(()) => true,
         Err(cause) => {
             if say {
-                say_fault(rt, path, cause);
+                say_fault(rt, name, cause);
             }
             false
         }
@@ -122,7 +122,7 @@ fn set_doubt(doubt: &mut Option<Entry>, now: Option<Entry>)
 // succeeded or a load came, it is said why.
 fn put_entry<R: Files + AllocGlobal + Clock + Eprint>(
     rt: &R,
-    path: &str,
+    name: &Name,
     file: &mut R::File,
     torn: &mut Option<u64>,
     before: &Option<Entry>,
@@ -133,7 +133,7 @@ fn put_entry<R: Files + AllocGlobal + Clock + Eprint>(
     ensures kept { OnErr result (file.new ≡ file.old) }
 {
     let (bytes, copy) = pair_ok(entry_bytes(rt.alloc(), e), e.try_clone())?;
-    if put_said(rt, path, file, torn, &bytes, before.is_none()) {
+    if put_said(rt, name, file, torn, &bytes, before.is_none()) {
         let_go(copy);
         return Ok(None);
     }
@@ -167,14 +167,14 @@ fn count(faults: &mut u64, fault: KeepFault) -> KeepFault
 }
 
 impl<R: Files + AllocGlobal + Clock + Eprint + Copy + Drop> FileKeeper<R> {
-    /// The keeper of the file at this path, which is made where there is none, with no fault so far. It fails where the
-    /// file can't be opened.
-    pub fn open(rt: &R, path: &str) -> Result<Self, KeepFault>
+    /// The keeper of the file at this path, which is made where there is none, with no fault so far. This setting names the
+    /// file, and stands before its path in each line that is said. It fails where the file can't be opened.
+    pub fn open(rt: &R, setting: &str, path: &str) -> Result<Self, KeepFault>
         ensures faults { IfOk result (λ k. faults_of k ≡ 0) }
         ensures doubt { IfOk result (λ k. doubt_of k ≡ None) }
         ensures fault { IfErr result (λ fault. fault ≡ KeepFault.Failed) }
     {
-        let Ok(own) = String::from_str(rt.alloc(), path) else {
+        let Ok(name) = Name::new(rt.alloc(), setting, path) else {
             return Err(KeepFault::Failed);
         };
         match OpenOptions::new()
@@ -185,7 +185,7 @@ impl<R: Files + AllocGlobal + Clock + Eprint + Copy + Drop> FileKeeper<R> {
         {
             Ok(file) => Ok(FileKeeper {
                 rt: *rt,
-                path: own,
+                name,
                 file,
                 torn: None,
                 doubt: None,
@@ -206,14 +206,14 @@ impl<R: Files + AllocGlobal + Clock + Eprint + Copy + Drop> FileKeeper<R> {
         ensures rises { self.old.faults ≤ self.new.faults }
     {
         set_doubt(&mut self.doubt, None);
-        match load_file(&self.rt, self.path.as_str(), &mut self.file, known) {
+        match load_file(&self.rt, &self.name, &mut self.file, known) {
             Ok(entries) => {
                 self.torn = None;
-                say_loaded(&self.rt, self.path.as_str(), entries.len());
+                say_loaded(&self.rt, &self.name, entries.len());
                 Ok(entries)
             }
             Err(cause) => {
-                say_unloaded(&self.rt, self.path.as_str(), &mut self.file, cause);
+                say_unloaded(&self.rt, &self.name, &mut self.file, cause);
                 Err(count(&mut self.faults, keep_fault(&cause)))
             }
         }
@@ -243,10 +243,9 @@ impl<R: Files + AllocGlobal + Clock + Eprint + Copy + Drop> Keeper for FileKeepe
         // What is answered Ok was written.
         ensures written { OnOk result (AppendsBytes (R.File.contents (file_of self.old)) (R.File.contents (file_of self.new)) (bytes_of_entry e.now)) }
     {
-        let path = self.path.as_str();
         match put_entry(
             &self.rt,
-            path,
+            &self.name,
             &mut self.file,
             &mut self.torn,
             &self.doubt,

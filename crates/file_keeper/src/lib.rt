@@ -1,7 +1,8 @@
-//! The journal of a newsroom's server in a file: messages one after another, each of which is an entry in its canonical
-//! encoding.
+//! A journal in a file, of a newsroom's server or of a device's gateway: messages one after another, each of which is an entry
+//! in its canonical encoding.
 //!
-//! On standard error it says, a line each, with the time in front, and `<4>` before that where it warns:
+//! On standard error it says, a line each, with the time in front, and `<4>` before that where it warns, and with the name of
+//! the setting in which the file stands, `log` of a server or `store` of a gateway:
 //!
 //! ```text
 //! log evening.journal: 1234 entries

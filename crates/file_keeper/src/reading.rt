@@ -5,6 +5,7 @@ ghost use Rattle.file_keeper.specs.Reading.{AreRead, HasCome, IsWhole, Steps, co
 
 use crate::cause::{Cause, journal_cause};
 use crate::file::{MOST, length_of};
+use crate::lines::Name;
 use crate::tail::cut_off;
 use crate::zeros::content_of;
 use journal_bytes::JournalReader;
@@ -100,14 +101,14 @@ fn read_all<F: Read>(
 /// the file to the disk.
 fn settle<R: Files + AllocGlobal + Clock + Eprint>(
     rt: &R,
-    path: &str,
+    name: &Name,
     file: &mut R::File,
     whole: u64,
     read: u64,
     size: u64,
 ) -> Result<(), Cause> {
     if whole < size {
-        cut_off(rt, path, file, whole, read, size)?;
+        cut_off(rt, name, file, whole, read, size)?;
     }
     Ok(file.sync_data()?)
 }
@@ -116,7 +117,7 @@ fn settle<R: Files + AllocGlobal + Clock + Eprint>(
 /// whole message.
 fn read_file<R: Files + AllocGlobal + Clock + Eprint>(
     rt: &R,
-    path: &str,
+    name: &Name,
     file: &mut R::File,
     reader: &mut JournalReader,
 ) -> Result<(), Cause>
@@ -129,7 +130,7 @@ fn read_file<R: Files + AllocGlobal + Clock + Eprint>(
     file.seek(SeekFrom::Start(0))?;
     let read = read_all(&mut file.by_ref().take(content), &mut piece, reader)?;
     let whole = read.saturating_sub(reader.rest() as u64);
-    settle(rt, path, file, whole, read, size)
+    settle(rt, name, file, whole, read, size)
 }
 
 /// The entries behind the first so many. None where there are fewer.
@@ -151,14 +152,14 @@ fn behind(entries: Entries, known: usize) -> Option<Entries>
 /// whole message is saved beside the file and cut off, and what is left is on the disk.
 pub(crate) fn load_file<R: Files + AllocGlobal + Clock + Eprint>(
     rt: &R,
-    path: &str,
+    name: &Name,
     file: &mut R::File,
     known: usize,
 ) -> Result<Entries, Cause>
     ensures { IfOk result (λ entries. AreRead known entries) }
 {
     let mut reader = JournalReader::new(rt.alloc());
-    let read = read_file(rt, path, file, &mut reader);
+    let read = read_file(rt, name, file, &mut reader);
     let entries = reader.into_entries();
     match read {
         Ok(()) => match behind(entries, known) {

@@ -3,7 +3,7 @@ ghost use Rattle.std.specs.Prelude.{◌↔◌, IsTrue};
 ghost use Rattle.file_keeper.specs.Tails.{BeginsWithEnd, HoldsEnd};
 
 use crate::cause::Cause;
-use crate::lines::say_cut;
+use crate::lines::{Name, say_cut};
 use saved_ends::save_end;
 use std::alloc::Global;
 use std::fs::OpenFile;
@@ -51,7 +51,7 @@ fn part_of<F: Read + Seek>(alloc: Global, file: &mut F, from: u64, to: u64) -> i
 /// it can't be saved.
 pub(crate) fn cut_off<R: Files + AllocGlobal + Clock + Eprint>(
     rt: &R,
-    path: &str,
+    name: &Name,
     file: &mut R::File,
     whole: u64,
     read: u64,
@@ -62,8 +62,8 @@ pub(crate) fn cut_off<R: Files + AllocGlobal + Clock + Eprint>(
         return Err(Cause::Broken { at: whole });
     }
     let count = size.saturating_sub(whole);
-    let number = save_end(rt, path, &bytes, count)?;
+    let number = save_end(rt, name.path(), &bytes, count)?;
     file.set_len(whole)?;
-    say_cut(rt, path, whole, count, bytes.is_empty(), number);
+    say_cut(rt, name, whole, count, bytes.is_empty(), number);
     Ok(())
 }

@@ -3,9 +3,11 @@
 
 mod checking;
 mod objects;
+mod outside;
 mod ports;
 mod running;
 mod settings;
+mod store;
 mod texts;
 
 pub use checking::check_gateway;

@@ -13,6 +13,8 @@ FILE is TOML:
   mos_id        the gateway's ID; required
   ncs_id        the newsroom system's ID; required
   host          where its server is found, a name or an address; required
+  store         the path of the file in which it keeps its orders, which is made
+                where there is none; required
   upper         the port for running orders, 10541 unless given
   lower         the port for objects, 10540 unless given
   listen        the address that these two ports listen at, in numbers:
@@ -30,7 +32,11 @@ Other keys are named on standard error, and not used.
 No port asks for a password: whoever reaches one can speak as the server. Listen
 where only those connect who may.
 
-It dials the server's two ports.
+It dials the server's two ports. What it holds is in its store before it answers
+OK: started again, it has its orders, and its deck their playlists, before the
+server is there. Once an edit can't be kept, which is answered STORE FAULT, it
+holds what it held, is out of step, and answers STOPPED, until it is started
+again.
 On standard output it writes a line for each call of its deck, in UTF-8, and
 flushes it:
   load RO ITEM=OBJ ..  the playlist of the order RO is now this: its items whose
@@ -47,12 +53,16 @@ and at last how it ended itself, with the file, the line and the cause.
 The program ends with
   0  no further connection can come; with --check, all is well
   1  Usage: the words aren't one file, or --check and one file
-  2  NoFile, NoPort: the settings' file, the objects' file or a port can't be
-     opened or read
+  2  NoFile, NoPort: the settings' file, the objects' file, the store or a port
+     can't be opened or read, or another gateway has the store
   3  the settings are refused: NotToml, or the first key that is Missing or has
      a BadValue
   4  ListenFault: a port failed
   5  NoWorker: a thread couldn't be started
+  6  StoreFault: the store can't be read or is damaged; nothing of it was
+     changed; a line before this one says why
+  7  BadEntry: this entry of the store, counted from 0, doesn't follow from
+     those before it
   8  NoMemory: there was no memory
   9  the objects are refused: Refused, at this code unit of the stream, counted
      from 0; NotObject, this message isn't a mosObj; Full, there are too many

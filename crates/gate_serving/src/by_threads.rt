@@ -1,17 +1,18 @@
 //! The serving call of a gateway, with a thread for each worker.
 ghost use Rattle.std.specs.Prelude.{◌≡◌, ◌<◌, ◌^◌, length, IfOk};
 ghost use Rattle.thread_doors.specs.Listening.{CountsRise, gate_listening};
-ghost use Rattle.serve_ends.specs.Ends.{IsCaused, IsGateEnd};
+ghost use Rattle.serve_ends.specs.Ends.{IsCaused, IsNotStarted};
+ghost use Rattle.gate_serving.specs.Starting.{IsGateStarted};
 
 use crate::beginning::{Begun, prepared};
-use deck_nodes::GateNode;
+use crate::starting::start_node;
 use deck_rack::{Deck, Rack};
 use end_settings::GateSettings;
-use gateway_core::Gate;
 use mos_fields::{NoMemory, pair_ok};
 use mos_io::{Clock, Pacer};
 use object_table::ObjectTable;
 use port_links::{Dialer, Listener};
+use rundown_log::Keeper;
 use serve_ends::ServeEnd;
 use std::alloc::Global;
 use std::sync::Wait;
@@ -29,21 +30,36 @@ fn rack_of<De: Deck>(settings: &GateSettings, decks: Vec<De>) -> Result<Rack<De>
     Ok(Rack::new(decks, mos))
 }
 
-/// Serves as the gateway of these settings, with these objects and these decks, fewer than 2^32: at two doors side by side, with
-/// two workers that dial the server, and a thread for each worker.
+// What comes back where the gateway isn't started: nothing happened at the listeners.
+fn unstarted<K: Keeper + Drop, L: Listener>(
+    end: ServeEnd<K>,
+    listeners: GateListeners<L>,
+) -> (ServeEnd<K>, GateListeners<L>)
+    requires { IsNotStarted end }
+    ensures end { result.0 ≡ end }
+    ensures caused { IsCaused (gate_listening L.coming L.faults) listeners result.1 result.0 }
+    ensures rises { CountsRise (gate_listening L.coming L.faults listeners) (gate_listening L.coming L.faults result.1) }
+{
+    (end, listeners)
+}
+
+/// Serves as the gateway of these settings, with the orders that this keeper keeps, with these objects and these decks, fewer than
+/// 2^32: at two doors side by side, with two workers that dial the server, and a thread for each worker.
 ///
-/// The decks go with the machine, and are called in its steps as `deck_nodes::GateNode` says. They play the items whose mosID is
-/// the gateway's own.
+/// The keeper's entries are loaded first, and the decks with the playlists of the orders that these make; the decks go with the
+/// machine from then on, and are called in its steps as `deck_nodes::GateNode` says. They play the items whose mosID is the
+/// gateway's own.
 ///
 /// The call waits, and returns when each door's loop has ended; it doesn't wait for the workers. The listeners come back as it
 /// leaves them.
 ///
 /// # Ends
-/// `Closed` where each listener said that none comes; `ListenFault` only where a listener's count of faults rose; `NoWorker`
-/// only where `refused` rose, the count of the workers for which no thread could be made; `NoMemory` where memory runs out. No
-/// count falls. A gateway keeps no journal, so no other end comes.
-#[tactic(auto, using(serve_ends::proofs::Doors::counts_stay))]
+/// `StoreFault` only where the keeper failed and counted that, and `BadEntry` exactly at the first entry that doesn't apply to what
+/// those before it made; the keeper comes back with both, and nothing happened at the listeners. `Closed` where each listener said
+/// that none comes; `ListenFault` only where a listener's count of faults rose; `NoWorker` only where `refused` rose, the count of
+/// the workers for which no thread could be made; `NoMemory` where memory runs out. No count falls.
 pub fn gate_serve_by_threads<
+    K: Keeper + Drop + Send + 'static,
     De: Deck + Send + 'static,
     L: Listener + Send,
     Di: Dialer + Send + 'static,
@@ -54,33 +70,38 @@ pub fn gate_serve_by_threads<
     rt: &R,
     alloc: Global,
     settings: &GateSettings,
+    keeper: K,
     objects: ObjectTable,
     decks: Vec<De>,
     listeners: GateListeners<L>,
     dialer: Di,
     pacer: P,
     clock: C,
-) -> (ServeEnd<()>, GateListeners<L>)
+) -> (ServeEnd<K>, GateListeners<L>)
 where
     L::S: Send + 'static,
     L::K: Send + 'static,
     Di::S: Send + 'static,
     Di::K: Send + 'static,
     requires { length decks.items < 2 ^ 32 }
-    ensures gate { IsGateEnd result.0 }
+    ensures started { IsGateStarted K.kept K.faults keeper result.0 }
     ensures caused { IsCaused (gate_listening L.coming L.faults) listeners result.1 result.0 }
     ensures rises { CountsRise (gate_listening L.coming L.faults listeners) (gate_listening L.coming L.faults result.1) }
 {
     let Ok((rack, begun)) = pair_ok(rack_of(settings, decks), prepared(alloc, settings)) else {
-        return (ServeEnd::NoMemory, listeners);
+        return unstarted(ServeEnd::NoMemory, listeners);
     };
+    let mut rack = rack;
     let Begun {
         mos,
         ncs,
         peer,
         info,
     } = begun;
-    let node = GateNode::new(alloc, Gate::new(alloc), &rack, objects, info);
+    let node = match start_node(alloc, keeper, &mut rack, objects, info) {
+        Ok(node) => node,
+        Err(end) => return unstarted(end, listeners),
+    };
     let ended = serve_gate_by_threads(
         rt,
         alloc,

@@ -1,14 +1,14 @@
 -- What the gateway sends next.
-use Rattle.std.proofs.Common.{◌≡◌, ◌⊎◌, inl, inr, ℕ, Bool, true, false, List, [], ◌∷◌, Option, Some, None, IsSome, refl, sym, ap, ◌∙◌, subst, if◌then◌else◌}
+use Rattle.std.proofs.Common.{◌≡◌, ℕ, Bool, true, false, List, [], ◌∷◌, Option, Some, None, IsSome, refl, sym, ap, ◌∙◌, subst, if◌then◌else◌, ◌&&◌, not}
 use Rattle.mos_fields.specs.declared.time.MosTime.{MosTime}
-use Rattle.mos_edits.specs.Texts.{Text, same_id, set_order}
+use Rattle.mos_edits.specs.Texts.{Text, same_id}
 use Rattle.mos_edits.proofs.Identifiers.{same-self}
 use Rattle.mos_machines.specs.Messages.{Message, is_link}
 use Rattle.mos_machines.specs.Messages.Message.{Heartbeat}
-use Rattle.mos_machines.specs.Device.{GateState, GateOut, Confirmation, asked_next, next_if, gate_next, first_wanted}
+use Rattle.mos_machines.specs.Device.{GateState, GateOut, Confirmation, asked_next, next_if, gate_next, first_wanted, unless_stopped}
 use Rattle.mos_machines.specs.Device.GateOut.{NotAsking, AsksFor, AsksAll, AsksBeat}
 use Rattle.mos_machines.specs.Device.Confirmation.{NotDue, Due, Unanswered}
-use Rattle.mos_machines.specs.Steps.{device_step, DeviceEvent, asked_on, gate_sent}
+use Rattle.mos_machines.specs.Steps.{device_step, asked_on, gate_sent}
 use Rattle.mos_machines.specs.Steps.DeviceEvent.{NextAsk}
 use Rattle.mos_machines.specs.Tables.{look, row_ids, KnownOrder, unknown_order, GateTables, gate_of}
 use Rattle.machine_answers.specs.Answers.{asked_of}
@@ -69,22 +69,33 @@ next-busy now g (Some b) AsksBeat n = refl
 
 module _ (g : GateState) (c : ℕ) (now : MosTime) where
   -- what is answered, and the state after it, by what is asked on the connection
-  asks-so : (x : GateState × Option Message) → asked_on (is_link g.link c) g (gate_next now g) ≡ x → (asked_of (device_step g (NextAsk c now)).0 ≡ sent_of x.1) × ((device_step g (NextAsk c now)).1 ≡ x.0)
+  asks-so : (x : GateState × Option Message) → asked_on (is_link g.link c) g (gate_next now g) ≡ x → (asked_of (device_step false g (NextAsk c now)).0 ≡ sent_of x.1) × ((device_step false g (NextAsk c now)).1 ≡ x.0)
   asks-so x e =
       (ap (λ (y : GateState × Option Message). asked_of (gate_sent y).0) e ∙ sent-by x, ap (λ (y : GateState × Option Message). (gate_sent y).1) e ∙ state-by x)
 
-  pub asked-current : is_link g.link c ≡ true → g.out ≡ NotAsking → (asked_of (device_step g (NextAsk c now)).0 ≡ sent_of (asks_next now g).1) × ((device_step g (NextAsk c now)).1 ≡ (asks_next now g).0)
+  pub asked-current : is_link g.link c ≡ true → g.out ≡ NotAsking → (asked_of (device_step false g (NextAsk c now)).0 ≡ sent_of (asks_next now g).1) × ((device_step false g (NextAsk c now)).1 ≡ (asks_next now g).0)
   asked-current e f = asks-so (asks_next now g) (ap (λ (b : Bool). asked_on b g (gate_next now g)) e ∙ next-open now g g.link c g.out e f)
 
-  pub asked-busy : (g.out ≡ NotAsking → ⊥) → (asked_of (device_step g (NextAsk c now)).0 ≡ sent_of None) × ((device_step g (NextAsk c now)).1 ≡ g)
+  pub asked-busy : (g.out ≡ NotAsking → ⊥) → (asked_of (device_step false g (NextAsk c now)).0 ≡ sent_of None) × ((device_step false g (NextAsk c now)).1 ≡ g)
   asked-busy f = asks-so (g, None) (ap (λ (x : GateState × Option Message). asked_on (is_link g.link c) g x) (next-busy now g g.link g.out f) ∙ same (is_link g.link c))
     where
       same : (b : Bool) → asked_on b g (g, None) ≡ (g, None)
       same true = refl
       same false = refl
 
-  pub asked-elsewhere : is_link g.link c ≡ false → (asked_of (device_step g (NextAsk c now)).0 ≡ sent_of None) × ((device_step g (NextAsk c now)).1 ≡ g)
+  pub asked-elsewhere : is_link g.link c ≡ false → (asked_of (device_step false g (NextAsk c now)).0 ≡ sent_of None) × ((device_step false g (NextAsk c now)).1 ≡ g)
   asked-elsewhere e = asks-so (g, None) (ap (λ (b : Bool). asked_on b g (gate_next now g)) e)
+
+-- a gateway that is stopped asks for no order
+stopped-next : (now : MosTime) (g : GateState) (c : Confirmation) (all : Bool) (r : Option Text) (note : Bool) (s : Bool) → s ≡ true → is_due c ≡ false → asked_next now g c (all && not s) (unless_stopped s r) note ≡ ask_wanted now g None note
+stopped-next now g c all r note false s e = absurd (cc)
+stopped-next now g c true r true true s e = rest-of now g c false None true e
+stopped-next now g c true r false true s e = rest-of now g c false None false e
+stopped-next now g c false r true true s e = rest-of now g c false None true e
+stopped-next now g c false r false true s e = rest-of now g c false None false e
+
+pub rest-stopped : (now : MosTime) (g : GateTables) → g.stopped ≡ true → is_due g.confirm ≡ false → ask_wanted now (gate_of g) None g.note ≡ asks_next now (gate_of g)
+rest-stopped now g s e = sym (stopped-next now (gate_of g) g.confirm g.want_all (first_wanted (gate_of g).wanted (gate_of g).known) g.note g.stopped s e)
 
 -- the first wanted order of the state is that of the rows
 AreLooked : (Text → Bool) → List (Text × KnownOrder) → Type 0
@@ -125,7 +136,13 @@ first-there (x ∷ xs) r e = by x.1.wanted e (first-there xs r)
         subst (λ (b : Bool). IsSome (if b then Some x.1 else find_row r xs)) (sym (subst (λ (z : Text). same_id z x.0 ≡ true) s (same-self x.0))) refl
     by false h i = found (same_id r x.0) (i h)
 
-pub rest-next : (now : MosTime) (g : GateTables) → IsAscending (row_ids g.orders) → is_due g.confirm ≡ false → ask_rest now (gate_of g) g.want_all (first_wanted_row g.orders) g.note ≡ asks_next now (gate_of g)
-rest-next now g a e =
+running-next : (now : MosTime) (g : GateState) (c : Confirmation) (all : Bool) (r : Option Text) (note : Bool) (s : Bool) → s ≡ false → asked_next now g c (all && not s) (unless_stopped s r) note ≡ asked_next now g c all r note
+running-next now g c all r note true s = absurd (cc)
+running-next now g c true r note false s = refl
+running-next now g c false r note false s = refl
+
+pub rest-next : (now : MosTime) (g : GateTables) → g.stopped ≡ false → IsAscending (row_ids g.orders) → is_due g.confirm ≡ false → ask_rest now (gate_of g) g.want_all (first_wanted_row g.orders) g.note ≡ asks_next now (gate_of g)
+rest-next now g s a e =
     ap (λ (o : Option Text). ask_rest now (gate_of g) g.want_all o g.note) (sym (first-rows g.orders a))
-    ∙ sym (next-rest now (gate_of g) g.confirm g.want_all (first_wanted (gate_of g).wanted (gate_of g).known) g.note e)
+    ∙ (sym (next-rest now (gate_of g) g.confirm g.want_all (first_wanted (gate_of g).wanted (gate_of g).known) g.note e)
+    ∙ sym (running-next now (gate_of g) g.confirm g.want_all (first_wanted (gate_of g).wanted (gate_of g).known) g.note g.stopped s))

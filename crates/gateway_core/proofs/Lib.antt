@@ -1,6 +1,9 @@
 pub mod TableSteps
 pub mod AskSteps
-pub mod ReadSteps
-pub mod UpperSteps
 pub mod StatusTexts
 pub mod ListSteps
+pub mod HeldRows
+pub mod ReadSteps
+pub mod UpperSteps
+pub mod GotSteps
+pub mod StartSteps

@@ -1,16 +1,16 @@
 -- The list of all orders, on the rows of a gateway's table.
-use Rattle.std.proofs.Common.{◌≡◌, ℕ, Bool, true, false, List, [], ◌∷◌, ◌++◌, Option, Some, None, IsSome, refl, sym, ap, ◌∙◌, subst, if◌then◌else◌, ◌||◌, ◌&&◌, not}
+use Rattle.std.proofs.Common.{◌≡◌, Bool, true, false, List, [], ◌∷◌, ◌++◌, Option, Some, None, IsSome, refl, sym, ap, ◌∙◌, subst, if◌then◌else◌, ◌||◌, ◌&&◌, not}
 use Rattle.mos_edits.specs.Texts.{Text, same_id, set_order}
-use Rattle.mos_edits.proofs.Identifiers.{same-true, same-self}
+use Rattle.mos_edits.proofs.Identifiers.{same-true}
 use Rattle.mos_edits.specs.Entries.{insert_id, is_before}
-use Rattle.mos_edits.specs.Orders.{Order, HeaderPatch}
-use Rattle.mos_machines.specs.Device.{GateState, Phase, is_in, wants_out, is_known, all_known, ros}
+use Rattle.mos_edits.specs.Orders.{HeaderPatch}
+use Rattle.mos_machines.specs.Device.{Phase, is_in, wants_out, is_known, all_known, ros}
 use Rattle.mos_machines.specs.Device.Phase.{InStep, OutOfStep, Asked, Crossed}
 use Rattle.mos_machines.specs.Device.GateOut.{NotAsking}
 use Rattle.mos_machines.specs.Tables.{look, put_row, row_ids, map_rows, KnownOrder, unknown_order, GateTables, gate_of}
 use Rattle.mos_machines.proofs.RowTables.{look-put, ids-put, ids-map}
-use Rattle.order_table.specs.Rows.{IsAscending, find_row, value_or, put_rows}
-use Rattle.order_table.proofs.Looked.{look-found, find-put, find-kept, find-map, ids-there}
+use Rattle.order_table.specs.Rows.{IsAscending, find_row, put_rows}
+use Rattle.order_table.proofs.Looked.{find-kept, find-map, ids-there}
 use Rattle.order_table.proofs.AscendingRows.{put-ascending, map-ascending, put-all-ascending}
 use Rattle.gateway_core.specs.Parts.{wanting_out}
 use Rattle.gateway_core.specs.Lists.{missing_one, missing_rows, listed_order, want_listed, listed_rows, AreKnown}
@@ -208,4 +208,11 @@ module _ (g : GateTables) (hs : List HeaderPatch) (a : IsAscending (row_ids g.or
     held = λ q. (listed-look q i).held;
     phase = λ q. (listed-look q i).phase;
     wanted = λ q. (listed-look q i).wanted;
+    stopped = g.stopped;
+    faults = g.faults;
+    kept = g.kept;
   }
+
+  -- what is held stays
+  pub listed-held : (q : Text) → (look unknown_order (listed_rows hs g.orders) q).held ≡ (look unknown_order g.orders q).held
+  listed-held q = ap (λ (k : KnownOrder). k.held) (listed-look q)

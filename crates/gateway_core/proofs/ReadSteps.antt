@@ -1,89 +1,195 @@
 -- Edits that are read, and what they leave.
-use Rattle.std.proofs.Common.{◌≡◌, Bool, true, false, List, [], ◌∷◌, Option, Some, None, IsSome, Result, Ok, Err, IfErr, OnOk, OnErr, refl, sym, ap, ◌∙◌, subst, if◌then◌else◌}
-use Rattle.mos_edits.specs.Texts.{Text, has_id}
+use Rattle.std.proofs.Common.{◌≡◌, Bool, true, false, List, Option, Some, None, Result, Ok, refl, sym, ap, ◌∙◌, subst, if◌then◌else◌}
+use Rattle.mos_edits.specs.Texts.{Text}
 use Rattle.mos_edits.specs.KeyedLists.{Applied, ActFault as EditFault}
 use Rattle.mos_edits.specs.KeyedLists.Applied.{Done, Fault}
-use Rattle.mos_edits.specs.Actions.{act}
-use Rattle.mos_edits.specs.Orders.{Order, HeaderPatch, Header, Story, StorySend, apply, patched, shape, form_of, taken_out, with_script, with_stories}
+use Rattle.mos_edits.specs.Orders.{Order, apply}
 use Rattle.mos_edits.specs.declared.edit.Edit.{Edit}
-use Rattle.mos_edits.specs.Entries.{kind, Entry}
-use Rattle.mos_edits.specs.declared.edit.Edit.TheVariants.{Metadata, Act, Air, Script, Create, Replace, Delete}
-use Rattle.mos_values.specs.Distinct.{story_ids}
-use Rattle.order_table.specs.Rows.{without_rows}
-use Rattle.mos_values.specs.declared.action.Action.{Action}
+use Rattle.mos_edits.specs.declared.edit.Edit.TheVariants as edits
+use Rattle.mos_edits.specs.Entries.{Kind, kind, Entry}
+use Rattle.mos_edits.specs.Entries.Kind.{IsWhole, IsAction, IsReady, IsNotReady}
+use Rattle.mos_edits.specs.Kept.{kept_after}
 use Rattle.mos_fields.specs.declared.air.Air.TheVariants.{Ready, NotReady}
 use Rattle.mos_machines.specs.Messages.{Status}
-use Rattle.mos_machines.specs.Device.{Phase, Decks, read_by, read_applied}
-use Rattle.mos_machines.specs.Device.Phase.{InStep, OutOfStep, Asked, Crossed}
-use Rattle.mos_machines.specs.Tables.{KnownOrder}
+use Rattle.mos_machines.specs.Device.{Append, Decks, ReadResult, read_applied, read_edit, read_kept, ready_status, unkept}
+use Rattle.mos_machines.specs.Device.Append.{NotAppended, Appended, AppendFailed}
+use Rattle.mos_machines.specs.Device.Phase.{InStep, OutOfStep}
+use Rattle.mos_machines.specs.Tables.{look, put_row, KnownOrder, unknown_order}
 use Rattle.mos_values.specs.declared.ro_ack.RoAck.{RoAck}
-use Rattle.std.specs.declared.alloc.AllocError.{AllocError}
+use Rattle.element_action.specs.Answers.{IsCause}
 use Rattle.element_action.specs.declared.fault.ActFault.{ActFault}
 use Rattle.element_action.specs.declared.fault.ActFault.TheVariants.{Missing, AlreadyThere, NoMemory}
-use Rattle.element_action.specs.Answers.{IsCause}
-use Rattle.gateway_core.specs.declared.edits.Change.{Change}
-use Rattle.gateway_core.specs.declared.edits.Change.TheVariants as changes
-use Rattle.gateway_core.specs.Reads.{edit_of, entry_at, IsTold, known_result, acked, IsRefused}
+use Rattle.machine_answers.specs.declared.status.Status.{Status as Answer}
+use Rattle.machine_answers.specs.Answers.{status_of}
+use Rattle.keeping_laws.proofs.Keepable.{IsKeptBy, read-keeps}
+use Rattle.rundown_log.specs.declared.keeper.KeepFault.{KeepFault}
+use Rattle.entry_store.specs.Stores.{StoreTables}
+use Rattle.gateway_core.specs.declared.edits.EditKind.TheVariants as kinds
+use Rattle.gateway_core.specs.declared.known.Phase.{Phase as KnownPhase}
+use Rattle.gateway_core.specs.declared.known.Phase.TheVariants.{Out}
+use Rattle.gateway_core.specs.declared.planning.Reading.TheVariants.{Told, Keeps}
+use Rattle.gateway_core.specs.Events.{IsWritten, ro_ack, write_by}
+use Rattle.gateway_core.specs.Parts.{phase_of}
+use Rattle.gateway_core.specs.Reads.{held_known, kind_of, put_result, put_there, result_by, rows_result, IsEditRead, IsHeldStep, IsKeptRead, IsRefusal}
+use Rattle.gateway_core.specs.State.{HoldEntries}
+use Rattle.gateway_core.proofs.HeldRows.{holds-put, holds-step, holds-there}
 
--- what each change is, of an order that is there
-pub apply-header : (r : Text) (o : Order) (p : HeaderPatch) → apply r (Some o) (Metadata p) ≡ Done (Some (record o { header = patched p o.header }))
+-- ---- kinds
+
+pub kind-whole : (e : Edit) → kind_of e ≡ kinds.Whole → kind e ≡ IsWhole
+kind-whole (edits.Create b) s = refl
+kind-whole (edits.Replace b) s = refl
+kind-whole (edits.Delete r) s = refl
+kind-whole (edits.Air r Ready) s = absurd (cc)
+kind-whole (edits.Air r NotReady) s = absurd (cc)
+kind-whole (edits.Metadata p) s = absurd (cc)
+kind-whole (edits.Act r a) s = absurd (cc)
+kind-whole (edits.Script x) s = absurd (cc)
+
+pub kind-unready : (e : Edit) → kind_of e ≡ kinds.Unready → kind e ≡ IsNotReady
+kind-unready (edits.Create b) s = absurd (cc)
+kind-unready (edits.Replace b) s = absurd (cc)
+kind-unready (edits.Delete r) s = absurd (cc)
+kind-unready (edits.Air r Ready) s = absurd (cc)
+kind-unready (edits.Air r NotReady) s = refl
+kind-unready (edits.Metadata p) s = absurd (cc)
+kind-unready (edits.Act r a) s = absurd (cc)
+kind-unready (edits.Script x) s = absurd (cc)
+
+pub kind-release : (e : Edit) → kind_of e ≡ kinds.Release → kind e ≡ IsReady
+kind-release (edits.Create b) s = absurd (cc)
+kind-release (edits.Replace b) s = absurd (cc)
+kind-release (edits.Delete r) s = absurd (cc)
+kind-release (edits.Air r Ready) s = refl
+kind-release (edits.Air r NotReady) s = absurd (cc)
+kind-release (edits.Metadata p) s = absurd (cc)
+kind-release (edits.Act r a) s = absurd (cc)
+kind-release (edits.Script x) s = absurd (cc)
+
+pub kind-change : (e : Edit) → kind_of e ≡ kinds.Change → kind e ≡ IsAction
+kind-change (edits.Create b) s = absurd (cc)
+kind-change (edits.Replace b) s = absurd (cc)
+kind-change (edits.Delete r) s = absurd (cc)
+kind-change (edits.Air r Ready) s = absurd (cc)
+kind-change (edits.Air r NotReady) s = absurd (cc)
+kind-change (edits.Metadata p) s = refl
+kind-change (edits.Act r a) s = refl
+kind-change (edits.Script x) s = refl
+
+-- what READY makes of an order that is there, and of none
+pub release-there : (r : Text) (o : Order) (e : Edit) → kind_of e ≡ kinds.Release → apply r (Some o) e ≡ Done (Some o)
 unfolding apply
-apply-header r o p = refl
+release-there r o (edits.Create b) s = absurd (cc)
+release-there r o (edits.Replace b) s = absurd (cc)
+release-there r o (edits.Delete q) s = absurd (cc)
+release-there r o (edits.Air q Ready) s = refl
+release-there r o (edits.Air q NotReady) s = absurd (cc)
+release-there r o (edits.Metadata p) s = absurd (cc)
+release-there r o (edits.Act q a) s = absurd (cc)
+release-there r o (edits.Script x) s = absurd (cc)
 
-pub apply-act : (r ro : Text) (o : Order) (a : Action) → apply r (Some o) (Act ro a) ≡ with_stories o.header (without_rows (taken_out (form_of a)) o.scripts) (act shape (form_of a) o.stories)
+pub release-missing : (r : Text) (e : Edit) → kind_of e ≡ kinds.Release → apply r None e ≡ Fault (EditFault.Missing r)
 unfolding apply
-apply-act r ro o a = refl
+release-missing r (edits.Create b) s = absurd (cc)
+release-missing r (edits.Replace b) s = absurd (cc)
+release-missing r (edits.Delete q) s = absurd (cc)
+release-missing r (edits.Air q Ready) s = refl
+release-missing r (edits.Air q NotReady) s = absurd (cc)
+release-missing r (edits.Metadata p) s = absurd (cc)
+release-missing r (edits.Act q a) s = absurd (cc)
+release-missing r (edits.Script x) s = absurd (cc)
 
-pub apply-script : (r : Text) (o : Order) (s : StorySend) → apply r (Some o) (Script s) ≡ with_script o s (has_id s.story (story_ids o.stories))
-unfolding apply
-apply-script r o s = refl
+-- ---- changes in step
 
-pub apply-ready : (r ro : Text) (o : Order) → apply r (Some o) (Air ro Ready) ≡ Done (Some o)
-unfolding apply
-apply-ready r ro o = refl
+-- what one that has a fault leaves
+abbrev faulty : Option Order → Status → ReadResult
+faulty held t = record { held = held; phase = OutOfStep; wanted = true; knows = true; append = NotAppended; status = t }
 
-pub apply-none : (r : Text) (c : Change) → apply r None (edit_of r c) ≡ Fault (EditFault.Missing r)
-unfolding apply
-apply-none r (changes.Header p) = refl
-apply-none r (changes.Action a) = refl
-apply-none r (changes.Script s) = refl
-apply-none r changes.Release = refl
+-- one that has a fault
+pub plan-fault : (held : Option Order) (w : Bool) (decks : Decks) (r : Text) (c : Edit) (f : ActFault) (s : Answer) → kind_of c ≡ kinds.Change → IsCause true (apply r held c) f → IsRefusal f (Ok s)
+    → result_by held w (Told Out true true s) ≡ read_applied (kind c) decks held w (apply r held c)
+plan-fault held w decks r c f s k e q = by f e q
+  where
+    so : (g : EditFault) → apply r held c ≡ Fault g → read_applied (kind c) decks held w (apply r held c) ≡ faulty held (Status.Faulty g)
+    so g e = ap (λ (x : Kind). read_applied x decks held w (apply r held c)) (kind-change c k) ∙ ap (λ (d : Applied (Option Order)). read_applied IsAction decks held w d) e
 
-pub if-err : {X Y : Type 0} (r : Result X Y) (P Q : Y → Type 0) → ((f : Y) → P f → Q f) → IfErr r P → IfErr r Q
-if-err (Ok x) P Q f h = h
-if-err (Err y) P Q f h = f y h
+    by : (f : ActFault) → IsCause true (apply r held c) f → IsRefusal f (Ok s) → faulty held (status_of s) ≡ read_applied (kind c) decks held w (apply r held c)
+    by (Missing id) e q = ap (faulty held) q ∙ sym (so (EditFault.Missing id) e)
+    by (AlreadyThere id) e q = ap (faulty held) q ∙ sym (so (EditFault.AlreadyThere id) e)
+    by NoMemory e q = absurd q
 
--- the fault of an action is that of the edit
-pub told : (b : Bool) (h : Header) (rows : List (Text × StorySend)) (d : Applied (List Story)) (a : Applied (Option Order)) (f : ActFault) → a ≡ with_stories h rows d → IsCause b d f → IsTold a f
-told b h rows d a (Missing id) e c = e ∙ ap (with_stories h rows) c
-told b h rows d a (AlreadyThere id) e c = e ∙ ap (with_stories h rows) c
-told b h rows d a NoMemory e c = tt
+-- READY
+pub release-some : (held : Option Order) (o : Order) (w : Bool) (decks : Decks) (r : Text) (c : Edit) (s : Answer) → kind_of c ≡ kinds.Release → held ≡ Some o → status_of s ≡ ready_status decks
+    → record { held = held; phase = InStep; wanted = w; knows = true; append = NotAppended; status = status_of s } ≡ read_applied (kind c) decks held w (apply r held c)
+release-some held o w decks r c s k e t =
+    (λ i. record { held = e i; phase = InStep; wanted = w; knows = true; append = NotAppended; status = t i })
+    ∙ sym (ap (λ (x : Kind). read_applied x decks held w (apply r held c)) (kind-release c k) ∙ (ap (λ (h : Option Order). read_applied IsReady decks h w (apply r h c)) e ∙ ap (λ (d : Applied (Option Order)). read_applied IsReady decks (Some o) w d) (release-there r o c k)))
 
--- a change in step
-in-step-by : (c : Change) (p : Phase) (decks : Decks) (held : Option Order) (wanted : Bool) (ro : Text) (d : Applied (Option Order)) → p ≡ InStep
-    → read_by p (kind (edit_of ro c)) decks held wanted (edit_of ro c) d ≡ read_applied (kind (edit_of ro c)) decks held wanted d
-in-step-by (changes.Header x) InStep decks held wanted ro d e = refl
-in-step-by (changes.Action x) InStep decks held wanted ro d e = refl
-in-step-by (changes.Script x) InStep decks held wanted ro d e = refl
-in-step-by changes.Release InStep decks held wanted ro d e = refl
-in-step-by c OutOfStep decks held wanted ro d e = absurd (cc)
-in-step-by c Asked decks held wanted ro d e = absurd (cc)
-in-step-by c Crossed decks held wanted ro d e = absurd (cc)
+pub release-none : (held : Option Order) (w : Bool) (decks : Decks) (r : Text) (c : Edit) → kind_of c ≡ kinds.Release → held ≡ None
+    → record { held = held; phase = OutOfStep; wanted = true; knows = true; append = NotAppended; status = Status.Faulty (EditFault.Missing r) } ≡ read_applied (kind c) decks held w (apply r held c)
+release-none held w decks r c k e =
+    (λ i. record { held = e i; phase = OutOfStep; wanted = true; knows = true; append = NotAppended; status = Status.Faulty (EditFault.Missing r) })
+    ∙ sym (ap (λ (x : Kind). read_applied x decks held w (apply r held c)) (kind-release c k) ∙ (ap (λ (h : Option Order). read_applied IsReady decks h w (apply r h c)) e ∙ ap (λ (d : Applied (Option Order)). read_applied IsReady decks None w d) (release-missing r c k)))
 
-pub in-step : (k : KnownOrder) (decks : Decks) (ro : Text) (c : Change) → k.phase ≡ InStep → known_result k decks (entry_at ro c) ≡ read_applied (kind (edit_of ro c)) decks k.held k.wanted (apply ro k.held (edit_of ro c))
-in-step k decks ro c e = in-step-by c k.phase decks k.held k.wanted ro (apply ro k.held (edit_of ro c)) e
+-- ---- what a plan makes: from its result to the edit that was read
 
-fault-status : (c : Change) (ro : Text) (decks : Decks) (held : Option Order) (wanted : Bool) (f : EditFault) → (read_applied (kind (edit_of ro c)) decks held wanted (Fault f)).status ≡ Status.Faulty f
-fault-status (changes.Header x) ro decks held wanted f = refl
-fault-status (changes.Action x) ro decks held wanted f = refl
-fault-status (changes.Script x) ro decks held wanted f = refl
-fault-status changes.Release ro decks held wanted f = refl
+module _ {K : Type 0} (appended : K → Entry → Result (Unit {0}) KeepFault → K → Type 0) (s : StoreTables K) (old : List (Text × KnownOrder)) (decks : Decks) (e : Entry) where
+  abbrev known : KnownOrder
+  known = look unknown_order old e.ro
 
-refused-as : (k : KnownOrder) (decks : Decks) (ro : Text) (c : Change) (f : EditFault) → k.phase ≡ InStep → apply ro k.held (edit_of ro c) ≡ Fault f → (known_result k decks (entry_at ro c)).status ≡ Status.Faulty f
-refused-as k decks ro c f e t = ap (λ x. x.status) (in-step k decks ro c e) ∙ (ap (λ (d : Applied (Option Order)). (read_applied (kind (edit_of ro c)) decks k.held k.wanted d).status) t ∙ fault-status c ro decks k.held k.wanted f)
+  -- the order stays as it is held
+  pub told-read : (new : List (Text × KnownOrder)) (a : RoAck) (p : KnownPhase) (w knows : Bool) (status : Answer) → result_by known.held known.wanted (Told p w knows status) ≡ rows_result s.stopped false old decks e
+      → new ≡ (if knows then put_row e.ro (record known { phase = phase_of p; wanted = w }) old else put_there e.ro (record known { phase = phase_of p; wanted = w }) old) → a ≡ ro_ack e.ro (status_of status)
+      → IsEditRead appended s s old new decks e a
+  told-read new a p w knows status is n m = record {
+    fails = false;
+    answer = m ∙ ap (λ (x : ReadResult). ro_ack e.ro x.status) is;
+    rows = n ∙ ap (λ (x : ReadResult). put_result e.ro x old) is;
+    written = subst (λ (x : ReadResult). IsWritten appended s s (write_by x.append e)) is refl;
+    holds = λ h. subst (λ (rows : List (Text × KnownOrder)). HoldEntries s.entries rows) (sym n) (by knows h);
+  }
+    where
+      by : (b : Bool) → HoldEntries s.entries old → HoldEntries s.entries (if b then put_row e.ro (record known { phase = phase_of p; wanted = w }) old else put_there e.ro (record known { phase = phase_of p; wanted = w }) old)
+      by true h = holds-put e.ro (record known { phase = phase_of p; wanted = w }) s.entries old refl h
+      by false h = holds-there e.ro (record known { phase = phase_of p; wanted = w }) s.entries old refl h
 
--- the answer to a change that has a fault
-pub refused : (k : KnownOrder) (decks : Decks) (ro : Text) (c : Change) (f : ActFault) (a : RoAck) → k.phase ≡ InStep → IsTold (apply ro k.held (edit_of ro c)) f → IsRefused ro f (Ok a) → a ≡ acked ro (known_result k decks (entry_at ro c)).status
-refused k decks ro c (Missing id) a e t r = r ∙ ap (acked ro) (sym (refused-as k decks ro c (EditFault.Missing id) e t))
-refused k decks ro c (AlreadyThere id) a e t r = r ∙ ap (acked ro) (sym (refused-as k decks ro c (EditFault.AlreadyThere id) e t))
-refused k decks ro c NoMemory a e t r = absurd r
+  -- what a failed append leaves
+  abbrev failed : ReadResult
+  failed = record { held = known.held; phase = OutOfStep; wanted = false; knows = true; append = AppendFailed; status = Status.StoreFault }
+
+  fails-by : (stopped : Bool) (o : Option Order) (x : ReadResult) → stopped ≡ false → result_by known.held known.wanted (Keeps o) ≡ read_kept stopped false (kind e.edit) known.phase known.held known.wanted x
+      → read_kept stopped true (kind e.edit) known.phase known.held known.wanted x ≡ failed
+  fails-by true o x r is = absurd (cc)
+  fails-by false o x r is = ap (λ (a : Append). unkept known.held true x a) (by x.append refl)
+    where
+      by : (a : Append) → x.append ≡ a → x.append ≡ Appended
+      by Appended k = k
+      by NotAppended k = absurd (let z : Appended ≡ x.append = ap (λ (y : ReadResult). y.append) is in cc)
+      by AppendFailed k = absurd (let z : Appended ≡ x.append = ap (λ (y : ReadResult). y.append) is in cc)
+
+  -- the edit was to be kept
+  pub kept-read : (t : StoreTables K) (new : List (Text × KnownOrder)) (a : RoAck) (o : Option Order) → s.stopped ≡ false
+      → result_by known.held known.wanted (Keeps o) ≡ rows_result s.stopped false old decks e → IsKeptRead appended s t old new e o a → IsEditRead appended s t old new decks e a
+  kept-read t new a o r is k = by k.keeps k.answer k.step
+    where
+      m : o ≡ kept_after e.ro known.held e.edit
+      m = (subst (λ (x : ReadResult). IsKeptBy x.append e.ro known.held x.held e.edit) (sym is) (read-keeps e.ro known.held e.edit (kind e.edit) refl (apply e.ro known.held e.edit) refl s.stopped false known.phase decks known.wanted)).0
+
+      lost : rows_result s.stopped true old decks e ≡ failed
+      lost = fails-by s.stopped o (read_edit known.phase decks known.held known.wanted e) r is
+
+      by : (b : Bool) → a ≡ ro_ack e.ro (if b then Status.Okay else Status.StoreFault) → IsHeldStep appended s t old new e (held_known known o) b → IsEditRead appended s t old new decks e a
+      by true n x = record {
+        fails = false;
+        answer = n ∙ ap (λ (y : ReadResult). ro_ack e.ro y.status) is;
+        rows = x.0 ∙ ap (λ (y : ReadResult). put_result e.ro y old) is;
+        written = subst (λ (y : ReadResult). IsWritten appended s t (write_by y.append e)) is x.1;
+        holds = λ h. holds-step appended s t old new e (held_known known o) true x m h;
+      }
+      by false n x = record {
+        fails = true;
+        answer = n ∙ ap (λ (y : ReadResult). ro_ack e.ro y.status) (sym lost);
+        rows = x.0 ∙ ap (λ (y : ReadResult). put_result e.ro y old) (sym lost);
+        written = subst (λ (y : ReadResult). IsWritten appended s t (write_by y.append e)) (sym lost) x.1;
+        holds = λ h. holds-step appended s t old new e (held_known known o) false x m h;
+      }

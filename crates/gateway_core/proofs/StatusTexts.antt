@@ -5,7 +5,7 @@ use Rattle.mos_fields.specs.Characters.{are_allowed, units_of}
 use Rattle.mos_fields.proofs.OrderLemmas.{same_by_units}
 use Rattle.mos_edits.specs.Texts.{Text, same_id}
 use Rattle.mos_edits.proofs.Identifiers.{same-true}
-use Rattle.mos_machines.specs.Messages.{Status, status_text, read_status}
+use Rattle.mos_machines.specs.Messages.{Status}
 use Rattle.mos_machines.specs.Device.{is_no_order}
 use Rattle.gateway_core.specs.Gots.{says_no_order}
 

@@ -1,20 +1,22 @@
 -- The device's steps on the tables of a gateway.
 use Rattle.std.proofs.Common.{◌≡◌, ℕ, Bool, true, false, List, [], ◌∷◌, Option, Some, None, IsSome, Result, Ok, Err, OnOk, OnErr, IfOk, refl, sym, ap, ◌∙◌, subst, if◌then◌else◌, ◌||◌, ◌&&◌}
 use Rattle.mos_edits.specs.Texts.{Text, same_id, set_order}
-use Rattle.mos_edits.proofs.Identifiers.{same-true}
+use Rattle.mos_edits.proofs.Identifiers.{same-self, same-sym, same-true}
 use Rattle.mos_edits.specs.Entries.{insert_id, is_before}
 use Rattle.mos_edits.specs.Orders.{Order}
-use Rattle.mos_machines.specs.Device.{GateOut, Confirmation, GateState, Phase, is_for, is_confirmed, is_all, crossed, gate_accepted, gate_dropped, gate_with, ReadResult, gate_want, wanted_phase, wants_out, is_in, got_phase, got_order, got_refusal, is_known}
+use Rattle.mos_machines.specs.Device.{GateOut, Phase, is_for, is_all, gate_accepted, gate_dropped, gate_want, wanted_phase, wants_out, got_refusal, got_unkept, is_known}
 use Rattle.mos_machines.specs.Device.Phase.{InStep, OutOfStep}
-use Rattle.order_table.proofs.AscendingRows.{before-all, find-none}
+use Rattle.order_table.proofs.AscendingRows.{before-all, find-none, without-none}
 use Rattle.mos_machines.specs.Device.GateOut.{NotAsking, AsksFor, AsksAll, AsksBeat}
 use Rattle.mos_machines.specs.Device.Confirmation.{NotDue}
-use Rattle.mos_machines.specs.Tables.{look, put_row, row_ids, map_rows, KnownOrder, unknown_order, GateTables, gate_of, with_row, crossed_order, dropped_order}
-use Rattle.mos_machines.proofs.RowTables.{look-put, look-map, ids-put, ids-map, gate-put, gate-accepted, gate-dropped, has_row}
-use Rattle.order_table.specs.Rows.{IsAscending, find_row, value_or}
+use Rattle.mos_machines.specs.Tables.{look, put_row, row_ids, map_rows, KnownOrder, unknown_order, GateTables, gate_of, crossed_order, dropped_order}
+use Rattle.mos_machines.proofs.RowTables.{ids-map, gate-put, gate-accepted, gate-dropped, has_row}
+use Rattle.order_table.specs.Rows.{IsAscending, find_row, value_or, without_rows}
 use Rattle.order_table.proofs.Looked.{look-found, find-put, find-map, find-kept, ids-there}
-use Rattle.gateway_core.specs.Gots.{got_known}
-use Rattle.gateway_core.specs.Parts.{IsAskedKnown, wanting_out, wanted_order}
+use Rattle.entry_store.specs.Stores.{StoreTables}
+use Rattle.gateway_core.specs.declared.asking.Asking.{Asking}
+use Rattle.gateway_core.specs.declared.asking.Confirm.{Confirm}
+use Rattle.gateway_core.specs.Parts.{IsAskedKnown, asking_of, confirmation_of, wanting_out, wanted_order}
 
 -- what is known of an order that was looked up
 pub look-some : (r : Text) (rows : List (Text × KnownOrder)) (k : KnownOrder) → find_row r rows ≡ Some k → look unknown_order rows r ≡ k
@@ -33,6 +35,14 @@ on-ok (Err y) a f = a
 pub if-ok-is : {X Y : Type 0} (r : Result X Y) (x y : X) → x ≡ y → IfOk r (λ a. a ≡ x) → IfOk r (λ a. a ≡ y)
 if-ok-is (Ok a) x y e h = h ∙ e
 if-ok-is (Err f) x y e h = h
+
+pub if-ok-map : {X Y : Type 0} (r : Result X Y) (P Q : X → Type 0) → IfOk r P → ((x : X) → P x → Q x) → IfOk r Q
+if-ok-map (Ok x) P Q h f = f x h
+if-ok-map (Err y) P Q h f = h
+
+pub if-ok-both : {X Y A : Type 0} (r : Result X Y) (P Q : X → Type 0) → OnOk r A → IfOk r P → (A → (x : X) → P x → Q x) → IfOk r Q
+if-ok-both (Ok x) P Q a h f = f a x h
+if-ok-both (Err y) P Q a h f = h
 
 pub on-err : {X Y : Type 0} {A B : Type 0} (r : Result X Y) → OnErr r A → (A → B) → OnErr r B
 on-err (Ok x) a f = a
@@ -59,6 +69,17 @@ put-same r v (x ∷ xs) a e = by (same_id r x.0) refl (is_before r x.0) refl e (
     by true s c d h i = pair (same-true r x.0 s) (let q : x.1 ≡ v = cc in sym q)
     by false s true d h i = absurd (let n = find-none r xs (before-all r x.0 (row_ids xs) d a.0) in cc)
     by false s false d h i = ap (λ (ys : List (Text × KnownOrder)). x ∷ ys) (i h)
+
+-- a new row taken out again
+pub without-put : (r : Text) (v : KnownOrder) (rows : List (Text × KnownOrder)) → find_row r rows ≡ None → without_rows (r ∷ []) (put_row r v rows) ≡ rows
+without-put r v [] e = rw (same-self r) refl
+without-put r v (x ∷ xs) none = by (same_id r x.0) refl (is_before r x.0) none (without-put r v xs)
+  where
+    by : (b : Bool) → same_id r x.0 ≡ b → (c : Bool) → (if b then Some x.1 else find_row r xs) ≡ None → (find_row r xs ≡ None → without_rows (r ∷ []) (put_row r v xs) ≡ xs)
+        → without_rows (r ∷ []) (if b then (r, v) ∷ xs else (if c then (r, v) ∷ (x ∷ xs) else x ∷ put_row r v xs)) ≡ x ∷ xs
+    by true s c e i = absurd (cc)
+    by false s true e i = rw (same-self r) (without-none r (x ∷ xs) none)
+    by false s false e i = rw (same-sym x.0 r ∙ s) (ap (λ (ys : List (Text × KnownOrder)). x ∷ ys) (i e))
 
 -- the order that is asked for keeps its row
 pub asked-map : (f : Text → KnownOrder → KnownOrder) (out : GateOut) (rows : List (Text × KnownOrder)) → IsAskedKnown out rows → IsAskedKnown out (map_rows f rows)
@@ -89,14 +110,14 @@ asked-has AsksBeat rows h r e = absurd (cc)
 
 -- the device's connection dropped
 abbrev pub dropped_tables : GateTables → GateTables
-dropped_tables g = record { upper = g.upper; link = None; out = NotAsking; want_all = g.want_all || is_all g.out; confirm = NotDue; note = false; orders = map_rows (dropped_order g.out g.confirm) g.orders }
+dropped_tables g = record { upper = g.upper; link = None; out = NotAsking; want_all = g.want_all || is_all g.out; confirm = NotDue; note = false; orders = map_rows (dropped_order g.out g.confirm) g.orders; stopped = g.stopped; faults = g.faults; kept = g.kept }
 
 pub dropped : (g : GateTables) → IsAskedKnown g.out g.orders → gate_of (dropped_tables g) ≡ gate_dropped (gate_of g)
 dropped g h = gate-dropped g (asked-has g.out g.orders h)
 
 -- a new connection of the server
 abbrev pub accepted_tables : ℕ → GateTables → GateTables
-accepted_tables c g = record { upper = Some c; link = g.link; out = g.out; want_all = true; confirm = NotDue; note = g.note; orders = map_rows (λ r. crossed_order) g.orders }
+accepted_tables c g = record { upper = Some c; link = g.link; out = g.out; want_all = true; confirm = NotDue; note = g.note; orders = map_rows (λ r. crossed_order) g.orders; stopped = g.stopped; faults = g.faults; kept = g.kept }
 
 pub accepted : (c : ℕ) (g : GateTables) → gate_of (accepted_tables c g) ≡ gate_accepted c (gate_of g)
 accepted c g = gate-accepted c g
@@ -128,16 +149,14 @@ pub asked-after : {X Y : Type 0} (o : Result X Y) (r : Text) (v : KnownOrder) (o
 asked-after (Ok x) r v out old new e f h = subst (λ (rows : List (Text × KnownOrder)). IsAskedKnown out rows) (sym e) (asked-put r v out old h)
 asked-after (Err y) r v out old new e f h = subst (λ (rows : List (Text × KnownOrder)). IsAskedKnown out rows) (sym f) h
 
--- what came for the order that was asked for
-pub got-tables : (g : GateTables) (r : Text) (o : Option Order) → g.out ≡ NotAsking
-    → gate_of (record g { confirm = if is_in (got_phase (look unknown_order g.orders r).phase) then Confirmation.Due r else g.confirm; orders = put_row r (got_known (look unknown_order g.orders r) o) g.orders }) ≡ got_order (gate_of g) r o
-got-tables g r o e =
-    gate-put (record g { confirm = if is_in (got_phase (look unknown_order g.orders r).phase) then Confirmation.Due r else g.confirm }) r (got_known (look unknown_order g.orders r) o)
-    ∙ ap (λ (x : GateOut). record (got_order (gate_of g) r o) { out = x }) e
-
+-- an order that was asked for and wasn't given, or isn't held
 pub refused-tables : (g : GateTables) (r : Text) → IsAscending (row_ids g.orders) → IsSome (find_row r g.orders)
     → gate_of (record g { out = NotAsking; orders = put_row r (record (look unknown_order g.orders r) { phase = OutOfStep; wanted = true }) g.orders }) ≡ got_refusal (gate_of g) r
 refused-tables g r a h = there-put (record g { out = NotAsking }) r OutOfStep true a h
+
+pub passed-tables : (g : GateTables) (r : Text) → g.stopped ≡ true → IsAscending (row_ids g.orders) → IsSome (find_row r g.orders)
+    → gate_of (record g { out = NotAsking; orders = put_row r (record (look unknown_order g.orders r) { phase = OutOfStep; wanted = false }) g.orders }) ≡ got_unkept (gate_of g) r
+passed-tables g r s a h = there-put (record g { out = NotAsking }) r OutOfStep false a h ∙ ap (λ (b : Bool). record (got_unkept (gate_of g) r) { stopped = b }) s
 
 -- each order that is out of step is wanted
 abbrev pub wanting_known : List Text → Text → KnownOrder → KnownOrder
@@ -165,4 +184,19 @@ wanting-tables g = λ i. record {
   held = λ q. (look-wanting g.orders q i).held;
   phase = λ q. (look-wanting g.orders q i).phase;
   wanted = λ q. (look-wanting g.orders q i).wanted;
+  stopped = g.stopped;
+  faults = g.faults;
+  kept = g.kept;
 }
+
+-- a part of each row
+pub set-part : {X : Type 0} (f : KnownOrder → X) (l : Text → KnownOrder) (r : Text) (v : KnownOrder) → (λ (q : Text). f (set_order l r v q)) ≡ set_order (λ q. f (l q)) r (f v)
+set-part {X = X} f l r v = λ i. λ q. by q (same_id q r) i
+  where
+    by : (q : Text) (b : Bool) → f (if b then v else l q) ≡ (if b then f v else f (l q))
+    by q true = refl
+    by q false = refl
+
+-- the tables of a gateway, by its parts
+abbrev pub tables_of : {K : Type 0} → Option ℕ → Option ℕ → Asking → Bool → Confirm → Bool → List (Text × KnownOrder) → StoreTables K → GateTables
+tables_of upper link out want confirm note orders store = record { upper = upper; link = link; out = asking_of out; want_all = want; confirm = confirmation_of confirm; note = note; orders = orders; stopped = store.stopped; faults = store.faults; kept = store.entries }

@@ -1,121 +1,189 @@
 -- A message that is read, as a step of the device.
-use Rattle.std.proofs.Common.{◌≡◌, ℕ, Bool, true, false, List, [], ◌∷◌, Option, Some, None, IsSome, Result, Ok, Err, OnOk, OnErr, refl, sym, ap, ◌∙◌, subst, if◌then◌else◌}
+use Rattle.std.proofs.Common.{◌≡◌, ℕ, Bool, true, false, List, Option, Some, None, IsSome, Result, Ok, Err, IfOk, OnErr, ◌⊎◌, inl, inr, refl, sym, ap, ◌∙◌, subst, if◌then◌else◌}
 use Rattle.mos_edits.specs.Texts.{Text, set_order}
 use Rattle.mos_edits.specs.KeyedLists.{Applied}
-use Rattle.mos_edits.specs.KeyedLists.Applied.{Done, Fault}
 use Rattle.mos_edits.specs.Orders.{Order, apply}
 use Rattle.mos_edits.specs.declared.edit.Edit.{Edit}
-use Rattle.mos_edits.specs.Entries.{Entry, Kind, kind, insert_id}
+use Rattle.mos_edits.specs.declared.edit.Edit.TheVariants as edits
+use Rattle.mos_edits.specs.Entries.{Entry, Kind, kind, insert_id, entry_of}
 use Rattle.mos_edits.specs.Entries.Kind.{IsWhole, IsAction, IsReady, IsNotReady}
-use Rattle.mos_machines.specs.Messages.{Message, is_link}
-use Rattle.mos_machines.specs.Messages.Message.{Heartbeat, RoEdit, RoAck, RoReq, RoReqAll, RoList, RoListAll, RoElementStat, OtherMessage}
-use Rattle.mos_machines.specs.Device.{GateOut, GateState, Phase, Decks, ReadResult, read_by, gate_with, gate_read}
-use Rattle.mos_machines.specs.Device.Phase.{InStep, OutOfStep, Asked, Crossed}
-use Rattle.mos_machines.specs.Steps.{device_step, unless_stale, gate_says}
+use Rattle.mos_edits.specs.Carried.{edit_in, edit_message}
+use Rattle.mos_machines.specs.Messages.{is_link}
+use Rattle.mos_machines.specs.Messages.Message.{RoEdit}
+use Rattle.mos_machines.specs.Device.{Append, Decks, GateOut, ReadResult, gate_read, gate_with, kept_by, read_by, read_kept, read_result, stops_by}
+use Rattle.mos_machines.specs.Device.Append.{NotAppended, Appended, AppendFailed}
+use Rattle.mos_machines.specs.Device.Phase.{OutOfStep}
+use Rattle.mos_machines.specs.Steps.{unless_stale, gate_says}
 use Rattle.mos_machines.specs.Steps.DeviceEvent.{ReadUpper}
-use Rattle.mos_machines.specs.Tables.{look, put_row, KnownOrder, unknown_order, GateTables, gate_of}
-use Rattle.mos_machines.specs.Values.{seen, message_of}
-use Rattle.mos_machines.proofs.RowTables.{gate-put}
+use Rattle.mos_machines.specs.Tables.{look, put_row, row_ids, KnownOrder, unknown_order, GateTables, gate_of as state_of}
+use Rattle.mos_machines.specs.Values.{seen}
+use Rattle.mos_machines.proofs.RowTables.{look-put, ids-put}
 use Rattle.mos_values.specs.declared.message.Message as values
 use Rattle.mos_values.specs.declared.message.Message.TheVariants as carried
+use Rattle.mos_values.specs.declared.ro_ack.RoAck.{RoAck}
 use Rattle.machine_answers.specs.Answers.{heard_of}
 use Rattle.machine_answers.specs.declared.answers.Heard.TheVariants as heard
+use Rattle.order_table.specs.Rows.{IsAscending, find_row}
+use Rattle.order_table.proofs.Looked.{ids-there}
+use Rattle.rundown_log.specs.declared.keeper.KeepFault.{KeepFault}
+use Rattle.entry_store.specs.Stores.{StoreTables, IsSpared}
+use Rattle.gateway_core.specs.Events.{IsGateRead, IsGateStep, IsWritten, write_by, write_on}
 use Rattle.gateway_core.specs.Parts.{IsAskedKnown}
-use Rattle.gateway_core.specs.Reads.{kept, put_result, known_result, rows_result, read_rows, read_ack, IsHeartbeat}
-use Rattle.gateway_core.proofs.TableSteps.{set-same, asked-put}
+use Rattle.gateway_core.specs.Reads.{kept, known_result, put_found, put_result, put_there, rows_result, IsEditRead, IsUnread}
+use Rattle.gateway_core.specs.State.{KeptGate, gate_of, store_of, HoldEntries}
+use Rattle.gateway_core.proofs.TableSteps.{asked-put, look-none, set-part, set-same}
 
--- an edit after which the order isn't known leaves what is known of it
-kept-by : (p : Phase) (kd : Kind) (a : Applied (Option Order)) (decks : Decks) (held : Option Order) (wanted : Bool) (c : Edit) → (read_by p kd decks held wanted c a).knows ≡ false
-    → kept (read_by p kd decks held wanted c a) ≡ record { held = held; phase = p; wanted = wanted }
-kept-by Asked kd a decks held wanted c e = absurd (cc)
-kept-by Crossed kd a decks held wanted c e = absurd (cc)
-kept-by InStep IsWhole a decks held wanted c e = absurd (cc)
-kept-by InStep IsNotReady a decks held wanted c e = refl
-kept-by InStep IsAction (Done o) decks held wanted c e = absurd (cc)
-kept-by InStep IsAction (Fault f) decks held wanted c e = absurd (cc)
-kept-by InStep IsReady (Done o) decks held wanted c e = absurd (cc)
-kept-by InStep IsReady (Fault f) decks held wanted c e = absurd (cc)
-kept-by OutOfStep IsWhole a decks held wanted c e = absurd (cc)
-kept-by OutOfStep IsNotReady a decks held wanted c e = refl
-kept-by OutOfStep IsAction a decks held wanted c e = absurd (cc)
-kept-by OutOfStep IsReady a decks held wanted c e = absurd (cc)
+-- ---- the rows after an edit
 
-kept-same : (k : KnownOrder) (decks : Decks) (e : Entry) → (known_result k decks e).knows ≡ false → kept (known_result k decks e) ≡ k
-kept-same k decks e h = kept-by k.phase (kind e.edit) (apply e.ro k.held e.edit) decks k.held k.wanted e.edit h
+-- an edit after which an order that isn't known stays so leaves nothing known of it
+unknown-by : (stopped fails : Bool) (kd : Kind) (decks : Decks) (c : Edit) (a : Applied (Option Order)) → (read_kept stopped fails kd OutOfStep None false (read_by OutOfStep kd decks None false c a)).knows ≡ false
+    → kept (read_kept stopped fails kd OutOfStep None false (read_by OutOfStep kd decks None false c a)) ≡ unknown_order
+unknown-by true fails IsWhole decks c a e = refl
+unknown-by true fails IsAction decks c a e = refl
+unknown-by true fails IsReady decks c a e = refl
+unknown-by true fails IsNotReady decks c a e = refl
+unknown-by false true IsWhole decks c a e = absurd (cc)
+unknown-by false false IsWhole decks c a e = absurd (cc)
+unknown-by false true IsAction decks c a e = absurd (cc)
+unknown-by false false IsAction decks c a e = absurd (cc)
+unknown-by false true IsReady decks c a e = absurd (cc)
+unknown-by false false IsReady decks c a e = absurd (cc)
+unknown-by false true IsNotReady decks c a e = refl
+unknown-by false false IsNotReady decks c a e = refl
 
--- what an edit leaves of the rows is what it leaves of the state
-with-kept : (g : GateTables) (r : Text) (x : ReadResult) → x.knows ≡ false → kept x ≡ look unknown_order g.orders r → gate_of g ≡ gate_with (gate_of g) r x
-with-kept g r x e h = λ i. record {
-  upper = g.upper;
-  link = g.link;
-  out = g.out;
-  want_all = g.want_all;
-  confirm = g.confirm;
-  note = g.note;
-  known = ap (λ (b : Bool). if b then insert_id r (gate_of g).known else (gate_of g).known) (sym e) i;
-  held = (sym (set-same (gate_of g).held r) ∙ ap (λ (k : KnownOrder). set_order (gate_of g).held r k.held) (sym h)) i;
-  phase = (sym (set-same (gate_of g).phase r) ∙ ap (λ (k : KnownOrder). set_order (gate_of g).phase r k.phase) (sym h)) i;
-  wanted = (sym (set-same (gate_of g).wanted r) ∙ ap (λ (k : KnownOrder). set_order (gate_of g).wanted r k.wanted) (sym h)) i;
+abbrev StaysUnknown : List (Text × KnownOrder) → Text → ReadResult → Type 0
+StaysUnknown rows r x = x.knows ≡ false → find_row r rows ≡ None → kept x ≡ unknown_order
+
+stays-unknown : (stopped fails : Bool) (rows : List (Text × KnownOrder)) (decks : Decks) (e : Entry) → StaysUnknown rows e.ro (rows_result stopped fails rows decks e)
+stays-unknown stopped fails rows decks e k f =
+    let none : look unknown_order rows e.ro ≡ unknown_order = look-none e.ro rows f in
+    ap (λ (y : KnownOrder). kept (known_result stopped fails y decks e)) none
+    ∙ unknown-by stopped fails (kind e.edit) decks e.edit (apply e.ro None e.edit) (ap (λ (y : KnownOrder). (known_result stopped fails y decks e).knows) (sym none) ∙ k)
+
+module _ (rows : List (Text × KnownOrder)) (r : Text) (x : ReadResult) (asc : IsAscending (row_ids rows)) where
+  pub ids-result : row_ids (put_result r x rows) ≡ (if x.knows then insert_id r (row_ids rows) else row_ids rows)
+  ids-result = by x.knows
+    where
+      there : (o : Option KnownOrder) → find_row r rows ≡ o → row_ids (put_found o r (kept x) rows) ≡ row_ids rows
+      there None e = refl
+      there (Some k) e = ids-put rows r (kept x) ∙ ids-there r rows asc (subst (λ (o : Option KnownOrder). IsSome o) (sym e) refl)
+
+      by : (b : Bool) → row_ids (if b then put_row r (kept x) rows else put_there r (kept x) rows) ≡ (if b then insert_id r (row_ids rows) else row_ids rows)
+      by true = ids-put rows r (kept x)
+      by false = there (find_row r rows) refl
+
+  pub look-result : StaysUnknown rows r x → look unknown_order (put_result r x rows) ≡ set_order (look unknown_order rows) r (kept x)
+  look-result h = by x.knows refl
+    where
+      there : x.knows ≡ false → (o : Option KnownOrder) → find_row r rows ≡ o → look unknown_order (put_found o r (kept x) rows) ≡ set_order (look unknown_order rows) r (kept x)
+      there k None e = sym (set-same (look unknown_order rows) r) ∙ ap (λ (y : KnownOrder). set_order (look unknown_order rows) r y) (look-none r rows e ∙ sym (h k e))
+      there k (Some y) e = look-put unknown_order rows r (kept x)
+
+      by : (b : Bool) → x.knows ≡ b → look unknown_order (if b then put_row r (kept x) rows else put_there r (kept x) rows) ≡ set_order (look unknown_order rows) r (kept x)
+      by true k = look-put unknown_order rows r (kept x)
+      by false k = there k (find_row r rows) refl
+
+-- the state that the tables are after an edit
+pub result-tables : (g h : GateTables) (e : Entry) (x : ReadResult) → IsAscending (row_ids g.orders) → StaysUnknown g.orders e.ro x → h.upper ≡ g.upper → h.link ≡ g.link → h.out ≡ g.out → h.want_all ≡ g.want_all → h.confirm ≡ g.confirm → h.note ≡ g.note
+    → h.orders ≡ put_result e.ro x g.orders → h.stopped ≡ stops_by x.append g.stopped → h.kept ≡ kept_by x.append g.kept e → record (gate_with (state_of g) e x) { faults = h.faults } ≡ state_of h
+result-tables g h e x asc u upper link out want confirm note rows stopped entries = λ i. record {
+  upper = sym upper i;
+  link = sym link i;
+  out = sym out i;
+  want_all = sym want i;
+  confirm = sym confirm i;
+  note = sym note i;
+  known = (sym (ids-result g.orders e.ro x asc) ∙ ap row_ids (sym rows)) i;
+  held = (sym (set-part (λ k. k.held) (look unknown_order g.orders) e.ro (kept x)) ∙ ap (λ (l : Text → KnownOrder). λ (q : Text). (l q).held) looked) i;
+  phase = (sym (set-part (λ k. k.phase) (look unknown_order g.orders) e.ro (kept x)) ∙ ap (λ (l : Text → KnownOrder). λ (q : Text). (l q).phase) looked) i;
+  wanted = (sym (set-part (λ k. k.wanted) (look unknown_order g.orders) e.ro (kept x)) ∙ ap (λ (l : Text → KnownOrder). λ (q : Text). (l q).wanted) looked) i;
+  stopped = sym stopped i;
+  faults = h.faults;
+  kept = sym entries i;
+}
+  where
+    looked : set_order (look unknown_order g.orders) e.ro (kept x) ≡ look unknown_order h.orders
+    looked = sym (look-result g.orders e.ro x asc u) ∙ ap (look unknown_order) (sym rows)
+
+-- what was written, by what became of the append
+module _ {K : Type 0} (appended : K → Entry → Result (Unit {0}) KeepFault → K → Type 0) (s t : StoreTables K) (e : Entry) where
+  pub written-stops : (a : Append) → IsWritten appended s t (write_by a e) → t.stopped ≡ stops_by a s.stopped
+  written-stops NotAppended w = ap (λ (y : StoreTables K). y.stopped) w
+  written-stops Appended w = w.running
+  written-stops AppendFailed w = w.stopped
+
+  pub written-keeps : (a : Append) → IsWritten appended s t (write_by a e) → t.entries ≡ kept_by a s.entries e
+  written-keeps NotAppended w = ap (λ (y : StoreTables K). y.entries) w
+  written-keeps Appended w = w.entries
+  written-keeps AppendFailed w = w.entries
+
+-- the order that is asked for keeps its row
+pub asked-result : (out : GateOut) (rows : List (Text × KnownOrder)) (r : Text) (x : ReadResult) → IsAskedKnown out rows → IsAskedKnown out (put_result r x rows)
+asked-result out rows r x h = by x.knows
+  where
+    there : (o : Option KnownOrder) → IsAskedKnown out (put_found o r (kept x) rows)
+    there None = h
+    there (Some k) = asked-put r (kept x) out rows h
+
+    by : (b : Bool) → IsAskedKnown out (if b then put_row r (kept x) rows else put_there r (kept x) rows)
+    by true = asked-put r (kept x) out rows h
+    by false = there (find_row r rows)
+
+-- ---- an edit that was read on the rows, as one that the gateway read
+pub gate-read : {K : Type 0} (appended : K → Entry → Result (Unit {0}) KeepFault → K → Type 0) (old new : KeptGate K) (decks : Decks) (e : Entry) (a : RoAck) → IsAscending (row_ids old.gate.orders)
+    → new.gate.upper ≡ old.gate.upper → new.gate.link ≡ old.gate.link → new.gate.out ≡ old.gate.out → new.gate.want_all ≡ old.gate.want_all → new.gate.confirm ≡ old.gate.confirm → new.gate.note ≡ old.gate.note
+    → IsEditRead appended (store_of old) (store_of new) old.gate.orders new.gate.orders decks e a → IsGateRead appended old new decks e a
+gate-read appended old new decks e a asc upper link out want confirm note x =
+    let y = rows_result old.gate.stopped x.fails old.gate.orders decks e in
+    record {
+      fails = x.fails;
+      answer = x.answer;
+      next = result-tables old.gate new.gate e y asc (stays-unknown old.gate.stopped x.fails old.gate.orders decks e) upper link out want confirm note x.rows
+          (written-stops appended (store_of old) (store_of new) e y.append x.written) (written-keeps appended (store_of old) (store_of new) e y.append x.written);
+      written = x.written;
+    }
+
+-- ---- messages
+
+-- what the edit of a message is
+pub seen-edit : (m : values.Message) (c : Edit) → edit_in m ≡ Some c → seen m ≡ RoEdit (entry_of c)
+seen-edit (carried.RoCreate b) c e = ap (λ (y : Edit). RoEdit (entry_of y)) (let z : edits.Create b ≡ c = cc in z)
+seen-edit (carried.RoReplace b) c e = ap (λ (y : Edit). RoEdit (entry_of y)) (let z : edits.Replace b ≡ c = cc in z)
+seen-edit (carried.RoDelete r) c e = ap (λ (y : Edit). RoEdit (entry_of y)) (let z : edits.Delete r ≡ c = cc in z)
+seen-edit (carried.RoMetadataReplace p) c e = ap (λ (y : Edit). RoEdit (entry_of y)) (let z : edits.Metadata p ≡ c = cc in z)
+seen-edit (carried.RoElementAction r a) c e = ap (λ (y : Edit). RoEdit (entry_of y)) (let z : edits.Act r a ≡ c = cc in z)
+seen-edit (carried.RoReadyToAir r a) c e = ap (λ (y : Edit). RoEdit (entry_of y)) (let z : edits.Air r a ≡ c = cc in z)
+seen-edit (carried.RoStorySend x) c e = ap (λ (y : Edit). RoEdit (entry_of y)) (let z : edits.Script x ≡ c = cc in z)
+seen-edit m c e = absurd (cc)
+
+pub edit-back : (m : values.Message) (c : Edit) → edit_in m ≡ Some c → edit_message c ≡ m
+edit-back (carried.RoCreate b) c e = ap edit_message (let z : c ≡ edits.Create b = cc in z)
+edit-back (carried.RoReplace b) c e = ap edit_message (let z : c ≡ edits.Replace b = cc in z)
+edit-back (carried.RoDelete r) c e = ap edit_message (let z : c ≡ edits.Delete r = cc in z)
+edit-back (carried.RoMetadataReplace p) c e = ap edit_message (let z : c ≡ edits.Metadata p = cc in z)
+edit-back (carried.RoElementAction r a) c e = ap edit_message (let z : c ≡ edits.Act r a = cc in z)
+edit-back (carried.RoReadyToAir r a) c e = ap edit_message (let z : c ≡ edits.Air r a = cc in z)
+edit-back (carried.RoStorySend x) c e = ap edit_message (let z : c ≡ edits.Script x = cc in z)
+edit-back m c e = absurd (cc)
+
+-- an edit that was read, as a step of the gateway
+pub read-step : {K : Type 0} (appended : K → Entry → Result (Unit {0}) KeepFault → K → Type 0) (old new : KeptGate K) (c : ℕ) (decks : Decks) (e : Entry) (a : RoAck) → is_link (gate_of old).upper c ≡ true → IsGateRead appended old new decks e a
+    → IsGateStep appended heard_of old new (ReadUpper c (RoEdit e) decks) (heard.Say (carried.RoAck a))
+read-step appended old new c decks e a l x = record {
+  fails = x.fails;
+  says = ap (λ (b : Bool). heard_of (unless_stale b (gate_of old) (gate_says (gate_read (gate_of old) decks x.fails (RoEdit e)))).0) l ∙ ap (λ (y : RoAck). heard.Say (carried.RoAck y)) (sym x.answer);
+  next = ap (λ (b : Bool). record (unless_stale b (gate_of old) (gate_says (gate_read (gate_of old) decks x.fails (RoEdit e)))).1 { faults = new.gate.faults }) l ∙ x.next;
+  written = subst (λ (b : Bool). IsWritten appended (store_of old) (store_of new) (write_on b (write_by (read_result (gate_of old) decks x.fails e).append e))) (sym l) x.written;
 }
 
-with-put : (g : GateTables) (r : Text) (x : ReadResult) → x.knows ≡ true → gate_of (record g { orders = put_row r (kept x) g.orders }) ≡ gate_with (gate_of g) r x
-with-put g r x e = gate-put g r (kept x) ∙ (λ i. record {
-  upper = g.upper;
-  link = g.link;
-  out = g.out;
-  want_all = g.want_all;
-  confirm = g.confirm;
-  note = g.note;
-  known = ap (λ (b : Bool). if b then insert_id r (gate_of g).known else (gate_of g).known) (sym e) i;
-  held = set_order (gate_of g).held r x.held;
-  phase = set_order (gate_of g).phase r x.phase;
-  wanted = set_order (gate_of g).wanted r x.wanted;
-})
-
-result-tables : (g : GateTables) (r : Text) (x : ReadResult) → (x.knows ≡ false → kept x ≡ look unknown_order g.orders r) → gate_of (record g { orders = put_result r x g.orders }) ≡ gate_with (gate_of g) r x
-result-tables g r x h = by x.knows refl
+-- what holds of the rows after an edit was read, or wasn't
+pub read-holds : {K Y : Type 0} (appended : K → Entry → Result (Unit {0}) KeepFault → K → Type 0) (o : Result RoAck Y) (s t : StoreTables K) (old new : List (Text × KnownOrder)) (decks : Decks) (e : Entry) (out : GateOut) → IfOk o (IsEditRead appended s t old new decks e) → OnErr o (IsUnread appended s t old new e)
+    → IsAskedKnown out old → HoldEntries s.entries old → IsAskedKnown out new × HoldEntries t.entries new
+read-holds appended (Ok a) s t old new decks e out x u k h =
+    (subst (λ (rows : List (Text × KnownOrder)). IsAskedKnown out rows) (sym x.rows) (asked-result out old e.ro (rows_result s.stopped x.fails old decks e) k), x.holds h)
+read-holds {K = K} appended (Err y) s t old new decks e out x u k h =
+    (subst (λ (rows : List (Text × KnownOrder)). IsAskedKnown out rows) (sym u.rows) k, subst (λ (rows : List (Text × KnownOrder)). HoldEntries t.entries rows) (sym u.rows) (by u.spared))
   where
-    by : (b : Bool) → x.knows ≡ b → gate_of (record g { orders = if b then put_row r (kept x) g.orders else g.orders }) ≡ gate_with (gate_of g) r x
-    by true e = with-put g r x e
-    by false e = with-kept g r x e (h e)
-
-pub read-tables : (g : GateTables) (decks : Decks) (m : Message) → gate_of (record g { orders = read_rows g.orders decks m }) ≡ (gate_read (gate_of g) decks m).0
-read-tables g decks (Heartbeat time) = refl
-read-tables g decks (RoEdit e) = result-tables g e.ro (rows_result g.orders decks e) (kept-same (look unknown_order g.orders e.ro) decks e)
-read-tables g decks (RoAck r s) = refl
-read-tables g decks (RoReq r) = refl
-read-tables g decks RoReqAll = refl
-read-tables g decks (RoList r o) = refl
-read-tables g decks (RoListAll hs) = refl
-read-tables g decks (RoElementStat r) = refl
-read-tables g decks (OtherMessage r) = refl
-
--- the answer to a message that isn't a heartbeat
-pub read-says : (g : GateTables) (decks : Decks) (m : values.Message) → ((time : _) → m ≡ carried.Heartbeat time → ⊥) → message_of (gate_read (gate_of g) decks (seen m)).1 ≡ carried.RoAck (read_ack g.orders decks (seen m))
-read-says g decks (carried.Heartbeat time) n = absurd (n time refl)
-read-says g decks m n = refl
-
-pub asked-read : (out : GateOut) (rows : List (Text × KnownOrder)) (decks : Decks) (m : Message) → IsAskedKnown out rows → IsAskedKnown out (read_rows rows decks m)
-asked-read out rows decks (RoEdit e) h = by (rows_result rows decks e).knows
-  where
-    by : (b : Bool) → IsAskedKnown out (if b then put_row e.ro (kept (rows_result rows decks e)) rows else rows)
-    by true = asked-put e.ro (kept (rows_result rows decks e)) out rows h
-    by false = h
-asked-read out rows decks m h = h
-
-pub asked-after-read : {X Y : Type 0} (o : Result X Y) (out : GateOut) (old new : List (Text × KnownOrder)) (decks : Decks) (m : Message) → OnOk o (new ≡ read_rows old decks m) → OnErr o (new ≡ old) → IsAskedKnown out old → IsAskedKnown out new
-asked-after-read (Ok x) out old new decks m e f h = subst (λ (rows : List (Text × KnownOrder)). IsAskedKnown out rows) (sym e) (asked-read out old decks m h)
-asked-after-read (Err y) out old new decks m e f h = subst (λ (rows : List (Text × KnownOrder)). IsAskedKnown out rows) (sym f) h
-
--- on the current connection a message is read
-module _ (g : GateState) (c : ℕ) (m : Message) (decks : Decks) where
-  current-by : (b : Bool) → b ≡ true → (heard_of (unless_stale b g (gate_says (gate_read g decks m))).0 ≡ heard.Say (message_of (gate_read g decks m).1)) × ((unless_stale b g (gate_says (gate_read g decks m))).1 ≡ (gate_read g decks m).0)
-  current-by true e = (refl, refl)
-  current-by false e = absurd (cc)
-
-  pub read-current : is_link g.upper c ≡ true → (heard_of (device_step g (ReadUpper c m decks)).0 ≡ heard.Say (message_of (gate_read g decks m).1)) × ((device_step g (ReadUpper c m decks)).1 ≡ (gate_read g decks m).0)
-  read-current e = current-by (is_link g.upper c) e
-
-pub not-heartbeat : {A : Type 0} (m : values.Message) → ((time : _) → m ≡ carried.Heartbeat time → ⊥) → IsHeartbeat m → A
-not-heartbeat (carried.Heartbeat time) n h = absurd (n time refl)
-not-heartbeat m n h = absurd h
+    by : (t ≡ s) ⊎ IsSpared appended s t e → HoldEntries t.entries old
+    by (inl same) = subst (λ (z : StoreTables K). HoldEntries z.entries old) (sym same) h
+    by (inr spared) = subst (λ (es : List Entry). HoldEntries es old) (sym spared.entries) h

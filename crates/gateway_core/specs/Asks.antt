@@ -1,10 +1,10 @@
 -- What a gateway sends next on the connection that it opened, in the order in which it looks.
-use Rattle.std.specs.Prelude.{Bool, true, false, Option, Some, None}
+use Rattle.std.specs.Prelude.{Bool, true, false, Option, Some, None, ◌&&◌, not}
 use Rattle.mos_fields.specs.declared.time.MosTime.{MosTime}
 use Rattle.mos_edits.specs.Texts.{Text, set_order}
 use Rattle.mos_machines.specs.Messages.{Message}
 use Rattle.mos_machines.specs.Messages.Message.{Heartbeat, RoReq, RoReqAll}
-use Rattle.mos_machines.specs.Device.{GateState, Phase, GateOut, asked_next, first_wanted}
+use Rattle.mos_machines.specs.Device.{GateState, Phase, asked_next, first_wanted, unless_stopped}
 use Rattle.mos_machines.specs.Device.GateOut.{AsksFor, AsksAll, AsksBeat}
 use Rattle.mos_machines.specs.Values.{message_of}
 use Rattle.machine_answers.specs.Answers.{ask_tag}
@@ -24,7 +24,7 @@ ask_rest now g false r note = ask_wanted now g r note
 
 -- a heartbeat that confirms, or else these
 abbrev pub asks_next : MosTime → GateState → GateState × Option Message
-asks_next now g = asked_next now g g.confirm g.want_all (first_wanted g.wanted g.known) g.note
+asks_next now g = asked_next now g g.confirm (g.want_all && not g.stopped) (unless_stopped g.stopped (first_wanted g.wanted g.known)) g.note
 
 -- what is sent, as the call answers it
 abbrev pub sent_of : Option Message → Sent

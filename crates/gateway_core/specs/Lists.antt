@@ -1,5 +1,5 @@
 -- What the list of all orders leaves of a gateway's rows.
-use Rattle.std.specs.Prelude.{List, [], ◌∷◌, ◌++◌, Bool, true, Option, Some, None, IsSome, not, ◌||◌}
+use Rattle.std.specs.Prelude.{List, [], ◌∷◌, ◌++◌, Option, Some, None, IsSome, not, ◌||◌}
 use Rattle.mos_edits.specs.Texts.{Text}
 use Rattle.mos_edits.specs.Orders.{HeaderPatch}
 use Rattle.mos_machines.specs.Device.{is_in}

@@ -1,120 +1,127 @@
 -- Reading a message of the server, on the rows of a gateway's table.
-use Rattle.std.specs.Prelude.{◌≡◌, Result, IfOk, List, [], Bool, true, false, Option, Some, None, if◌then◌else◌}
+use Rattle.std.specs.Prelude.{◌≡◌, ◌⊎◌, Result, IfOk, List, Bool, true, false, Option, Some, None, if◌then◌else◌}
 use Rattle.mos_edits.specs.Texts.{Text}
-use Rattle.mos_edits.specs.KeyedLists.{Applied, ActFault as EditFault}
-use Rattle.mos_edits.specs.KeyedLists.Applied.{Fault}
+use Rattle.mos_edits.specs.KeyedLists.{ActFault as EditFault}
 use Rattle.mos_edits.specs.Orders.{Order, OrderBody, order_of}
 use Rattle.mos_edits.specs.declared.edit.Edit.{Edit}
-use Rattle.mos_edits.specs.Entries.{Entry}
-use Rattle.mos_machines.specs.Messages.{Message, Status, status_text, message_ro}
-use Rattle.mos_machines.specs.Messages.Message.{RoEdit}
-use Rattle.mos_machines.specs.Device.{Decks, ReadResult, Phase, read_edit, ready_status}
-use Rattle.mos_machines.specs.Device.Phase.{InStep, OutOfStep, Asked, Crossed}
-use Rattle.mos_machines.specs.Tables.{KnownOrder, unknown_order, look, put_row}
 use Rattle.mos_edits.specs.declared.edit.Edit.TheVariants as edits
+use Rattle.mos_edits.specs.Entries.{Entry, kind}
+use Rattle.mos_machines.specs.Messages.{Message, Status, message_ro}
+use Rattle.mos_machines.specs.Device.{Decks, ReadResult, read_edit, read_kept}
+use Rattle.mos_machines.specs.Device.Append.{NotAppended, Appended}
+use Rattle.mos_machines.specs.Device.Phase.{InStep, OutOfStep}
+use Rattle.mos_machines.specs.Tables.{KnownOrder, unknown_order, look, put_row}
+use Rattle.order_table.specs.Rows.{find_row}
 use Rattle.mos_values.specs.declared.message.Message as values
 use Rattle.mos_values.specs.declared.message.Message.TheVariants as carried
 use Rattle.mos_values.specs.declared.ro_ack.RoAck.{RoAck}
-use Rattle.mos_fields.specs.declared.air.Air.TheVariants.{Ready}
+use Rattle.mos_fields.specs.declared.air.Air.TheVariants.{Ready, NotReady}
 use Rattle.std.specs.declared.alloc.AllocError.{AllocError}
 use Rattle.machine_answers.specs.declared.status.Status.{Status as Answer}
 use Rattle.machine_answers.specs.Answers.{status_of}
 use Rattle.element_action.specs.declared.fault.ActFault.{ActFault}
 use Rattle.element_action.specs.declared.fault.ActFault.TheVariants.{Missing, AlreadyThere, NoMemory}
-use Rattle.gateway_core.specs.declared.edits.Change.{Change}
-use Rattle.gateway_core.specs.declared.edits.Change.TheVariants as changes
+use Rattle.rundown_log.specs.declared.keeper.KeepFault.{KeepFault}
+use Rattle.entry_store.specs.Stores.{StoreTables, IsStored, IsDoubted, IsSpared}
+use Rattle.gateway_core.specs.declared.edits.EditKind.{EditKind}
+use Rattle.gateway_core.specs.declared.edits.EditKind.TheVariants as kinds
+use Rattle.gateway_core.specs.declared.planning.Reading.{Reading}
+use Rattle.gateway_core.specs.declared.planning.Reading.TheVariants.{Told, Keeps}
+use Rattle.gateway_core.specs.Events.{IsWritten, ro_ack, write_by}
+use Rattle.gateway_core.specs.Parts.{phase_of}
+use Rattle.gateway_core.specs.State.{HoldEntries}
 
--- the edit that a change is
-abbrev pub edit_of : Text → Change → Edit
-edit_of ro (changes.Header patch) = edits.Metadata patch.now
-edit_of ro (changes.Action action) = edits.Act ro action.now
-edit_of ro (changes.Script script) = edits.Script script.now
-edit_of ro changes.Release = edits.Air ro Ready
+-- what an edit does: it gives an order whole, or says that there is none; it releases it; it takes that back; or it changes it
+abbrev pub kind_of : Edit → EditKind
+kind_of (edits.Create body) = kinds.Whole
+kind_of (edits.Replace body) = kinds.Whole
+kind_of (edits.Delete ro) = kinds.Whole
+kind_of (edits.Air ro Ready) = kinds.Release
+kind_of (edits.Air ro NotReady) = kinds.Unready
+kind_of e = kinds.Change
 
-abbrev pub entry_at : Text → Change → Entry
-entry_at ro c = record { ro = ro; edit = edit_of ro c }
+-- ---- an edit, by what is known of its order
 
--- the fault that is answered is that of the edit; or there was no memory
-abbrev pub IsTold : Applied (Option Order) → ActFault → Type 0
-IsTold defined (Missing id) = defined ≡ Fault (EditFault.Missing id)
-IsTold defined (AlreadyThere id) = defined ≡ Fault (EditFault.AlreadyThere id)
-IsTold defined NoMemory = Unit {0}
+-- what reading it leaves
+abbrev pub known_result : Bool → Bool → KnownOrder → Decks → Entry → ReadResult
+known_result stopped fails k decks e = read_kept stopped fails (kind e.edit) k.phase k.held k.wanted (read_edit k.phase decks k.held k.wanted e)
 
--- the answer to a change that applies
-abbrev pub applied_status : Change → Decks → Status
-applied_status changes.Release decks = ready_status decks
-applied_status c decks = Status.Okay
+abbrev pub rows_result : Bool → Bool → List (Text × KnownOrder) → Decks → Entry → ReadResult
+rows_result stopped fails rows decks e = known_result stopped fails (look unknown_order rows e.ro) decks e
 
--- what is known after an edit was read
+-- what is known of it then
 abbrev pub kept : ReadResult → KnownOrder
 kept x = record { held = x.held; phase = x.phase; wanted = x.wanted }
 
+-- only a row that is there is written
+abbrev pub put_found : Option KnownOrder → Text → KnownOrder → List (Text × KnownOrder) → List (Text × KnownOrder)
+put_found None r v rows = rows
+put_found (Some k) r v rows = put_row r v rows
+
+abbrev pub put_there : Text → KnownOrder → List (Text × KnownOrder) → List (Text × KnownOrder)
+put_there r v rows = put_found (find_row r rows) r v rows
+
 abbrev pub put_result : Text → ReadResult → List (Text × KnownOrder) → List (Text × KnownOrder)
-put_result r x rows = if x.knows then put_row r (kept x) rows else rows
+put_result r x rows = if x.knows then put_row r (kept x) rows else put_there r (kept x) rows
 
--- an edit, as it is read by what is known of its order
-abbrev pub known_result : KnownOrder → Decks → Entry → ReadResult
-known_result k decks e = read_edit k.phase decks k.held k.wanted e
+-- what is to be made of an order, as a result: it stays as it is held, or this is held once the edit was kept
+abbrev pub result_by : Option Order → Bool → Reading → ReadResult
+result_by held wanted (Told p w knows status) = record { held = held; phase = phase_of p; wanted = w; knows = knows; append = NotAppended; status = status_of status }
+result_by held wanted (Keeps o) = record { held = o; phase = InStep; wanted = wanted; knows = true; append = Appended; status = Status.Okay }
 
--- an edit of an order that is asked for
-abbrev pub asked_result : KnownOrder → ReadResult
-asked_result k = record { held = k.held; phase = Crossed; wanted = k.wanted; knows = true; status = Status.NotInStep }
-
--- a change of an order that is out of step
-abbrev pub out_result : KnownOrder → ReadResult
-out_result k = record { held = k.held; phase = OutOfStep; wanted = true; knows = true; status = Status.NotInStep }
+-- whether the edit is to be kept
+abbrev pub IsRunning : Bool → Reading → Type 0
+IsRunning stopped (Told p w knows status) = Unit {0}
+IsRunning stopped (Keeps o) = stopped ≡ false
 
 -- the order of a body, or none
 abbrev pub whole_order : Option OrderBody → Option Order
 whole_order None = None
 whole_order (Some body) = Some (order_of body)
 
--- a whole order, or that there is none from now on
-abbrev pub whole_by : Phase → KnownOrder → Option Order → ReadResult
-whole_by InStep k o = record { held = o; phase = InStep; wanted = k.wanted; knows = true; status = Status.Okay }
-whole_by OutOfStep k o = record { held = o; phase = InStep; wanted = k.wanted; knows = true; status = Status.Okay }
-whole_by Asked k o = asked_result k
-whole_by Crossed k o = asked_result k
+-- an order whose edit wasn't kept stays as it was held, out of step and not wanted
+abbrev pub unkept_known : KnownOrder → KnownOrder
+unkept_known k = record { held = k.held; phase = OutOfStep; wanted = false }
 
--- NOT READY
-abbrev pub unready_by : Phase → KnownOrder → ReadResult
-unready_by InStep k = record { held = k.held; phase = InStep; wanted = k.wanted; knows = false; status = Status.Okay }
-unready_by OutOfStep k = record { held = k.held; phase = OutOfStep; wanted = k.wanted; knows = false; status = Status.Okay }
-unready_by Asked k = asked_result k
-unready_by Crossed k = asked_result k
+-- An edit was kept, and this is known of its order from then on; or its append failed.
+abbrev pub IsHeldStep : {K : Type 0} → (K → Entry → Result (Unit {0}) KeepFault → K → Type 0) → StoreTables K → StoreTables K → List (Text × KnownOrder) → List (Text × KnownOrder) → Entry → KnownOrder → Bool → Type 0
+IsHeldStep appended s t old new e k true = (new ≡ put_row e.ro k old) × IsStored appended s t e
+IsHeldStep appended s t old new e k false = (new ≡ put_row e.ro (unkept_known (look unknown_order old e.ro)) old) × IsDoubted appended s t e
 
-abbrev pub rows_result : List (Text × KnownOrder) → Decks → Entry → ReadResult
-rows_result rows decks e = known_result (look unknown_order rows e.ro) decks e
+-- Memory ran out: the rows are as they were, and so are the entries.
+pub record IsUnread {K : Type 0} (appended : K → Entry → Result (Unit {0}) KeepFault → K → Type 0) (s t : StoreTables K) (old new : List (Text × KnownOrder)) (e : Entry) : Type 0 where
+  pub rows : new ≡ old
+  pub spared : (t ≡ s) ⊎ IsSpared appended s t e
 
-abbrev pub whole_result : List (Text × KnownOrder) → Text → Option Order → ReadResult
-whole_result rows r o = whole_by (look unknown_order rows r).phase (look unknown_order rows r) o
+-- an edit was read, and answered so
+pub record IsEditRead {K : Type 0} (appended : K → Entry → Result (Unit {0}) KeepFault → K → Type 0) (s t : StoreTables K) (old new : List (Text × KnownOrder)) (decks : Decks) (e : Entry) (a : RoAck) : Type 0 where
+  pub fails : Bool
+  pub answer : a ≡ ro_ack e.ro (rows_result s.stopped fails old decks e).status
+  pub rows : new ≡ put_result e.ro (rows_result s.stopped fails old decks e) old
+  pub written : IsWritten appended s t (write_by (rows_result s.stopped fails old decks e).append e)
+  pub holds : HoldEntries s.entries old → HoldEntries t.entries new
 
-abbrev pub unready_result : List (Text × KnownOrder) → Text → ReadResult
-unready_result rows r = unready_by (look unknown_order rows r).phase (look unknown_order rows r)
+-- the same where it was to be kept: this is held, in step, or the append failed
+abbrev pub held_known : KnownOrder → Option Order → KnownOrder
+held_known k o = record { held = o; phase = InStep; wanted = k.wanted }
 
--- the roAck of an order
-abbrev pub acked : Text → Status → RoAck
-acked ro status = record { ro = ro; status = status_text status; groups = [] }
+abbrev pub kept_status : Bool → Status
+kept_status keeps = if keeps then Status.Okay else Status.StoreFault
 
--- the rows after a message, and the roAck that answers it
-abbrev pub read_rows : List (Text × KnownOrder) → Decks → Message → List (Text × KnownOrder)
-read_rows rows decks (RoEdit e) = put_result e.ro (rows_result rows decks e) rows
-read_rows rows decks m = rows
+pub record IsKeptRead {K : Type 0} (appended : K → Entry → Result (Unit {0}) KeepFault → K → Type 0) (s t : StoreTables K) (old new : List (Text × KnownOrder)) (e : Entry) (o : Option Order) (a : RoAck) : Type 0 where
+  pub keeps : Bool
+  pub answer : a ≡ ro_ack e.ro (kept_status keeps)
+  pub step : IsHeldStep appended s t old new e (held_known (look unknown_order old e.ro) o) keeps
 
-abbrev pub read_ack : List (Text × KnownOrder) → Decks → Message → RoAck
-read_ack rows decks (RoEdit e) = acked e.ro (rows_result rows decks e).status
-read_ack rows decks m = acked (message_ro m) Status.NotSupported
+-- the roAck of a message that isn't an edit
+abbrev pub unread_ack : Message → RoAck
+unread_ack m = ro_ack (message_ro m) Status.NotSupported
 
 -- a fault's status, or no memory
 abbrev pub IsRefusal : ActFault → Result Answer AllocError → Type 0
 IsRefusal (Missing id) r = IfOk r (λ s. status_of s ≡ Status.Faulty (EditFault.Missing id))
 IsRefusal (AlreadyThere id) r = IfOk r (λ s. status_of s ≡ Status.Faulty (EditFault.AlreadyThere id))
 IsRefusal NoMemory r = IfOk r (λ s. ⊥)
-
-abbrev pub IsRefused : Text → ActFault → Result RoAck AllocError → Type 0
-IsRefused ro (Missing id) r = IfOk r (λ a. a ≡ acked ro (Status.Faulty (EditFault.Missing id)))
-IsRefused ro (AlreadyThere id) r = IfOk r (λ a. a ≡ acked ro (Status.Faulty (EditFault.AlreadyThere id)))
-IsRefused ro NoMemory r = IfOk r (λ a. ⊥)
 
 abbrev pub IsHeartbeat : values.Message → Type 0
 IsHeartbeat (carried.Heartbeat time) = Unit {0}

@@ -11,7 +11,7 @@ use order_table::{RowChange, is_same};
 /// The server opened a new connection.
 pub struct Crossing;
 
-fn crossed(phase: Phase) -> Phase
+pub fn crossed(phase: Phase) -> Phase
     ensures { phase_of result ≡ crossed_of (phase_of phase) }
 {
     match phase {

@@ -1,10 +1,9 @@
 //! Single orders of a gateway's table.
-ghost use Rattle.std.specs.Prelude.{◌≡◌, OnOk, OnErr, IsSome};
+ghost use Rattle.std.specs.Prelude.{◌≡◌, [], ◌∷◌, if◌then◌else◌, IfOk, OnOk, OnErr, IsSome};
 ghost use Rattle.std.specs.Option.{option_copied};
 ghost use Rattle.mos_machines.specs.Tables.{KnownOrder, unknown_order, look, put_row};
-ghost use Rattle.order_table.specs.Rows.{find_row};
-ghost use Rattle.mos_machines.specs.Device.{is_in, got_phase};
-ghost use Rattle.gateway_core.specs.Gots.{got_known};
+ghost use Rattle.order_table.specs.Rows.{find_row, without_rows};
+ghost use Rattle.gateway_core.specs.Reads.{put_there};
 ghost use Rattle.gateway_core.specs.Parts.{phase_of, wanted_order, first_wanted_row};
 
 use crate::known::{Known, Phase, is_wanted};
@@ -55,6 +54,43 @@ pub fn know(orders: &mut OrderTable<Known>, ro: &Id) -> Result<(), NoMemory>
     }
 }
 
+// The same; says whether it had none.
+pub fn know_anew(orders: &mut OrderTable<Known>, ro: &Id) -> Result<bool, NoMemory>
+    ensures there { OnOk result (IsSome (find_row ro.now orders.new)) }
+    ensures value { OnOk result (look unknown_order orders.new ro.now ≡ look unknown_order orders.old ro.now) }
+    ensures row { OnOk result ((v : KnownOrder) → put_row ro.now v orders.new ≡ put_row ro.now v orders.old) }
+    ensures back { IfOk result (λ new. (if new then without_rows (ro.now ∷ []) orders.new else orders.new) ≡ orders.old) }
+    ensures err { OnErr result (orders.new ≡ orders.old) }
+{
+    orders.has_ascending_ids();
+    match orders.find(ro) {
+        Some(_) => Ok(false),
+        None => {
+            orders.put(ro, Known::unknown())?;
+            Ok(true)
+        }
+    }
+}
+
+// Takes the row of an order out again, where it is new. It takes no memory.
+pub fn forget(orders: &mut OrderTable<Known>, ro: &Id, new: bool)
+    ensures { orders.new ≡ (if new then without_rows (ro.now ∷ []) orders.old else orders.old) }
+{
+    if new {
+        orders.remove(ro);
+    }
+}
+
+// Says what is known of an order that has a row. It takes no memory.
+pub fn put_known(orders: &mut OrderTable<Known>, ro: &Id, known: Known)
+    requires { IsSome (find_row ro.now orders.old) }
+    ensures { orders.new ≡ put_row ro.now known orders.old }
+{
+    let mut value = known;
+    orders.exchange(ro, &mut value);
+    let_go(value);
+}
+
 // Says how an order stands that has a row, and whether it is wanted. What is held stays.
 pub fn mark(orders: &mut OrderTable<Known>, ro: &Id, phase: Phase, wanted: bool)
     requires { IsSome (find_row ro.now orders.old) }
@@ -66,6 +102,16 @@ pub fn mark(orders: &mut OrderTable<Known>, ro: &Id, phase: Phase, wanted: bool)
     known.wanted = wanted;
     orders.exchange(ro, &mut known);
     let_go(known);
+}
+
+// The same of an order that may have no row; it gets none.
+pub fn mark_there(orders: &mut OrderTable<Known>, ro: &Id, phase: Phase, wanted: bool)
+    ensures { orders.new ≡ put_there ro.now (record (look unknown_order orders.old ro.now) { phase = phase_of phase; wanted = wanted }) orders.old }
+{
+    match orders.find(ro) {
+        Some(_) => mark(orders, ro, phase, wanted),
+        None => {}
+    }
 }
 
 // Wants an order, unless it is asked for; one that is in step is out of step from then on. Only a new row takes memory.
@@ -90,22 +136,4 @@ pub fn first_wanted(rows: &[(Id, Known)]) -> Option<&Id>
         }
     }
     None
-}
-
-// Holds what came for an order that has a row; says whether the order is in step then. Without that it is wanted again.
-pub fn hold(orders: &mut OrderTable<Known>, ro: &Id, held: Option<Order>) -> bool
-    requires { IsSome (find_row ro.now orders.old) }
-    ensures row { orders.new ≡ put_row ro.now (got_known (look unknown_order orders.old ro.now) held) orders.old }
-    ensures in_step { result ≡ is_in (got_phase (look unknown_order orders.old ro.now).phase) }
-{
-    let phase = phase_in(orders, ro).once_listed();
-    let in_step = phase.is_in();
-    let mut known = Known {
-        held,
-        phase,
-        wanted: !in_step,
-    };
-    orders.exchange(ro, &mut known);
-    let_go(known);
-    in_step
 }

@@ -1,24 +1,29 @@
 //! What the gateway hears on the connection of the server.
-ghost use Rattle.std.specs.Prelude.{◌≡◌, ◌&&◌, OnOk, OnErr, IfOk, IsOk};
+ghost use Rattle.std.specs.Prelude.{◌≡◌, ◌&&◌, true, OnErr, IfOk, IsOk};
+ghost use Rattle.mos_edits.specs.Entries.{entry_of};
 ghost use Rattle.mos_machines.specs.Device.{would_arm as would_arm_of, is_in, is_some_order};
-ghost use Rattle.mos_machines.specs.Tables.{gate_of};
-ghost use Rattle.mos_machines.specs.Steps.{DeviceEvent, device_step};
-ghost use Rattle.mos_machines.specs.Values.{seen};
+ghost use Rattle.mos_machines.specs.Messages.{is_link as is_link_of};
+ghost use Rattle.mos_machines.specs.Steps.{DeviceEvent};
+ghost use Rattle.mos_machines.specs.Values.{edit_message, seen};
+ghost use Rattle.mos_values.specs.Sound.{IsSound};
 ghost use Rattle.machine_answers.specs.Answers.{heard_of};
-ghost use Rattle.machine_answers.specs.declared.answers.Heard.TheVariants as heard;
-ghost use Rattle.mos_values.specs.declared.message.Message.TheVariants as carried;
 ghost use Rattle.gateway_core.specs.Parts.{decks_of};
-ghost use Rattle.gateway_core.specs.Reads.{read_rows, read_ack, IsHeartbeat};
+ghost use Rattle.gateway_core.specs.State.{gate_of, LeavesGate};
+ghost use Rattle.gateway_core.specs.Events.{IsGateRead, IsGateStep};
+ghost use Rattle.gateway_core.specs.Reads.{IsHeartbeat};
 
 use crate::gate::{Gate, is_link};
 use crate::known::DeckState;
-use crate::reading::read_message;
+use crate::reading::read_edit;
+use crate::unread::refuse;
 use machine_answers::Heard;
+use mos_edits::{Edit, edit_in};
 use mos_fields::{Air, Id, NoMemory};
-use mos_values::Message;
+use mos_values::{Message, RoAck};
+use rundown_log::Keeper;
 
-impl Gate {
-    /// Reads a message of the server, and says what answers it.
+impl<K: Keeper> Gate<K> {
+    /// Reads a message of the server, and says what answers it. The message has to be sound.
     ///
     /// A heartbeat is answered by itself, and takes no memory. A whole order is held in step, a change of an order in step
     /// is applied, and NOT READY changes nothing: each is answered `OK`, but READY `NO DECK` where decks were handed in and
@@ -27,6 +32,10 @@ impl Gate {
     /// an order that is out of step, and each edit of one that is asked for, is answered `NOT IN STEP`. Any other message is
     /// answered `NOT SUPPORTED`.
     ///
+    /// What changes an order, or gives one whole, is kept before it is held, also where it leaves the order as it was.
+    /// `STORE FAULT` comes only where the keeper failed and counted that: the order is held as before, out of step and not
+    /// wanted, and the gateway is stopped. From then on each edit but NOT READY is answered `STOPPED`, before any other answer.
+    ///
     /// The only error is that memory runs out; the gateway then stays as it was.
     pub fn read_upper(
         &mut self,
@@ -34,9 +43,9 @@ impl Gate {
         m: &Message,
         decks: DeckState,
     ) -> Result<Heard, NoMemory>
-        ensures answer { IfOk result (λ h. h ≡ heard_of (device_step (gate_of self.old) (DeviceEvent.ReadUpper link (seen m.now) (decks_of decks))).0) }
-        ensures step { OnOk result (gate_of self.new ≡ (device_step (gate_of self.old) (DeviceEvent.ReadUpper link (seen m.now) (decks_of decks))).1) }
-        ensures err { OnErr result (self.new ≡ self.old) }
+        requires { IsSound m.now }
+        ensures step { IfOk result (IsGateStep K.appended heard_of self.old self.new (DeviceEvent.ReadUpper link (seen m.now) (decks_of decks))) }
+        ensures err { OnErr result (LeavesGate K.appended self.old self.new) }
         ensures heartbeat { IsHeartbeat m.now → IsOk result }
     {
         if !is_link(self.upper, link) {
@@ -44,20 +53,42 @@ impl Gate {
         }
         match m {
             Message::Heartbeat(time) => Ok(Heard::Say(Message::Heartbeat(*time))),
-            _ => self.read_other(m, decks),
+            _ => self.read_other(link, m, decks),
         }
     }
 
-    fn read_other(&mut self, m: &Message, decks: DeckState) -> Result<Heard, NoMemory>
-        ensures answer { IfOk result (λ h. h ≡ heard.Say (carried.RoAck (read_ack self.old.orders (decks_of decks) (seen m.now)))) }
-        ensures step { OnOk result (self.new ≡ record self.old { orders = read_rows self.old.orders (decks_of decks) (seen m.now) }) }
-        ensures err { OnErr result (self.new ≡ self.old) }
+    // A message on the current connection that isn't a heartbeat.
+    fn read_other(&mut self, link: u64, m: &Message, decks: DeckState) -> Result<Heard, NoMemory>
+        requires sound { IsSound m.now }
+        requires current { is_link_of (gate_of self.old).upper link ≡ true }
+        requires other { IsHeartbeat m.now → ⊥ }
+        ensures step { IfOk result (IsGateStep K.appended heard_of self.old self.new (DeviceEvent.ReadUpper link (seen m.now) (decks_of decks))) }
+        ensures err { OnErr result (LeavesGate K.appended self.old self.new) }
     {
-        let ack = read_message(self.orders.allocator(), &mut self.orders, m, decks)?;
-        Ok(Heard::Say(Message::RoAck(ack)))
+        match edit_in(m)? {
+            Some(edit) => {
+                let ack = self.read_edit(&edit, decks)?;
+                Ok(Heard::Say(Message::RoAck(ack)))
+            }
+            None => {
+                let ack = refuse(self.allocator(), m)?;
+                Ok(Heard::Say(Message::RoAck(ack)))
+            }
+        }
     }
 
-    /// Whether this message, read on this connection, is a READY of an order that is in step and held. It takes no memory.
+    // An edit on the current connection.
+    fn read_edit(&mut self, edit: &Edit, decks: DeckState) -> Result<RoAck, NoMemory>
+        requires { IsSound (edit_message edit.now) }
+        ensures ok { IfOk result (IsGateRead K.appended self.old self.new (decks_of decks) (entry_of edit.now)) }
+        ensures err { OnErr result (LeavesGate K.appended self.old self.new) }
+    {
+        self.orders.has_ascending_ids();
+        read_edit(&mut self.store, &mut self.orders, edit, decks)
+    }
+
+    /// Whether this message, read on this connection, is a READY of an order that is in step and held, and the gateway isn't
+    /// stopped. It takes no memory.
     pub fn would_arm(&self, link: u64, m: &Message) -> bool
         ensures { result ≡ would_arm_of (gate_of self.now) link (seen m.now) }
     {
@@ -65,7 +96,7 @@ impl Gate {
             Message::RoReadyToAir {
                 ro,
                 air: Air::Ready,
-            } => is_link(self.upper, link) && self.is_held_in_step(ro),
+            } => is_link(self.upper, link) && !self.is_stopped() && self.is_held_in_step(ro),
             _ => false,
         }
     }

@@ -1,5 +1,5 @@
 -- The answers of the code, and those of the machines' steps.
-use Rattle.mos_machines.specs.Messages.{Status as MachineStatus, Message, Packet, Step as MachineStep}
+use Rattle.mos_machines.specs.Messages.{Status as MachineStatus, Message, Step as MachineStep}
 use Rattle.mos_machines.specs.Messages.Step.{Taken as TakenStep, Unasked as UnaskedStep}
 use Rattle.mos_machines.specs.Messages.Message.{RoReq, RoReqAll}
 use Rattle.mos_edits.specs.KeyedLists.ActFault.{Missing, AlreadyThere}

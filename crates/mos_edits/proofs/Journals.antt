@@ -64,11 +64,11 @@ pub record Grows (old new : List Kind) : Type 0 where
 pub grows_push : (xs : List Kind) (x : Kind) → Grows xs (xs ++ x ∷ [])
 grows_push xs x = record { longer = omega (arith, length-append xs (x ∷ [])); same_id = kind-left xs x }
 
-abbrev last_if : Bool → Edit → List Edit
+abbrev pub last_if : Bool → Edit → List Edit
 last_if true c = c ∷ []
 last_if false c = []
 
-entries_push : (journal : List Entry) (e : Entry) (r : Text) → entries r (journal ++ e ∷ []) ≡ entries r journal ++ last_if (same_id r e.ro) e.edit
+pub entries_push : (journal : List Entry) (e : Entry) (r : Text) → entries r (journal ++ e ∷ []) ≡ entries r journal ++ last_if (same_id r e.ro) e.edit
 entries_push [] e r = one (same_id r e.ro)
   where
     one : (b : Bool) → (if b then e.edit ∷ [] else []) ≡ last_if b e.edit

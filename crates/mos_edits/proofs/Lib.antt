@@ -9,4 +9,5 @@ pub mod Before
 pub mod Rows
 pub mod Standing
 pub mod Lacking
+pub mod Keeping
 mod Examples

@@ -8,3 +8,4 @@ pub mod Distinct
 pub mod Sizes
 pub mod Entries
 pub mod Carried
+pub mod Kept

@@ -82,6 +82,9 @@ gate-put g r v = λ i. record {
   held = λ q. row-part (λ k. k.held) g.orders r v q i;
   phase = λ q. row-part (λ k. k.phase) g.orders r v q i;
   wanted = λ q. row-part (λ k. k.wanted) g.orders r v q i;
+  stopped = g.stopped;
+  faults = g.faults;
+  kept = g.kept;
 }
 
 -- a view of a device written anew
@@ -105,7 +108,7 @@ pub peer-cut : (p : PeerTables) → peer_of (record { upper = Down; note = false
 peer-cut p = refl
 
 -- a new connection of the server
-pub gate-accepted : (c : ℕ) (g : GateTables) → gate_of (record { upper = Some c; link = g.link; out = g.out; want_all = true; confirm = NotDue; note = g.note; orders = map_rows (λ r. crossed_order) g.orders }) ≡ gate_accepted c (gate_of g)
+pub gate-accepted : (c : ℕ) (g : GateTables) → gate_of (record { upper = Some c; link = g.link; out = g.out; want_all = true; confirm = NotDue; note = g.note; orders = map_rows (λ r. crossed_order) g.orders; stopped = g.stopped; faults = g.faults; kept = g.kept }) ≡ gate_accepted c (gate_of g)
 gate-accepted c g =
     let m = look-map (λ r. crossed_order) unknown_order unknown_order g.orders (λ r. refl) in
     λ i. record {
@@ -119,6 +122,9 @@ gate-accepted c g =
       held = λ q. (m i q).held;
       phase = λ q. (m i q).phase;
       wanted = λ q. (m i q).wanted;
+      stopped = g.stopped;
+      faults = g.faults;
+      kept = g.kept;
     }
 
 -- the device's own connection dropped: an order that it asks for is one that it knows
@@ -144,7 +150,7 @@ dropped-at out confirm (x ∷ xs) q h = go (same_id q x.0) refl (dropped-at out 
     go false s i h = i h
 
 pub gate-dropped : (g : GateTables) → ((r : Text) → is_for r g.out ≡ true → has_row g.orders r ≡ true)
-    → gate_of (record { upper = g.upper; link = None; out = NotAsking; want_all = g.want_all || is_all g.out; confirm = NotDue; note = false; orders = map_rows (dropped_order g.out g.confirm) g.orders }) ≡ gate_dropped (gate_of g)
+    → gate_of (record { upper = g.upper; link = None; out = NotAsking; want_all = g.want_all || is_all g.out; confirm = NotDue; note = false; orders = map_rows (dropped_order g.out g.confirm) g.orders; stopped = g.stopped; faults = g.faults; kept = g.kept }) ≡ gate_dropped (gate_of g)
 gate-dropped g h = λ i. record {
   upper = g.upper;
   link = None;
@@ -156,4 +162,7 @@ gate-dropped g h = λ i. record {
   held = λ q. (dropped-at g.out g.confirm g.orders q (h q) i).held;
   phase = λ q. (dropped-at g.out g.confirm g.orders q (h q) i).phase;
   wanted = λ q. (dropped-at g.out g.confirm g.orders q (h q) i).wanted;
+  stopped = g.stopped;
+  faults = g.faults;
+  kept = g.kept;
 }

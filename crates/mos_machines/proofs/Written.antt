@@ -1,5 +1,5 @@
 -- What one machine writes is what the other reads.
-use Rattle.std.proofs.Common.{◌≡◌, ℕ, ◌+◌, ◌-◌, ◌&&◌, ◌==◌, arith, List, [], ◌∷◌, Bool, true, false, Option, Some, None, refl, if◌then◌else◌, sym, ap, ◌∙◌, subst}
+use Rattle.std.proofs.Common.{◌≡◌, not, ℕ, ◌+◌, ◌-◌, ◌&&◌, ◌==◌, arith, List, [], ◌∷◌, Bool, true, false, Option, Some, None, refl, if◌then◌else◌, sym, ap, ◌∙◌, subst}
 use Rattle.mos_edits.specs.Texts.{Text, same_id, set_order}
 use Rattle.mos_edits.specs.KeyedLists.{Applied}
 use Rattle.mos_edits.specs.KeyedLists.Applied.{Done, Fault}
@@ -24,9 +24,10 @@ use Rattle.mos_machines.specs.Server.View.{Listed, In}
 use Rattle.mos_machines.specs.Views.{IsViewWithin, IsPeerWithin}
 use Rattle.mos_machines.proofs.Least.{due_ok}
 use Rattle.mos_machines.proofs.Views.{IsDue, due-next}
+use Rattle.mos_machines.specs.Device.Append.{NotAppended, Appended, AppendFailed}
 use Rattle.mos_machines.specs.Device.Phase.{InStep, OutOfStep, Asked, Crossed}
 use Rattle.mos_machines.specs.Device.Confirmation.{NotDue, Due, Unanswered}
-use Rattle.mos_machines.specs.Device.{Phase, Confirmation, read_by, asked_next, next_if, gate_next, first_wanted, GateState, GateOut, Decks, is_no_order, got_order, got_refusal, gate_unasked, got_by, gate_got, gate_read}
+use Rattle.mos_machines.specs.Device.{Phase, Confirmation, Append, ReadResult, unkept, read_kept, read_edit, unless_stopped, read_by, asked_next, next_if, gate_next, first_wanted, GateState, GateOut, Decks, is_no_order, got_kept, got_refusal, gate_unasked, got_by, gate_got, gate_read}
 use Rattle.mos_machines.specs.Device.GateOut.{NotAsking, AsksFor, AsksAll, AsksBeat}
 use Rattle.mos_machines.specs.Messages.Step.{Taken}
 use Rattle.mos_machines.specs.Values.{seen, edit_message, message_of, IsWrittenStatus, IsWritten, reread}
@@ -114,33 +115,33 @@ heard-reread journal s (RoElementStat ro) h = refl
 heard-reread journal s (OtherMessage ro) h = refl
 
 -- the device
-pub read-reread : (g : GateState) (decks : Decks) (m : Message) → IsWritten m → gate_read g decks (reread m) ≡ gate_read g decks m
-read-reread g decks (RoAck q t) h = refl
-read-reread g decks (Heartbeat time) h = refl
-read-reread g decks (RoEdit e) h = refl
-read-reread g decks (RoReq ro) h = refl
-read-reread g decks RoReqAll h = refl
-read-reread g decks (RoList ro order) h = refl
-read-reread g decks (RoListAll headers) h = refl
-read-reread g decks (RoElementStat ro) h = refl
-read-reread g decks (OtherMessage ro) h = refl
+pub read-reread : (g : GateState) (decks : Decks) (fails : Bool) (m : Message) → IsWritten m → gate_read g decks fails (reread m) ≡ gate_read g decks fails m
+read-reread g decks fails (RoAck q t) h = refl
+read-reread g decks fails (Heartbeat time) h = refl
+read-reread g decks fails (RoEdit e) h = refl
+read-reread g decks fails (RoReq ro) h = refl
+read-reread g decks fails RoReqAll h = refl
+read-reread g decks fails (RoList ro order) h = refl
+read-reread g decks fails (RoListAll headers) h = refl
+read-reread g decks fails (RoElementStat ro) h = refl
+read-reread g decks fails (OtherMessage ro) h = refl
 
-ack-got : (g : GateState) (o : GateOut) (q : Text) (a b : Status) → is_no_order a ≡ is_no_order b → got_by g o (RoAck q a) ≡ got_by g o (RoAck q b)
-ack-got g NotAsking q a b h = refl
-ack-got g AsksAll q a b h = refl
-ack-got g AsksBeat q a b h = refl
-ack-got g (AsksFor r) q a b h = ap (λ (n : Bool). if same_id q r then (if n then (got_order g r None, Taken) else (got_refusal g r, Taken)) else gate_unasked g) h
+ack-got : (g : GateState) (fails : Bool) (o : GateOut) (q : Text) (a b : Status) → is_no_order a ≡ is_no_order b → got_by g fails o (RoAck q a) ≡ got_by g fails o (RoAck q b)
+ack-got g fails NotAsking q a b h = refl
+ack-got g fails AsksAll q a b h = refl
+ack-got g fails AsksBeat q a b h = refl
+ack-got g fails (AsksFor r) q a b h = ap (λ (n : Bool). if same_id q r then (if n then (got_kept g.stopped fails g r None, Taken) else (got_refusal g r, Taken)) else gate_unasked g) h
 
-pub got-reread : (g : GateState) (m : Message) → IsWritten m → gate_got g (reread m) ≡ gate_got g m
-got-reread g (RoAck q t) h = ack-got g g.out q (read_status (status_text t)) t (no_order-reread t h)
-got-reread g (Heartbeat time) h = refl
-got-reread g (RoEdit e) h = refl
-got-reread g (RoReq ro) h = refl
-got-reread g RoReqAll h = refl
-got-reread g (RoList ro order) h = refl
-got-reread g (RoListAll headers) h = refl
-got-reread g (RoElementStat ro) h = refl
-got-reread g (OtherMessage ro) h = refl
+pub got-reread : (g : GateState) (fails : Bool) (m : Message) → IsWritten m → gate_got g fails (reread m) ≡ gate_got g fails m
+got-reread g fails (RoAck q t) h = ack-got g fails g.out q (read_status (status_text t)) t (no_order-reread t h)
+got-reread g fails (Heartbeat time) h = refl
+got-reread g fails (RoEdit e) h = refl
+got-reread g fails (RoReq ro) h = refl
+got-reread g fails RoReqAll h = refl
+got-reread g fails (RoList ro order) h = refl
+got-reread g fails (RoListAll headers) h = refl
+got-reread g fails (RoElementStat ro) h = refl
+got-reread g fails (OtherMessage ro) h = refl
 
 -- What the machines write.
 list-written : (r : Text) (m : ℕ) (o : Option Order) → IsNamed r o → IsWritten (list_of r m o).message
@@ -215,10 +216,23 @@ status-written InStep IsReady decks held wanted e (Done o) = by (decks.handed &&
     by true = tt
     by false = tt
 
-pub read-written : (g : GateState) (decks : Decks) (m : Message) → IsWritten (gate_read g decks m).1
-read-written g decks (Heartbeat time) = tt
-read-written g decks (RoEdit e) = status-written (g.phase e.ro) (kind e.edit) decks (g.held e.ro) (g.wanted e.ro) e.edit (apply e.ro (g.held e.ro) e.edit)
-read-written g decks m = tt
+kept-written : (stopped fails : Bool) (kd : Kind) (phase : Phase) (held : Option Order) (wanted : Bool) (x : ReadResult) → IsWrittenStatus x.status → IsWrittenStatus (read_kept stopped fails kd phase held wanted x).status
+kept-written true fails IsWhole phase held wanted x h = tt
+kept-written true fails IsAction phase held wanted x h = tt
+kept-written true fails IsReady phase held wanted x h = tt
+kept-written true fails IsNotReady phase held wanted x h = h
+kept-written false fails kd phase held wanted x h = by fails x.append
+  where
+    by : (b : Bool) (a : Append) → IsWrittenStatus (unkept held b x a).status
+    by true Appended = tt
+    by true NotAppended = h
+    by true AppendFailed = h
+    by false a = h
+
+pub read-written : (g : GateState) (decks : Decks) (fails : Bool) (m : Message) → IsWritten (gate_read g decks fails m).1
+read-written g decks fails (Heartbeat time) = tt
+read-written g decks fails (RoEdit e) = kept-written g.stopped fails (kind e.edit) (g.phase e.ro) (g.held e.ro) (g.wanted e.ro) (read_edit (g.phase e.ro) decks (g.held e.ro) (g.wanted e.ro) e) (status-written (g.phase e.ro) (kind e.edit) decks (g.held e.ro) (g.wanted e.ro) e.edit (apply e.ro (g.held e.ro) e.edit))
+read-written g decks fails m = tt
 
 asked-written : (now : MosTime) (g : GateState) (c : Confirmation) (all : Bool) (want : Option Text) (note : Bool) (m : Message) → (asked_next now g c all want note).1 ≡ Some m → IsWritten m
 asked-written now g (Due r) all want note m h = subst (λ (x : Message). IsWritten x) (let i : Heartbeat now ≡ m = cc in i) tt
@@ -236,7 +250,7 @@ ask-written now g m h = go g.link g.out h
   where
     go : (l : Option ℕ) (o : GateOut) → (next_if now g l o).1 ≡ Some m → IsWritten m
     go None o h = absurd (cc)
-    go (Some c) NotAsking h = asked-written now g g.confirm g.want_all (first_wanted g.wanted g.known) g.note m h
+    go (Some c) NotAsking h = asked-written now g g.confirm (g.want_all && not g.stopped) (unless_stopped g.stopped (first_wanted g.wanted g.known)) g.note m h
     go (Some c) (AsksFor r) h = absurd (cc)
     go (Some c) AsksAll h = absurd (cc)
     go (Some c) AsksBeat h = absurd (cc)

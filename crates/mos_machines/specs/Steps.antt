@@ -10,7 +10,7 @@ use Rattle.mos_machines.specs.Messages.Message.{RoEdit, RoAck}
 use Rattle.mos_machines.specs.Messages.Step.{Taken}
 use Rattle.mos_machines.specs.Server.{PeerState, no_peer, upper_link, peer_opened, peer_cut, peer_answered, peer_next, peer_beat, peer_linked, peer_hear, peer_given, Verdict, verdict}
 use Rattle.mos_machines.specs.Server.Verdict.{Takes, Fails, Refuses}
-use Rattle.mos_machines.specs.Device.{GateState, Phase, no_gate, Decks, gate_accepted, gate_left, gate_read, gate_dropped, gate_opened, gate_next, gate_got, gate_want, gate_beat}
+use Rattle.mos_machines.specs.Device.{GateState, Phase, gate_restarted, Decks, gate_accepted, gate_left, gate_read, gate_dropped, gate_opened, gate_next, gate_got, gate_want, gate_beat}
 use Rattle.mos_fields.specs.declared.time.MosTime.{MosTime}
 
 -- `faults` is the keeper's fault count; `stopped` says that an append of this run failed.
@@ -110,7 +110,7 @@ pub data DeviceEvent : Type 0 where
   ReadAnswer : (link : ℕ) (message : Message) → DeviceEvent
   Want : (ro : Text) → DeviceEvent
   GateBeat : DeviceEvent
-  Restart : DeviceEvent
+  Restart : (loaded : List Entry) → DeviceEvent
 
 abbrev pub gate_says : GateState × Message → StepAnswer × GateState
 gate_says (g, m) = (Say (untagged m), g)
@@ -127,24 +127,34 @@ asked_on false g x = (g, None)
 abbrev pub gate_stepped : GateState × Step → StepAnswer × GateState
 gate_stepped (g, step) = (Stepped step, g)
 
--- one event of the device, with its answer; the device has no choice
-abbrev pub device_step : GateState → DeviceEvent → StepAnswer × GateState
-device_step g (UpperAccepted c) = (Silent, gate_accepted c g)
-device_step g (UpperLeft c) = unless_stale (is_link g.upper c) g (Stepped Taken, gate_left g)
-device_step g (ReadUpper c m decks) = unless_stale (is_link g.upper c) g (gate_says (gate_read g decks m))
-device_step g (DeviceOpened c) = (Silent, gate_opened c g)
-device_step g (GateDropped c) = unless_stale (is_link g.link c) g (Stepped Taken, gate_dropped g)
-device_step g (NextAsk c now) = gate_sent (asked_on (is_link g.link c) g (gate_next now g))
-device_step g (ReadAnswer c m) = unless_stale (is_link g.link c) g (gate_stepped (gate_got g m))
-device_step g (Want r) = (Silent, gate_want r g)
-device_step g GateBeat = (Silent, gate_beat g)
-device_step g Restart = (Silent, no_gate)
+-- one event of the device, with its answer; whether the keeper's append fails is told to it
+abbrev pub device_step : Bool → GateState → DeviceEvent → StepAnswer × GateState
+device_step fails g (UpperAccepted c) = (Silent, gate_accepted c g)
+device_step fails g (UpperLeft c) = unless_stale (is_link g.upper c) g (Stepped Taken, gate_left g)
+device_step fails g (ReadUpper c m decks) = unless_stale (is_link g.upper c) g (gate_says (gate_read g decks fails m))
+device_step fails g (DeviceOpened c) = (Silent, gate_opened c g)
+device_step fails g (GateDropped c) = unless_stale (is_link g.link c) g (Stepped Taken, gate_dropped g)
+device_step fails g (NextAsk c now) = gate_sent (asked_on (is_link g.link c) g (gate_next now g))
+device_step fails g (ReadAnswer c m) = unless_stale (is_link g.link c) g (gate_stepped (gate_got g fails m))
+device_step fails g (Want r) = (Silent, gate_want r g)
+device_step fails g GateBeat = (Silent, gate_beat g)
+device_step fails g (Restart loaded) = (Silent, gate_restarted loaded)
 
--- an event of the device with its answer and the state after it
-abbrev pub DeviceStep : GateState → DeviceEvent → StepAnswer → GateState → Type 0
-DeviceStep g e a h = ((device_step g e).0 ≡ a) × ((device_step g e).1 ≡ h)
+-- An event of the device with its answer and the state after it. The keeper's fault count never falls, and an append
+-- fails only where it rose, or stands at its last value.
+pub record DeviceStep (g : GateState) (e : DeviceEvent) (a : StepAnswer) (h : GateState) : Type 0 where
+  pub fails : Bool
+  pub answer : (device_step fails g e).0 ≡ a
+  pub next : record (device_step fails g e).1 { faults = h.faults } ≡ h
+  pub count : g.faults ≤ h.faults
+  pub rose : fails ≡ true → HasRisen g.faults h.faults
 
--- an edit that the device reads on this link is answered so, and leaves the order so
+-- an edit that the device reads on this link is answered so, and leaves the order so, where its append fails or not
+abbrev pub ReadsAs : Bool → GateState → ℕ → Entry → Decks → Status → Option Order → Phase → Type 0
+ReadsAs fails g c e decks status held phase =
+    ((device_step fails g (ReadUpper c (RoEdit e) decks)).0 ≡ Say (untagged (RoAck e.ro status))) × ((device_step fails g (ReadUpper c (RoEdit e) decks)).1.held e.ro ≡ held) × ((device_step fails g (ReadUpper c (RoEdit e) decks)).1.phase e.ro ≡ phase)
+
+-- an edit that the device reads on this link is answered so, and leaves the order so, where its append doesn't fail
 abbrev pub ReadsTo : GateState → ℕ → Entry → Decks → Status → Option Order → Phase → Type 0
 ReadsTo g c e decks status held phase =
-    ((device_step g (ReadUpper c (RoEdit e) decks)).0 ≡ Say (untagged (RoAck e.ro status))) × ((device_step g (ReadUpper c (RoEdit e) decks)).1.held e.ro ≡ held) × ((device_step g (ReadUpper c (RoEdit e) decks)).1.phase e.ro ≡ phase)
+    ((device_step false g (ReadUpper c (RoEdit e) decks)).0 ≡ Say (untagged (RoAck e.ro status))) × ((device_step false g (ReadUpper c (RoEdit e) decks)).1.held e.ro ≡ held) × ((device_step false g (ReadUpper c (RoEdit e) decks)).1.phase e.ro ≡ phase)

@@ -36,6 +36,9 @@ pub record GateTables : Type 0 where
   pub confirm : Confirmation
   pub note : Bool
   pub orders : List (Text × KnownOrder)
+  pub stopped : Bool
+  pub faults : ℕ
+  pub kept : List Entry
 
 -- the device's state
 abbrev pub gate_of : GateTables → GateState
@@ -50,6 +53,9 @@ gate_of g = record {
   held = λ r. (look unknown_order g.orders r).held;
   phase = λ r. (look unknown_order g.orders r).phase;
   wanted = λ r. (look unknown_order g.orders r).wanted;
+  stopped = g.stopped;
+  faults = g.faults;
+  kept = g.kept;
 }
 
 -- what the server keeps for a device

@@ -1,6 +1,5 @@
 -- The messages of the machines and the values of mos_values that carry them.
 use Rattle.std.specs.Prelude.{◌≡◌, []}
-use Rattle.mos_edits.specs.Texts.{Text}
 use Rattle.mos_edits.specs.Entries.{entry_of, IsEntry}
 use Rattle.mos_machines.specs.Messages.{Status, status_text, read_status, Message}
 use Rattle.mos_machines.specs.Messages.Status.{OtherStatus}

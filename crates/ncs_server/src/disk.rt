@@ -17,7 +17,7 @@ fn disk_at(rt: &HostRuntime, path: &str, why: &mut Why) -> Result<FileDisk, Prog
     match FileDisk::open(rt, path) {
         Ok(disk) => Ok(disk),
         Err(FileFault::Taken) => {
-            why.tell(taken_line(rt.alloc(), path));
+            why.tell(taken_line(rt.alloc(), FileOf::Log, path));
             Err(ProgramEnd::NoFile(FileOf::Log))
         }
         Err(FileFault::Unopened { kind }) => {

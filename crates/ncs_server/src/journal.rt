@@ -5,9 +5,9 @@ ghost use Rattle.program_ends.specs.declared.program_end.FileOf.TheVariants.{Log
 
 use end_settings::ServerSettings;
 use file_keeper::FileKeeper;
-use program_ends::{FileOf, ProgramEnd, Why, path_of, taken_line};
+use program_ends::{FileOf, ProgramEnd, Why, lock_file, path_of};
 use rundown_log::KeepFault;
-use std::fs::{File, OpenOptions, TryLockError};
+use std::fs::File;
 
 /// The keeper of the journal.
 pub(crate) fn keeper_of(
@@ -19,41 +19,10 @@ pub(crate) fn keeper_of(
     let Ok(path) = path_of(rt.alloc(), &settings.log) else {
         return Err(ProgramEnd::NoMemory);
     };
-    match FileKeeper::open(rt, path.as_str()) {
+    match FileKeeper::open(rt, "log", path.as_str()) {
         Ok(keeper) => Ok(keeper),
         Err(KeepFault::NoMemory) => Err(ProgramEnd::NoMemory),
         Err(KeepFault::Failed) => Err(ProgramEnd::NoFile(FileOf::Log)),
-    }
-}
-
-// The journal's file, which is made where there is none.
-fn opened(rt: &HostRuntime, path: &str, why: &mut Why) -> Result<File, ProgramEnd>
-    ensures { IfErr result (λ end. IsNoFile Log end) }
-{
-    let opened = OpenOptions::new()
-        .read(true)
-        .append(true)
-        .create(true)
-        .open(rt, path);
-    match opened {
-        Ok(file) => Ok(file),
-        Err(fault) => {
-            why.tell_file(rt.alloc(), FileOf::Log, path, fault.kind());
-            Err(ProgramEnd::NoFile(FileOf::Log))
-        }
-    }
-}
-
-// The file with a lock on it, where its file system has locks.
-fn locked(rt: &HostRuntime, path: &str, file: File, why: &mut Why) -> Result<File, ProgramEnd>
-    ensures { IfErr result (λ end. IsNoFile Log end) }
-{
-    match file.try_lock() {
-        Err(TryLockError::WouldBlock) => {
-            why.tell(taken_line(rt.alloc(), path));
-            Err(ProgramEnd::NoFile(FileOf::Log))
-        }
-        Ok(()) | Err(TryLockError::Error(_)) => Ok(file),
     }
 }
 
@@ -68,8 +37,5 @@ pub(crate) fn lock_of(
     let Ok(path) = path_of(rt.alloc(), &settings.log) else {
         return Err(ProgramEnd::NoMemory);
     };
-    match opened(rt, path.as_str(), why) {
-        Ok(file) => locked(rt, path.as_str(), file, why),
-        Err(end) => Err(end),
-    }
+    lock_file(rt, FileOf::Log, path.as_str(), why)
 }

@@ -3,11 +3,12 @@ use crate::texts::{id_of, message_in, text_of};
 use crate::turns::{Place, event_of, said};
 use deck_nodes::GateNode;
 use deck_rack::{Deck, MemDeck, Rack};
-use gateway_core::Gate;
+use gateway_core::{Gate, GateFault};
 use mos_fields::{Id, NoMemory, let_go, pair_ok};
 use mos_values::{Boxed, MachInfo, Message, Unreads};
 use object_table::ObjectTable;
 use port_events::{PortAnswer, PortEvent, SoundMessage};
+use rundown_log::MemKeeper;
 use running_order::Order;
 use std::alloc::Global;
 use std::test::Fail;
@@ -15,7 +16,7 @@ use std::test::Fail;
 /// A gateway, and its deck in a rack.
 #[derive(Drop)]
 pub struct Gateway {
-    node: GateNode,
+    node: GateNode<MemKeeper>,
     rack: Rack<MemDeck>,
 }
 
@@ -88,15 +89,66 @@ fn objects_of(alloc: Global, lines: &str) -> Result<ObjectTable, NoMemory> {
     }
 }
 
-/// A gateway of this name that holds no order, with a deck and with these objects, a mosObj in each line.
-pub fn new_gateway(alloc: Global, name: &str, objects: &str) -> Result<Gateway, NoMemory> {
+// The gateway of this gate, with a new deck for the items of this device, which is loaded with what the gate holds.
+fn gateway_of(
+    alloc: Global,
+    name: &str,
+    gate: Gate<MemKeeper>,
+    objects: &str,
+) -> Result<Gateway, NoMemory> {
     let (rack, objects) = pair_ok(new_rack(alloc, name), objects_of(alloc, objects))?;
-    let node = GateNode::new(alloc, Gate::new(alloc), &rack, objects, info(alloc));
+    let mut rack = rack;
+    let node = GateNode::new(alloc, gate, &mut rack, objects, info(alloc));
     Ok(Gateway { node, rack })
 }
 
+/// A gateway of this name that holds no order, with a deck and with these objects, a mosObj in each line.
+pub fn new_gateway(alloc: Global, name: &str, objects: &str) -> Result<Gateway, NoMemory> {
+    gateway_of(alloc, name, Gate::new(alloc), objects)
+}
+
+// The gate that was started, or none.
+fn started(
+    gate: Result<Gate<MemKeeper>, GateFault<MemKeeper>>,
+) -> Result<Gate<MemKeeper>, NoMemory> {
+    match gate {
+        Ok(gate) => Ok(gate),
+        Err(fault) => {
+            let_go(fault);
+            Err(NoMemory)
+        }
+    }
+}
+
+/// A gateway of this name without objects, the append of this number to whose keeper fails; its entry is kept exactly where
+/// `stands`.
+pub fn weak_gateway(
+    alloc: Global,
+    name: &str,
+    fails: u64,
+    stands: bool,
+) -> Result<Gateway, NoMemory> {
+    let mut listed = Vec::new(alloc);
+    listed.push(fails)?;
+    let gate = started(Gate::start(alloc, MemKeeper::new(alloc, listed, stands)))?;
+    gateway_of(alloc, name, gate, "")
+}
+
+/// The gateway after a new start with what its keeper kept, with a new deck and these objects.
+pub fn restarted(
+    alloc: Global,
+    name: &str,
+    gateway: Gateway,
+    objects: &str,
+) -> Result<Gateway, NoMemory> {
+    let Gateway { node, rack } = gateway;
+    let_go(rack);
+    let gate = started(node.into_gate().restart())?;
+    gateway_of(alloc, name, gate, objects)
+}
+
 fn take<D: Deck>(
-    node: &mut GateNode,
+    node: &mut GateNode<MemKeeper>,
     rack: &mut Rack<D>,
     event: &PortEvent,
 ) -> Result<PortAnswer, NoMemory> {

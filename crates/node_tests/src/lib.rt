@@ -23,6 +23,8 @@ mod scripts;
 #[cfg(test)]
 mod servers;
 #[cfg(test)]
+mod stores;
+#[cfg(test)]
 mod texts;
 #[cfg(test)]
 mod turns;

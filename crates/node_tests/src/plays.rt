@@ -1,5 +1,5 @@
 //! Plays of a server and the gateways of two devices.
-use crate::gateways::{Gateway, decks_say, gateway_holds, gateway_says, new_gateway};
+use crate::gateways::{Gateway, decks_say, gateway_holds, gateway_says, new_gateway, restarted};
 use crate::servers::{Server, new_server, restart_server, server_says};
 use crate::turns::place_of;
 use crate::words::meaning;
@@ -108,10 +108,11 @@ pub fn restart(alloc: Global, world: &mut World) -> Result<(), NoMemory> {
     restart_server(alloc, &mut world.server)
 }
 
-/// The gateway of dev1 starts anew, with its objects.
+/// The gateway of dev1 starts anew, with its objects and with what its keeper kept.
 pub fn restart_first(alloc: Global, world: &mut World) -> Result<(), NoMemory> {
     let gateway = new_gateway(alloc, "dev1", FIRST)?;
-    let_go(replace(&mut world.first, gateway));
+    let former = replace(&mut world.first, gateway);
+    let_go(replace(&mut world.first, restarted(alloc, "dev1", former, FIRST)?));
     Ok(())
 }
 

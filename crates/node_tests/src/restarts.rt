@@ -1,4 +1,4 @@
-//! Ends that start anew: a gateway that forgot all, and a server that kept its journal.
+//! Ends that start anew: a gateway that kept its orders, and a server that kept its journal.
 use crate::plays::{World, first_other, new_world, restart, restart_first};
 use mos_fields::let_go;
 use std::alloc::Global;
@@ -62,9 +62,11 @@ a-u1 hear ^ = @R1 OK
 s0u1 back ^ = taken
 a-u1 decks = 1=O1 2=O2 !;"#;
 
-/// While the gateway is away, the order is changed and released again. It asks for all orders and for the one that there is, which
-/// is the newest; once it has confirmed the list it is sent the READY, and none of the entries before that.
-const FORGOT: &str = r#"a-u1 decks = ;
+/// The gateway has its order at once, and its deck the playlist, which isn't armed. While it was away, the order is changed and
+/// released again. It asks for all orders and for the one that there is, which is the newest; once it has confirmed the list it is
+/// sent the READY, and none of the entries before that.
+const HELD: &str = r#"a-u1 decks = 1=O1 2=O2 ;
+a-u1 holds = <roList><roID>R1</roID><roSlug>News</roSlug><story><storyID>A</storyID><item><itemID>1</itemID><objID>O1</objID><mosID>dev1</mosID></item></story><story><storyID>B</storyID><item><itemID>2</itemID><objID>O2</objID><mosID>dev1</mosID></item></story></roList>
 a-u1 hear <roReadyToAir><roID>R1</roID><roAir>READY</roAir></roReadyToAir> = stale
 s0u1 cut = taken
 s-e0 hear <roElementAction operation="SWAP"><roID>R1</roID><element_source><storyID>A</storyID><storyID>B</storyID></element_source></roElementAction> = @R1 OK
@@ -95,8 +97,8 @@ s0u3 next = nothing
 a-u4 next = nothing"#;
 
 #[test]
-fn a_gateway_that_starts_anew_asks_for_all(rt: HostRuntime) -> Result<(), Fail> {
-    assert_eq!(rt; played(rt.alloc(), RELEASED, End::FirstGateway, FORGOT)?, 0);
+fn a_gateway_that_starts_anew_has_its_orders_and_asks_for_all(rt: HostRuntime) -> Result<(), Fail> {
+    assert_eq!(rt; played(rt.alloc(), RELEASED, End::FirstGateway, HELD)?, 0);
     Ok(())
 }
 

@@ -4,7 +4,6 @@ use Rattle.end_settings.specs.declared.fault.SettingsFault.{SettingsFault}
 use Rattle.end_settings.specs.declared.fault.SettingsFault.TheVariants as settings
 use Rattle.object_reading.specs.declared.fault.ObjectsFault.{ObjectsFault}
 use Rattle.object_reading.specs.declared.fault.ObjectsFault.TheVariants as objects
-use Rattle.serve_ends.specs.Ends.{IsGateEnd}
 use Rattle.serve_ends.specs.declared.serve_end.ServeEnd.{ServeEnd}
 use Rattle.serve_ends.specs.declared.serve_end.ServeEnd.TheVariants as serving
 use Rattle.program_ends.specs.Ends.{end_of_settings, end_of_objects, end_of_serving, IsNoFile, IsNoSettings, IsNoObjects, IsServerRunEnd, IsGateRunEnd}
@@ -37,6 +36,7 @@ pub server_settings : (end : ProgramEnd) → IsNoSettings end → IsServerRunEnd
 server_settings ends.Closed lacks = tt
 server_settings ends.Usage lacks = absurd lacks
 server_settings (ends.NoFile files.Settings) lacks = tt
+server_settings (ends.NoFile files.Store) lacks = absurd lacks
 server_settings (ends.NoFile files.Log) lacks = tt
 server_settings (ends.NoFile files.Objects) lacks = absurd lacks
 server_settings (ends.NoPort port) lacks = tt
@@ -66,14 +66,15 @@ pub gate_settings : (end : ProgramEnd) → IsNoSettings end → IsGateRunEnd end
 gate_settings ends.Closed lacks = tt
 gate_settings ends.Usage lacks = absurd lacks
 gate_settings (ends.NoFile files.Settings) lacks = tt
+gate_settings (ends.NoFile files.Store) lacks = absurd lacks
 gate_settings (ends.NoFile files.Log) lacks = absurd lacks
 gate_settings (ends.NoFile files.Objects) lacks = tt
 gate_settings (ends.NoPort port) lacks = tt
 gate_settings (ends.BadSettings fault) lacks = tt
 gate_settings ends.ListenFault lacks = tt
 gate_settings ends.NoWorker lacks = tt
-gate_settings ends.StoreFault lacks = absurd lacks
-gate_settings (ends.BadEntry number) lacks = absurd lacks
+gate_settings ends.StoreFault lacks = tt
+gate_settings (ends.BadEntry number) lacks = tt
 gate_settings ends.NoMemory lacks = tt
 gate_settings (ends.BadObjects fault) lacks = tt
 
@@ -81,21 +82,26 @@ pub gate_objects : (end : ProgramEnd) → IsNoObjects end → IsGateRunEnd end
 gate_objects ends.Closed lacks = tt
 gate_objects ends.Usage lacks = absurd lacks
 gate_objects (ends.NoFile files.Settings) lacks = tt
+gate_objects (ends.NoFile files.Store) lacks = absurd lacks
 gate_objects (ends.NoFile files.Log) lacks = absurd lacks
 gate_objects (ends.NoFile files.Objects) lacks = tt
 gate_objects (ends.NoPort port) lacks = tt
 gate_objects (ends.BadSettings fault) lacks = tt
 gate_objects ends.ListenFault lacks = tt
 gate_objects ends.NoWorker lacks = tt
-gate_objects ends.StoreFault lacks = absurd lacks
-gate_objects (ends.BadEntry number) lacks = absurd lacks
+gate_objects ends.StoreFault lacks = tt
+gate_objects (ends.BadEntry number) lacks = tt
 gate_objects ends.NoMemory lacks = tt
 gate_objects (ends.BadObjects fault) lacks = tt
 
-pub gate_served : {K : Type 0} (end : ServeEnd K) → IsGateEnd end → IsGateRunEnd (end_of_serving end)
-gate_served serving.Closed by = tt
-gate_served serving.ListenFault by = tt
-gate_served serving.NoWorker by = tt
-gate_served (serving.StoreFault keeper) by = absurd by
-gate_served (serving.BadEntry number keeper) by = absurd by
-gate_served serving.NoMemory by = tt
+pub gate_store : (end : ProgramEnd) → IsNoFile files.Store end → IsGateRunEnd end
+gate_store end (inl e) = subst IsGateRunEnd (sym e) tt
+gate_store end (inr e) = subst IsGateRunEnd (sym e) tt
+
+pub gate_served : {K : Type 0} (end : ServeEnd K) → IsGateRunEnd (end_of_serving end)
+gate_served serving.Closed = tt
+gate_served serving.ListenFault = tt
+gate_served serving.NoWorker = tt
+gate_served (serving.StoreFault keeper) = tt
+gate_served (serving.BadEntry number keeper) = tt
+gate_served serving.NoMemory = tt

@@ -60,6 +60,7 @@ abbrev pub IsNoSettings : ProgramEnd → Type 0
 IsNoSettings ends.Closed = ⊥
 IsNoSettings ends.Usage = ⊥
 IsNoSettings (ends.NoFile files.Settings) = Unit {0}
+IsNoSettings (ends.NoFile files.Store) = ⊥
 IsNoSettings (ends.NoFile files.Log) = ⊥
 IsNoSettings (ends.NoFile files.Objects) = ⊥
 IsNoSettings (ends.NoPort port) = ⊥
@@ -76,6 +77,7 @@ abbrev pub IsNoObjects : ProgramEnd → Type 0
 IsNoObjects ends.Closed = ⊥
 IsNoObjects ends.Usage = ⊥
 IsNoObjects (ends.NoFile files.Settings) = ⊥
+IsNoObjects (ends.NoFile files.Store) = ⊥
 IsNoObjects (ends.NoFile files.Log) = ⊥
 IsNoObjects (ends.NoFile files.Objects) = Unit {0}
 IsNoObjects (ends.NoPort port) = ⊥
@@ -87,11 +89,12 @@ IsNoObjects (ends.BadEntry number) = ⊥
 IsNoObjects ends.NoMemory = Unit {0}
 IsNoObjects (ends.BadObjects fault) = Unit {0}
 
--- how the program of a server may end that was given a file: not by its words, and not by objects
+-- how the program of a server may end that was given a file: not by its words, and not by a gateway's files
 abbrev pub IsServerRunEnd : ProgramEnd → Type 0
 IsServerRunEnd ends.Closed = Unit {0}
 IsServerRunEnd ends.Usage = ⊥
 IsServerRunEnd (ends.NoFile files.Settings) = Unit {0}
+IsServerRunEnd (ends.NoFile files.Store) = ⊥
 IsServerRunEnd (ends.NoFile files.Log) = Unit {0}
 IsServerRunEnd (ends.NoFile files.Objects) = ⊥
 IsServerRunEnd (ends.NoPort port) = Unit {0}
@@ -103,18 +106,19 @@ IsServerRunEnd (ends.BadEntry number) = Unit {0}
 IsServerRunEnd ends.NoMemory = Unit {0}
 IsServerRunEnd (ends.BadObjects fault) = ⊥
 
--- how that of a gateway may end: not by its words, and not by a journal
+-- how that of a gateway may end: not by its words, and not by a server's journal
 abbrev pub IsGateRunEnd : ProgramEnd → Type 0
 IsGateRunEnd ends.Closed = Unit {0}
 IsGateRunEnd ends.Usage = ⊥
 IsGateRunEnd (ends.NoFile files.Settings) = Unit {0}
+IsGateRunEnd (ends.NoFile files.Store) = Unit {0}
 IsGateRunEnd (ends.NoFile files.Log) = ⊥
 IsGateRunEnd (ends.NoFile files.Objects) = Unit {0}
 IsGateRunEnd (ends.NoPort port) = Unit {0}
 IsGateRunEnd (ends.BadSettings fault) = Unit {0}
 IsGateRunEnd ends.ListenFault = Unit {0}
 IsGateRunEnd ends.NoWorker = Unit {0}
-IsGateRunEnd ends.StoreFault = ⊥
-IsGateRunEnd (ends.BadEntry number) = ⊥
+IsGateRunEnd ends.StoreFault = Unit {0}
+IsGateRunEnd (ends.BadEntry number) = Unit {0}
 IsGateRunEnd ends.NoMemory = Unit {0}
 IsGateRunEnd (ends.BadObjects fault) = Unit {0}

@@ -3,11 +3,13 @@
 #![tactic(auto)]
 
 mod files;
+mod locks;
 mod ports;
 mod program_end;
 mod why;
 
 pub use files::{path_of, read_file};
+pub use locks::lock_file;
 pub use ports::{dialer, pacer, port_at};
 pub use program_end::{FileOf, ProgramEnd};
 pub use why::{Why, no_file_line, no_port_line, taken_line};

@@ -13,8 +13,10 @@ use std::fmt;
 pub enum FileOf {
     /// the settings
     Settings,
-    /// the journal
+    /// the server's journal
     Log,
+    /// the orders that the gateway keeps
+    Store,
     /// the gateway's objects
     Objects,
 }
@@ -36,9 +38,9 @@ pub enum ProgramEnd {
     ListenFault,
     /// A worker couldn't be started.
     NoWorker,
-    /// The journal can't be read, or is damaged.
+    /// The journal, or what the gateway keeps, can't be read, or is damaged.
     StoreFault,
-    /// This entry of the journal, counted from 0, isn't accepted after those before it.
+    /// This entry of it, counted from 0, isn't accepted after those before it.
     BadEntry { number: u64 },
     /// Memory ran out.
     NoMemory,
@@ -177,6 +179,7 @@ impl fmt::Display for ProgramEnd {
             ProgramEnd::Usage => f.write_str("Usage"),
             ProgramEnd::NoFile(FileOf::Settings) => f.write_str("NoFile: the settings"),
             ProgramEnd::NoFile(FileOf::Log) => f.write_str("NoFile: log"),
+            ProgramEnd::NoFile(FileOf::Store) => f.write_str("NoFile: store"),
             ProgramEnd::NoFile(FileOf::Objects) => f.write_str("NoFile: objects"),
             ProgramEnd::NoPort(port) => write!(f, "NoPort {port}"),
             ProgramEnd::BadSettings(fault) => show_settings(f, fault),

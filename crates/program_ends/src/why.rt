@@ -1,7 +1,7 @@
 //! Why a program ended, in more than the words of the end.
 ghost use Rattle.std.specs.Prelude.{◌≡◌, ◌++◌, IfOk, OnOk, string_bytes};
 ghost use Rattle.std.specs.Fmt.{decimal};
-ghost use Rattle.program_ends.specs.Lines.{file_word as file_word_of, no_file, no_port, side_word as side_word_of, taken};
+ghost use Rattle.program_ends.specs.Lines.{file_word as file_word_of, holder_word as holder_word_of, no_file, no_port, side_word as side_word_of, taken};
 
 use crate::program_end::FileOf;
 use mos_fields::NoMemory;
@@ -81,6 +81,7 @@ fn file_word(file: FileOf) -> &'static str
     match file {
         FileOf::Settings => "the settings",
         FileOf::Log => "log",
+        FileOf::Store => "store",
         FileOf::Objects => "objects",
     }
 }
@@ -116,11 +117,21 @@ pub fn no_file_line(
     Ok(line)
 }
 
-/// The line of a journal that another server has.
-pub fn taken_line(alloc: Global, path: &str) -> Result<String, NoMemory>
-    ensures { IfOk result (λ line. string_bytes line ≡ taken path.now) }
+// Who has a file that is locked.
+fn holder_word(file: FileOf) -> &'static str
+    ensures { result.now ≡ holder_word_of file }
 {
-    no_file_line(alloc, FileOf::Log, path, "another server has it")
+    match file {
+        FileOf::Store => "another gateway has it",
+        FileOf::Settings | FileOf::Log | FileOf::Objects => "another server has it",
+    }
+}
+
+/// The line of a journal that another server has, or of a store that another gateway has.
+pub fn taken_line(alloc: Global, file: FileOf, path: &str) -> Result<String, NoMemory>
+    ensures { IfOk result (λ line. string_bytes line ≡ taken file path.now) }
+{
+    no_file_line(alloc, file, path, holder_word(file))
 }
 
 /// The line of a port that couldn't be opened: its number, the cause, and its key.

@@ -1,3 +1,4 @@
 pub mod PositionLemmas
 pub mod PlaceRows
 pub mod HeldLists
+pub mod HeldJournals

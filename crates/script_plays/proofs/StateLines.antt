@@ -27,7 +27,7 @@ use Rattle.script_plays.specs.States.{AreDevicesShown, IsDeviceShown}
 
 -- a pairing of these parts
 abbrev pairing_of : PeerState → GateState → (Text → ℕ) → Pairing
-pairing_of peer gate applied = record { peer = peer; gate = gate; decks = no_pairing.decks; connections = no_pairing.connections; applied = applied }
+pairing_of peer gate applied = record { peer = peer; gate = gate; decks = no_pairing.decks; connections = no_pairing.connections; applied = applied; failing = no_pairing.failing; uncertain = no_pairing.uncertain }
 
 -- the gateway that is shown
 gateway-shown : (o : Option Gateway) (l : Pairing) (gate : GateTables) (applied : List (Text × ℕ)) → Some gate ≡ option_map (λ x. x.gate) o → Some applied ≡ option_map (λ x. x.applied) o → HasGateway o l

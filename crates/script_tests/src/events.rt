@@ -58,7 +58,9 @@ fn event_word(event: &PairingEvent) -> &'static str {
         PairingEvent::DeviceBeat => "dbeat",
         PairingEvent::Want { .. } => "want",
         PairingEvent::DecksLeft { .. } => "decks",
-        PairingEvent::Reboot => "reboot",
+        PairingEvent::Reboot { kept: false } => "reboot lost",
+        PairingEvent::Reboot { kept: true } => "reboot kept",
+        PairingEvent::FailKeep => "dfault",
     }
 }
 
@@ -123,6 +125,9 @@ dbeat 9 = dbeat
 fault = fault
 restart kept = restart
 restart lost = restart
+reboot 1 = reboot lost
+reboot 1 kept = reboot kept
+dfault 1 = dfault
 cmd fly r = none
 cmd create r A A = none
 cmd create r A:x,x = none
@@ -145,6 +150,8 @@ open 1  = none
 open = none
 lose 1 x 0 = none
 restart = none
+reboot 1 lost = none
+reboot kept = none
  = none";
 
 #[test]
@@ -157,7 +164,7 @@ fn lines_are_read(rt: HostRuntime) -> Result<(), Fail> {
             rows = rows.saturating_add(1);
         }
     }
-    assert_eq!(rt; rows, 54);
+    assert_eq!(rt; rows, 59);
     Ok(())
 }
 

@@ -142,6 +142,13 @@ cmd insert r - C: STORE FAULT
 cmd swap r A B: STOPPED
 ";
 
+/// An append of the device that fails, up to its restart.
+const UNKEPT: &str = "dfault 1: done
+cmd swap r A C: OK
+send 1: edit r 1
+read 1: roAck r STORE FAULT
+";
+
 /// The lines of a part that several scripts have.
 fn part_of(name: &str) -> &'static str {
     match name {
@@ -155,6 +162,7 @@ fn part_of(name: &str) -> &'static str {
         "scripted" => SCRIPTED,
         "sent_again" => SENT_AGAIN,
         "failed" => FAILED,
+        "unkept" => UNKEPT,
         _ => "",
     }
 }
@@ -417,6 +425,39 @@ order r 2 A B C
 server 1 down
 view 1 r out
 device 1 upper - dial 3 idle
+held 1 r out 2 A B C
+
+# a device whose append fails, and whose keeper has the edit
++opened
++unkept
+reboot 1 kept: done
+=
+order r 2 C B A
+server 1 open 1 edit r 1
+view 1 r in 1
+device 1 upper - dial - idle
+held 1 r out 2 C B A
+
+# a device whose append fails, and whose keeper doesn't have the edit
++opened
++unkept
+reboot 1: done
+=
+order r 2 C B A
+server 1 open 1 edit r 1
+view 1 r in 1
+device 1 upper - dial - idle
+held 1 r out 1 A B C
+
+# a device that restarts holds what it held
++opened
+reboot 1: done
+=
+order r 1 A B C
+server 1 open 1 idle
+view 1 r in 1
+device 1 upper - dial - idle
+held 1 r out 1 A B C
 
 # the first append fails and is kept
 fault: done
@@ -608,7 +649,7 @@ fn worlds_have_their_listings(rt: HostRuntime) -> Result<(), Fail> {
         }
         worlds = worlds.saturating_add(1);
     }
-    assert_eq!(rt; worlds, 23);
+    assert_eq!(rt; worlds, 26);
     Ok(())
 }
 

@@ -1,5 +1,5 @@
 -- An edit that is written is an entry of its order, or a READY that is sent again.
-use Rattle.std.proofs.Common.{◌≡◌, inl, inr, ℕ, ◌+◌, List, [], ◌∷◌, arith, Bool, true, false, Option, Some, None, refl, sym, subst, if◌then◌else◌, ◌&&◌, nat_le}
+use Rattle.std.proofs.Common.{not, ◌≡◌, inl, inr, ℕ, ◌+◌, List, [], ◌∷◌, arith, Bool, true, false, Option, Some, None, refl, sym, subst, if◌then◌else◌, ◌&&◌, nat_le}
 use Rattle.mos_edits.specs.Texts.{Text, set_number, set_order}
 use Rattle.mos_edits.specs.Orders.{Order}
 use Rattle.mos_edits.specs.Entries.{Entry, entry_count, order_now, acceptance, in_force}
@@ -14,14 +14,14 @@ use Rattle.mos_machines.specs.Server.Upper.{Down, Greeting, Open}
 use Rattle.mos_machines.specs.Server.View.{Listed, In}
 use Rattle.mos_machines.specs.Server.Verdict.{Takes, Fails, Refuses}
 use Rattle.mos_machines.specs.Views.{IsViewWithin, IsPeerWithin}
-use Rattle.mos_machines.specs.Device.{GateState, GateOut, Confirmation, Decks, gate_read, asked_next, first_wanted, next_if, gate_next}
+use Rattle.mos_machines.specs.Device.{GateState, GateOut, Confirmation, Decks, gate_read, asked_next, first_wanted, unless_stopped, next_if, gate_next}
 use Rattle.mos_machines.specs.Device.GateOut.{NotAsking}
 use Rattle.mos_machines.specs.Device.Confirmation.{Due}
 use Rattle.mos_machines.proofs.Least.{due_ok}
 use Rattle.mos_machines.proofs.Views.{IsDue, due-next}
 use Rattle.world_laws.specs.World.{own_time, Opener, Connection, Pairing, PairingEvent, World, WorldEvent, Effect, front, sends_on, accepts_it, admits_it, cuts, leaves, sends_if, reads_front, reads_if, takes_front, takes_if, asks_on, asks_if, hears_front, hears_if, gets_front, gets_if, hangs_if, misses_if, beats_if, device_beats_if, pairing_step, commanded, lose, has_device, world_step}
 use Rattle.world_laws.specs.World.Opener.{Nobody, TheServer, TheDevice}
-use Rattle.world_laws.specs.World.PairingEvent.{OpenTo, Accept, Cut, Leave, Send, Read, Back, Dial, Admit, Ask, Hear, Got, Hangup, Miss, Beat, DeviceBeat, Want, DecksLeft, Reboot}
+use Rattle.world_laws.specs.World.PairingEvent.{OpenTo, Accept, Cut, Leave, Send, Read, Back, Dial, Admit, Ask, Hear, Got, Hangup, Miss, Beat, DeviceBeat, Want, DecksLeft, Reboot, FailKeep}
 use Rattle.world_laws.specs.World.WorldEvent.{Command, AtDevice, Lose, FailNext, Restart}
 use Rattle.world_laws.specs.World.Effect.{Impossible, Performed, Wrote}
 use Rattle.world_laws.specs.Reached.{IsReached}
@@ -77,10 +77,10 @@ module _ (journal : List Entry) where
 
   -- ---- the device
 
-  read-edit : (g : GateState) (decks : Decks) (m : Message) → IsEditOf journal (untagged (gate_read g decks m).1) (gate_read g decks m).1
-  read-edit g decks (Heartbeat t) = tt
-  read-edit g decks (RoEdit e) = tt
-  read-edit g decks m = tt
+  read-edit : (g : GateState) (decks : Decks) (fails : Bool) (m : Message) → IsEditOf journal (untagged (gate_read g decks fails m).1) (gate_read g decks fails m).1
+  read-edit g decks fails (Heartbeat t) = tt
+  read-edit g decks fails (RoEdit e) = tt
+  read-edit g decks fails m = tt
 
   asked-edit : (g : GateState) (c : Confirmation) (all : Bool) (want : Option Text) (note : Bool) → MessageIn journal (asked_next own_time g c all want note).1
   asked-edit g (Due r) all want note = tt
@@ -90,7 +90,7 @@ module _ (journal : List Entry) where
   asked-edit g c false None false = tt
 
   next-ask : (g : GateState) (o : Option ℕ) (a : GateOut) → MessageIn journal (next_if own_time g o a).1
-  next-ask g (Some c) NotAsking = asked-edit g g.confirm g.want_all (first_wanted g.wanted g.known) g.note
+  next-ask g (Some c) NotAsking = asked-edit g g.confirm (g.want_all && not g.stopped) (unless_stopped g.stopped (first_wanted g.wanted g.known)) g.note
   next-ask g c a = tt
 
   -- ---- the events at a device
@@ -132,7 +132,7 @@ module _ (journal : List Entry) where
     where
       go : (p : Option Packet) → Edits journal (reads_front l c (l.connections c) p).1
       go None = tt
-      go (Some p) = read-edit l.gate l.decks p.message
+      go (Some p) = read-edit l.gate l.decks l.failing p.message
 
   back : (l : Pairing) (o : Option ℕ) → Edits journal (takes_if journal l o).1
   back l None = tt
@@ -201,7 +201,8 @@ module _ (journal : List Entry) where
   edits-at c l DeviceBeat i = device-beat l l.gate.link
   edits-at c l (Want r) i = tt
   edits-at c l (DecksLeft k) i = tt
-  edits-at c l Reboot i = tt
+  edits-at c l (Reboot k) i = tt
+  edits-at c l FailKeep i = tt
 
 -- ---- the events of a world
 

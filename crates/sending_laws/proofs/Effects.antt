@@ -16,7 +16,7 @@ use Rattle.world_laws.specs.World.{own_time, Opener, Connection, Pairing, Pairin
 use Rattle.world_laws.specs.World.Opener.{Nobody, TheServer, TheDevice}
 use Rattle.world_laws.specs.World.WorldEvent.{AtDevice}
 use Rattle.world_laws.specs.World.Effect.{Impossible}
-use Rattle.world_laws.specs.World.PairingEvent.{OpenTo, Accept, Cut, Leave, Send, Read, Back, Dial, Admit, Ask, Hear, Got, Hangup, Miss, Beat, DeviceBeat, Want, DecksLeft, Reboot}
+use Rattle.world_laws.specs.World.PairingEvent.{OpenTo, Accept, Cut, Leave, Send, Read, Back, Dial, Admit, Ask, Hear, Got, Hangup, Miss, Beat, DeviceBeat, Want, DecksLeft, Reboot, FailKeep}
 use Rattle.sending_laws.specs.Sends.{in_effect}
 
 -- the effect of an event at a device
@@ -122,7 +122,8 @@ module _ (f : Tag → List ℕ) (plain : f Untagged ≡ []) where
   writes-plainly journal c l DeviceBeat s h = device-beat l l.gate.link
   writes-plainly journal c l (Want r) s h = refl
   writes-plainly journal c l (DecksLeft k) s h = refl
-  writes-plainly journal c l Reboot s h = refl
+  writes-plainly journal c l (Reboot k) s h = refl
+  writes-plainly journal c l FailKeep s h = refl
 
   module _ (listed : (r : Text) (m : ℕ) → f (OfList r m) ≡ []) where
     list : (r : Text) (m : ℕ) (o : Option Order) → f (list_of r m o).tag ≡ []

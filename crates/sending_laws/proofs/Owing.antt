@@ -20,7 +20,7 @@ use Rattle.mos_machines.proofs.Least.{due_ok}
 use Rattle.mos_machines.proofs.Views.{IsDue, due-next}
 use Rattle.world_laws.specs.World.{own_time, Opener, Connection, Pairing, PairingEvent, World, WorldEvent, Effect, front, opening, sends_on, accepts_it, admits_it, cuts, leaves, sends_if, reads_front, reads_if, takes_front, takes_if, asks_on, asks_if, hears_front, hears_if, gets_front, gets_if, hangs_if, misses_if, beats_if, device_beats_if, pairing_step, commanded, lose, has_device, at_device, world_step}
 use Rattle.world_laws.specs.World.Opener.{Nobody, TheServer, TheDevice}
-use Rattle.world_laws.specs.World.PairingEvent.{OpenTo, Accept, Cut, Leave, Send, Read, Back, Dial, Admit, Ask, Hear, Got, Hangup, Miss, Beat, DeviceBeat, Want, DecksLeft, Reboot}
+use Rattle.world_laws.specs.World.PairingEvent.{OpenTo, Accept, Cut, Leave, Send, Read, Back, Dial, Admit, Ask, Hear, Got, Hangup, Miss, Beat, DeviceBeat, Want, DecksLeft, Reboot, FailKeep}
 use Rattle.world_laws.specs.World.WorldEvent.{Command, AtDevice, Lose, FailNext, Restart}
 use Rattle.world_laws.specs.World.Effect.{Impossible, Performed}
 use Rattle.sending_laws.specs.Sends.{again_in, list_in, in_effect, at_event, readies_sent_again, lists_told}
@@ -216,7 +216,8 @@ module _ (journal : List Entry) (r : Text) where
   falls c l DeviceBeat s h = device-beat l l.gate.link
   falls c l (Want q) s h = omega arith
   falls c l (DecksLeft k) s h = omega arith
-  falls c l Reboot s h = omega arith
+  falls c l (Reboot k) s h = omega arith
+  falls c l FailKeep s h = omega arith
 
   -- ---- what is sent
 

@@ -35,7 +35,7 @@ IsStarted kept faults keeper (StoreFault later) = Rose (faults keeper) (faults l
 IsStarted kept faults keeper (BadEntry number later) = IsBadEntry (kept keeper) number
 IsStarted kept faults keeper NoMemory = Unit {0}
 
--- it is an end of a server that wasn't started
+-- it is an end of a server, or of a gateway, that wasn't started
 abbrev pub IsNotStarted : {K : Type 0} → ServeEnd K → Type 0
 IsNotStarted Closed = ⊥
 IsNotStarted ListenFault = ⊥
@@ -44,8 +44,8 @@ IsNotStarted (StoreFault later) = Unit {0}
 IsNotStarted (BadEntry number later) = Unit {0}
 IsNotStarted NoMemory = Unit {0}
 
--- The causes of an end at listeners, of which this much is seen: those of the doors' loops, where these ran. Where the server
--- wasn't started, the listeners are as they were.
+-- The causes of an end at listeners, of which this much is seen: those of the doors' loops, where these ran. Where the server or
+-- the gateway wasn't started, the listeners are as they were.
 abbrev pub IsCaused : {K X : Type 0} → (X → AllListening) → X → X → ServeEnd K → Type 0
 IsCaused seen was now Closed = CausedByThreads (seen was) (seen now) doors.Closed
 IsCaused seen was now ListenFault = CausedByThreads (seen was) (seen now) doors.ListenFault
@@ -53,12 +53,3 @@ IsCaused seen was now NoWorker = CausedByThreads (seen was) (seen now) doors.NoW
 IsCaused seen was now (StoreFault later) = now ≡ was
 IsCaused seen was now (BadEntry number later) = now ≡ was
 IsCaused seen was now NoMemory = Unit {0}
-
--- a gateway keeps no journal
-abbrev pub IsGateEnd : {K : Type 0} → ServeEnd K → Type 0
-IsGateEnd Closed = Unit {0}
-IsGateEnd ListenFault = Unit {0}
-IsGateEnd NoWorker = Unit {0}
-IsGateEnd (StoreFault later) = ⊥
-IsGateEnd (BadEntry number later) = ⊥
-IsGateEnd NoMemory = Unit {0}

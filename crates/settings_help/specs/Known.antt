@@ -18,7 +18,7 @@ use Rattle.settings_help.specs.Places.{name_in}
 -- those of a program, outside of the tables of devices
 abbrev pub keys_of : Program → List Key
 keys_of Server = keys.NcsId ∷ keys.Log ∷ keys.Disk ∷ keys.Devices ∷ keys.Upper ∷ keys.Lower ∷ keys.Editor ∷ keys.Budget ∷ keys.Listen ∷ []
-keys_of Gateway = keys.MosId ∷ keys.NcsId ∷ keys.Host ∷ keys.Upper ∷ keys.Lower ∷ keys.ServerUpper ∷ keys.ServerLower ∷ keys.Objects ∷ keys.Manufacturer ∷ keys.Model ∷ keys.Budget ∷ keys.Listen ∷ []
+keys_of Gateway = keys.MosId ∷ keys.NcsId ∷ keys.Host ∷ keys.Store ∷ keys.Upper ∷ keys.Lower ∷ keys.ServerUpper ∷ keys.ServerLower ∷ keys.Objects ∷ keys.Manufacturer ∷ keys.Model ∷ keys.Budget ∷ keys.Listen ∷ []
 
 -- those of a table of devices
 abbrev pub table_keys : List Key

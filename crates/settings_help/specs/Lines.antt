@@ -29,6 +29,7 @@ allowed_text keys.DeviceMosId = codes "an ID is a text of 1 to 128 characters, a
 allowed_text keys.MosId = codes "an ID is a text of 1 to 128 characters, all of them such as XML 1.0 allows"
 allowed_text keys.Log = codes "a path is a text that isn't empty, of characters such as XML 1.0 allows"
 allowed_text keys.Disk = codes "a path is a text that isn't empty, of characters such as XML 1.0 allows"
+allowed_text keys.Store = codes "a path is a text that isn't empty, of characters such as XML 1.0 allows"
 allowed_text keys.Objects = codes "a path is a text that isn't empty, of characters such as XML 1.0 allows"
 allowed_text keys.DeviceHost = codes "a host is a name or an address: a text that isn't empty, of characters such as XML 1.0 allows"
 allowed_text keys.Host = codes "a host is a name or an address: a text that isn't empty, of characters such as XML 1.0 allows"

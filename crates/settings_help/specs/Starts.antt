@@ -39,4 +39,4 @@ abbrev pub server_place : GateSettings → List ℕ
 server_place s = codes "; server " ++ printed_text s.ncs_id ++ codes " at " ++ printed_text s.host ++ port_part (codes ", upper") s.server_upper ++ port_part (codes ", lower") s.server_lower
 
 abbrev pub gate_start : GateSettings → IpAddr → ℕ → List ℕ
-gate_start s listen objects = codes "device_gateway 0.1.0 " ++ printed_text s.mos_id ++ codes ": objects " ++ decimal objects ++ gate_ports s listen ++ server_place s
+gate_start s listen objects = codes "device_gateway 0.1.0 " ++ printed_text s.mos_id ++ codes ": store " ++ printed_text s.store ++ codes ", objects " ++ decimal objects ++ gate_ports s listen ++ server_place s

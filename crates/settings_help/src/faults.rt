@@ -29,7 +29,7 @@ pub fn allowed(key: Key) -> &'static str
 {
     match key {
         Key::NcsId | Key::DeviceMosId | Key::MosId => ID,
-        Key::Log | Key::Disk | Key::Objects => PATH,
+        Key::Log | Key::Disk | Key::Store | Key::Objects => PATH,
         Key::DeviceHost | Key::Host => HOST,
         Key::DeviceUpper
         | Key::DeviceLower

@@ -27,10 +27,11 @@ const SERVER_KEYS: [Key; 9] = [
     Key::Listen,
 ];
 
-const GATEWAY_KEYS: [Key; 12] = [
+const GATEWAY_KEYS: [Key; 13] = [
     Key::MosId,
     Key::NcsId,
     Key::Host,
+    Key::Store,
     Key::Upper,
     Key::Lower,
     Key::ServerUpper,

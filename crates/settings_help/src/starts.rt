@@ -112,8 +112,8 @@ fn push_server(alloc: Global, out: &mut String, settings: &GateSettings) -> Resu
     push_port(alloc, out, ", lower", settings.server_lower)
 }
 
-/// The line of a gateway that starts to serve, without a line feed: its version and ID, how many objects it has, its ports and
-/// the address that they listen at, and where its server is.
+/// The line of a gateway that starts to serve, without a line feed: its version and ID, the file in which it keeps its orders, how
+/// many objects it has, its ports and the address that they listen at, and where its server is.
 pub fn gate_start_line(
     alloc: Global,
     settings: &GateSettings,
@@ -125,7 +125,9 @@ pub fn gate_start_line(
     let mut line = String::new(alloc);
     push_word(&mut line, "device_gateway 0.1.0 ")?;
     push_id(alloc, &mut line, &settings.mos_id)?;
-    push_word(&mut line, ": objects ")?;
+    push_word(&mut line, ": store ")?;
+    push_text(alloc, &mut line, &settings.store)?;
+    push_word(&mut line, ", objects ")?;
     push_number(alloc, &mut line, objects as u64)?;
     push_own(alloc, &mut line, settings, listen)?;
     push_server(alloc, &mut line, settings)?;

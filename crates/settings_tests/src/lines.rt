@@ -33,6 +33,7 @@ log = "log" -> Missing(ncs_id): ncs.toml|
 ncs_id = "ncs1" -> Missing(log): ncs.toml|
 ncs_id = "ncs1"|log = "" -> BadValue(log): ncs.toml: a path is a text that isn't empty, of characters such as XML 1.0 allows|
 ncs_id = "ncs1"|log = "log" -> Missing(devices): ncs.toml|
+store = "store"|$ -> ncs.toml: key store isn't known and isn't used|
 disk = "disk"|$ ->
 ncs_id = "ncs1"|disk = "disk" -> Missing(log): ncs.toml|
 ncs_id = "ncs1"|log = ""|disk = "" -> BadValue(log): ncs.toml: a path is a text that isn't empty, of characters such as XML 1.0 allows|
@@ -66,7 +67,11 @@ ncs_id = "ncs1"|log = "log" -> Missing(mos_id): ncs.toml|
 mos_id = "m1" -> Missing(ncs_id): ncs.toml|
 mos_id = "m1"|ncs_id = "ncs1"|[[devices]]|mos_id = "m1" -> Missing(host): ncs.toml|
 mos_id = "m1"|ncs_id = "ncs1"|host = 1 -> BadValue(host): ncs.toml: a host is a name or an address: a text that isn't empty, of characters such as XML 1.0 allows|
-$|mos_id = "m2" -> NotToml: ncs.toml, line 4: ?|
+$|mos_id = "m2" -> NotToml: ncs.toml, line 5: ?|
+mos_id = "m1"|ncs_id = "ncs1"|host = "h1" -> Missing(store): ncs.toml|
+mos_id = "m1"|ncs_id = "ncs1"|store = "store" -> Missing(host): ncs.toml|
+mos_id = "m1"|ncs_id = "ncs1"|host = "h1"|store = "" -> BadValue(store): ncs.toml: a path is a text that isn't empty, of characters such as XML 1.0 allows|
+mos_id = "m1"|ncs_id = "ncs1"|host = "h1"|store = 1|upper = 0 -> BadValue(store): ncs.toml: a path is a text that isn't empty, of characters such as XML 1.0 allows|
 $|uper = 1|server_uper = 1 -> ncs.toml: key server_uper isn't known and isn't used|ncs.toml: key uper isn't known and isn't used|
 $|log = "log"|[[devices]]|mos = "m" -> ncs.toml: key devices isn't known and isn't used|ncs.toml: key log isn't known and isn't used|
 $|disk = "disk" -> ncs.toml: key disk isn't known and isn't used|
@@ -80,13 +85,13 @@ $|listen = "1.2.3" -> BadValue(listen): ncs.toml: an address in numbers, such as
 $|upper = 10540 -> ncs.toml: upper and lower are one port, 10540|
 $|server_upper = 10540 -> ncs.toml: server_upper and server_lower are one port, 10540|
 $|budget = 999 -> ncs.toml: with a budget of 999 bytes every connection will end with Budget|
-mos_id = "x"|ncs_id = "x"|host = "h" -> ncs.toml: mos_id and ncs_id are one ID|
+mos_id = "x"|ncs_id = "x"|host = "h"|store = "s" -> ncs.toml: mos_id and ncs_id are one ID|
 "#;
 
 const SERVER_KEYS: &str =
     "ncs_id = \"ncs1\"\nlog = \"log\"\n[[devices]]\nmos_id = \"dev1\"\nhost = \"h1\"";
 
-const GATEWAY_KEYS: &str = "mos_id = \"m1\"\nncs_id = \"ncs1\"\nhost = \"h1\"";
+const GATEWAY_KEYS: &str = "mos_id = \"m1\"\nncs_id = \"ncs1\"\nhost = \"h1\"\nstore = \"store\"";
 
 #[test]
 fn a_server_is_told_its_mistakes(rt: HostRuntime) -> Result<(), Fail> {

@@ -13,7 +13,7 @@ use Rattle.mos_machines.specs.Server.Upper.{Down, Greeting, Open}
 use Rattle.mos_machines.specs.Device.GateOut.{NotAsking, AsksFor, AsksAll, AsksBeat}
 use Rattle.world_laws.specs.World.{Pairing, Connection, Opener, own_beat}
 use Rattle.world_laws.specs.World.Opener.{Nobody, TheServer, TheDevice}
-use Rattle.world_laws.proofs.Replication.{Transfer, InFlight, Request, Incoming, Replication}
+use Rattle.world_laws.proofs.Replication.{Shortage, Transfer, InFlight, Request, Incoming, Replication}
 use Rattle.world_laws.proofs.Replication.Transfer.{TransferEntry, TransferAgain, TransferScript}
 use Rattle.world_laws.proofs.Replication.InFlight.{NotConnected, Nothing, Unread, Acknowledged, Lost}
 use Rattle.world_laws.proofs.Replication.Request.{NotRequested, RequestSent, RequestLost, AnsweredWith}
@@ -147,7 +147,7 @@ abbrev pub incoming_in : Text → List Packet → Incoming
 incoming_in r [] = NoneComes
 incoming_in r (p ∷ ps) = incoming_by r p.message
 
-abbrev pub replication : List Entry → Channels → Text → View → Phase → ℕ → (ℕ → Bool) → Replication
+abbrev pub replication : List Entry → Channels → Text → View → Phase → ℕ → Shortage → Replication
 replication journal w r view phase prefix lacks = record {
   kinds = map kind (entries r journal);
   in_flight = in_flight_by journal w r w.upper;
@@ -157,8 +157,9 @@ replication journal w r view phase prefix lacks = record {
   incoming = incoming_in r w.heard;
   phase = phase;
   prefix = prefix;
-  lacks = lacks;
+  lacks = lacks.lacks;
   in_force = λ m. in_force journal r m;
+  doubt = lacks.doubt;
 }
 
 -- what the channels carry

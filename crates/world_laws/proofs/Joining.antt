@@ -1,4 +1,4 @@
-use Rattle.std.proofs.Common.{◌≡◌, ℕ, List, [], ◌∷◌, ◌++◌, Bool, true, false, Option, Some, arith, refl, if◌then◌else◌}
+use Rattle.std.proofs.Common.{◌≡◌, ℕ, List, [], ◌∷◌, ◌++◌, Bool, true, false, Option, Some, arith, refl, if◌then◌else◌, not, ◌&&◌}
 use Rattle.std.proofs.lemmas.Bool.Decides.{nat_tests}
 use Rattle.mos_edits.specs.Texts.{Text, set_number}
 use Rattle.mos_edits.specs.Entries.{Entry}
@@ -6,7 +6,7 @@ use Rattle.mos_machines.specs.Messages.{Message, Packet, untagged}
 use Rattle.mos_machines.specs.Device.{GateState}
 use Rattle.mos_machines.specs.Server.{ServerOut}
 use Rattle.mos_machines.specs.Server.ServerOut.{Idle, SendsEdit, SendsAgain, SendsScript, SendsBeat}
-use Rattle.world_laws.specs.World.{Pairing, Connection, Opener, write_server, rest}
+use Rattle.world_laws.specs.World.{Pairing, Connection, Opener, write_server, rest, has_failed, doubt_after, read_doubt}
 use Rattle.world_laws.proofs.Replication.{Transfer, readable}
 use Rattle.world_laws.proofs.Channels.UpperPart.{NotOpen, Greets, Opened}
 use Rattle.world_laws.proofs.Channels.{Channels, UpperPart, UpperPartOk, ChannelsOk, PairingOk, NoEdits, Carries, open_in_flight, is_some_packet, success_transfer, transfer_out, transfer_in, in_flight_by, channels, same_link, accepted_of, to_device_of, to_server_of}
@@ -54,8 +54,8 @@ apart connections c o p h k = grind (arith, nat_tests)
 abbrev pub read_connection : Connection → Message → Connection
 read_connection x a = write_server (untagged a) (record x { to_device = rest x.to_device })
 
-abbrev pub read_pairing : Pairing → ℕ → Message → GateState → (Text → ℕ) → Pairing
-read_pairing l v a g m = record l { gate = g; connections = set_number l.connections v (read_connection (l.connections v) a); applied = m }
+abbrev pub read_pairing : Pairing → ℕ → Packet → Message → GateState → (Text → ℕ) → Pairing
+read_pairing l v p a g m = record l { gate = g; connections = set_number l.connections v (read_connection (l.connections v) a); applied = m; failing = l.failing && not (has_failed l.gate g); uncertain = doubt_after (has_failed l.gate g) l.uncertain (read_doubt l.applied p.tag p.message) }
 
 -- its gate keeps its links
 pub record SameLinks (g h : GateState) : Type 0 where
@@ -63,6 +63,6 @@ pub record SameLinks (g h : GateState) : Type 0 where
   pub link : h.link ≡ g.link
   pub out : h.out ≡ g.out
 
-pub channels_read : (journal : List Entry) (count : ℕ) (l : Pairing) (v : ℕ) (a : Message) (g : GateState) (m : Text → ℕ) → PairingOk journal count l → l.gate.upper ≡ Some v → SameLinks l.gate g
-    → channels (read_pairing l v a g m) ≡ record (channels l) { down = rest (channels l).down; up = if (channels l).joined then pushed (l.connections v).lost_server (untagged a) (channels l).up else (channels l).up }
-channels_read journal count l v a g m ok e s = grind (arith, nat_tests)
+pub channels_read : (journal : List Entry) (count : ℕ) (l : Pairing) (v : ℕ) (p : Packet) (a : Message) (g : GateState) (m : Text → ℕ) → PairingOk journal count l → l.gate.upper ≡ Some v → SameLinks l.gate g
+    → channels (read_pairing l v p a g m) ≡ record (channels l) { down = rest (channels l).down; up = if (channels l).joined then pushed (l.connections v).lost_server (untagged a) (channels l).up else (channels l).up }
+channels_read journal count l v p a g m ok e s = grind (arith, nat_tests)

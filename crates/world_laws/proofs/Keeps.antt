@@ -7,7 +7,7 @@ use Rattle.mos_machines.specs.Server.{View, unlisted}
 use Rattle.mos_machines.specs.Device.{Phase, crossed}
 use Rattle.mos_machines.specs.Server.View.{Out, Listed, In, From}
 use Rattle.mos_machines.specs.Device.Phase.{InStep, OutOfStep, Asked, Crossed}
-use Rattle.world_laws.proofs.Replication.{Transfer, InFlight, Request, Incoming, Replication, IsInvariant, IsComplete, Fits, InFlightOk, readable, ReadyBefore, WholeAt, IsAsking}
+use Rattle.world_laws.proofs.Replication.{Doubt, Transfer, InFlight, Request, Incoming, Replication, IsInvariant, IsComplete, Fits, InFlightOk, DoubtOk, ViewOk, readable, ReadyBefore, WholeAt, IsAsking}
 use Rattle.world_laws.proofs.Replication.Transfer.{TransferEntry, TransferAgain, TransferScript}
 use Rattle.world_laws.proofs.Replication.InFlight.{NotConnected, Nothing, Unread, Acknowledged, Lost}
 use Rattle.world_laws.proofs.Replication.Request.{NotRequested, RequestSent, RequestLost, AnsweredWith}
@@ -114,8 +114,8 @@ pub keeps_read_refused : (l : Replication) → IsInvariant l → (x : Transfer) 
 keeps_read_refused l i x e a = grind arith
 
 -- a whole-order edit: held
-pub keeps_read_whole : (l : Replication) → IsInvariant l → (k : ℕ) → readable l.in_flight ≡ Some (TransferEntry k) → WholeAt l.kinds k → (IsAsking l.phase → ⊥) → IsInvariant (record l { in_flight = done l.in_flight (TransferEntry k); phase = InStep; prefix = k + 1; lacks = λ j. false })
-keeps_read_whole l i k e w a = grind arith
+pub keeps_read_whole : (l : Replication) → IsInvariant l → l.doubt ≡ None → (k : ℕ) → readable l.in_flight ≡ Some (TransferEntry k) → WholeAt l.kinds k → (IsAsking l.phase → ⊥) → IsInvariant (record l { in_flight = done l.in_flight (TransferEntry k); phase = InStep; prefix = k + 1; lacks = λ j. false })
+keeps_read_whole l i n k e w a = grind arith
 
 -- an entry that applies, in step
 pub keeps_read_step : (l : Replication) → IsInvariant l → (k : ℕ) → readable l.in_flight ≡ Some (TransferEntry k) → k ≡ l.prefix → IsComplete l → l.phase ≡ InStep → IsInvariant (record l { in_flight = done l.in_flight (TransferEntry k); prefix = k + 1 })
@@ -153,11 +153,11 @@ abbrev pub comes : Bool → Incoming → Incoming → Incoming
 comes true c old = c
 comes false c old = old
 
-pub keeps_ask : (l : Replication) → IsInvariant l → l.ask ≡ NotRequested → IsInvariant (record l { ask = RequestSent; phase = Asked; incoming = comes l.live AskComes l.incoming })
-keeps_ask l i e = grind arith
+pub keeps_ask : (l : Replication) → IsInvariant l → l.doubt ≡ None → l.ask ≡ NotRequested → IsInvariant (record l { ask = RequestSent; phase = Asked; incoming = comes l.live AskComes l.incoming })
+keeps_ask l i n e = grind arith
 
-pub keeps_ask_lost : (l : Replication) → IsInvariant l → l.ask ≡ NotRequested → IsInvariant (record l { ask = RequestLost; phase = Asked })
-keeps_ask_lost l i e = grind arith
+pub keeps_ask_lost : (l : Replication) → IsInvariant l → l.doubt ≡ None → l.ask ≡ NotRequested → IsInvariant (record l { ask = RequestLost; phase = Asked })
+keeps_ask_lost l i n e = grind arith
 
 -- the device sends something else on its connection; so nothing of this order is asked there
 pub keeps_tell : (l : Replication) → IsInvariant l → (c : Incoming) → l.ask ≡ NotRequested → (c ≡ AskComes → ⊥) → IsInvariant (record l { incoming = comes l.live c l.incoming })
@@ -203,8 +203,25 @@ answers false n old = old
 pub keeps_hear_ask : (l : Replication) → IsInvariant l → l.in_flight ≡ Nothing → l.incoming ≡ AskComes → IsInvariant (record l { view = Listed (length l.kinds) (l.in_force (length l.kinds)); incoming = NoneComes; ask = answers l.live (length l.kinds) l.ask })
 keeps_hear_ask l i a b = grind arith
 
-pub keeps_reboot : (l : Replication) → IsInvariant l → IsInvariant (record l { in_flight = unread_gone l.in_flight; ask = NotRequested; live = false; phase = OutOfStep; prefix = 0; lacks = λ j. false })
+-- the device restarts, and its keeper has the entry in doubt or not
+pub keeps_reboot : (l : Replication) → IsInvariant l → IsInvariant (record l { in_flight = unread_gone l.in_flight; ask = NotRequested; live = false; phase = OutOfStep; doubt = None })
 keeps_reboot l i = grind arith
+
+pub keeps_reboot_kept : (l : Replication) → IsInvariant l → (q : ℕ) (lacks : ℕ → Bool) → l.doubt ≡ Some (record { prefix = q; lacks = lacks }) → IsInvariant (record l { in_flight = unread_gone l.in_flight; ask = NotRequested; live = false; phase = OutOfStep; prefix = q; lacks = lacks; doubt = None })
+keeps_reboot_kept l i q lacks e = grind arith
+
+-- an append that fails: of entry k, of a script sent again, of a list of m entries
+pub fails_whole : (l : Replication) → IsInvariant l → (k : ℕ) → readable l.in_flight ≡ Some (TransferEntry k) → (IsAsking l.phase → ⊥) → IsInvariant (record l { in_flight = unread_gone l.in_flight; phase = OutOfStep; doubt = Some (record { prefix = k + 1; lacks = λ j. false }) })
+fails_whole l i k e a = grind arith
+
+pub fails_step : (l : Replication) → IsInvariant l → (k : ℕ) → readable l.in_flight ≡ Some (TransferEntry k) → IsComplete l → (IsAsking l.phase → ⊥) → IsInvariant (record l { in_flight = unread_gone l.in_flight; phase = OutOfStep; doubt = Some (record { prefix = k + 1; lacks = l.lacks }) })
+fails_step l i k e c a = grind arith
+
+pub fails_script : (l : Replication) → IsInvariant l → (k m : ℕ) → readable l.in_flight ≡ Some (TransferScript k m) → l.phase ≡ InStep → IsInvariant (record l { in_flight = unread_gone l.in_flight; phase = OutOfStep; doubt = Some (record { prefix = l.prefix; lacks = λ j. l.lacks j && not (j == k) }) })
+fails_script l i k m e p = grind (arith, nat_tests)
+
+pub fails_got : (l : Replication) → IsInvariant l → (m : ℕ) → l.ask ≡ AnsweredWith m → IsInvariant (record l { ask = NotRequested; phase = OutOfStep; doubt = Some (record { prefix = m; lacks = λ j. has_number j (l.in_force m) }) })
+fails_got l i m e = grind arith
 
 -- an entry is appended
 abbrev pub is_open : InFlight → Bool
@@ -218,20 +235,31 @@ abbrev pub given : Bool → Kind → ℕ → View → View
 given true IsWhole n Out = From n
 given b k n v = v
 
+grow_view : (l : Replication) (v : View) (ks : List Kind) (force : ℕ → List ℕ) → Grows l.kinds ks → ((m : ℕ) → m ≤ length l.kinds → force m ≡ l.in_force m) → ViewOk l v → ViewOk (record l { kinds = ks; in_force = force }) v
+grow_view l Out ks force g f h = tt
+grow_view l (Listed m scripts) ks force g f h = let n = g.longer in grind (arith, f)
+grow_view l (In n again scripts) ks force g f h = grind (arith, g.same_id, f)
+grow_view l (From k) ks force g f h = let n = g.longer in grind (arith, g.same_id)
+
+doubt_grow : (l : Replication) (o : Option Doubt) (ks : List Kind) (force : ℕ → List ℕ) → Grows l.kinds ks → ((m : ℕ) → m ≤ length l.kinds → force m ≡ l.in_force m) → DoubtOk l o → DoubtOk (record l { kinds = ks; in_force = force }) o
+doubt_grow l None ks force g f h = tt
+doubt_grow l (Some d) ks force g f h = let n = g.longer in grind (arith, f)
+
 -- the scripts in force after no more entries than there were stay so
 pub keeps_grow : (l : Replication) → IsInvariant l → (ks : List Kind) (force : ℕ → List ℕ) → Grows l.kinds ks → ((m : ℕ) → m ≤ length l.kinds → force m ≡ l.in_force m) → IsInvariant (record l { kinds = ks; in_force = force })
 keeps_grow l i ks force g h = record {
   prefix = grind (arith, g.same_id);
   read = grind (arith, g.same_id, h);
   in_flight = grind (arith, g.same_id);
-  view = grind (arith, g.same_id, h);
+  view = grow_view l l.view ks force g h i.view;
   ask = grind (arith, g.same_id);
   lacking = grind (arith, h, i.prefix);
   heard = i.heard;
+  waits = doubt_grow l l.doubt ks force g h i.waits;
 }
 
-pub keeps_given : (l : Replication) → IsInvariant l → (k : ℕ) → is_open l.in_flight ≡ true → l.view ≡ Out → WholeAt l.kinds k → (k < length l.kinds) → l.prefix ≤ k → ((m : ℕ) → l.ask ≡ AnsweredWith m → m ≤ k) → IsInvariant (record l { view = From k })
-keeps_given l i k o v w h n m = grind arith
+pub keeps_given : (l : Replication) → IsInvariant l → (k : ℕ) → is_open l.in_flight ≡ true → l.view ≡ Out → WholeAt l.kinds k → (k < length l.kinds) → l.prefix ≤ k → ((m : ℕ) → l.ask ≡ AnsweredWith m → m ≤ k) → ((d : Doubt) → l.doubt ≡ Some d → d.prefix ≤ k) → IsInvariant (record l { view = From k })
+keeps_given l i k o v w h n m d = grind arith
 
 -- the answer comes on its way, or not
 abbrev pub answered : Bool → InFlight → InFlight
@@ -242,8 +270,8 @@ answered true (Acknowledged j) = Acknowledged j
 answered true (Lost j) = Lost j
 answered false t = unread_gone t
 
-pub keeps_reads_whole : (l : Replication) → IsInvariant l → (k : ℕ) (b : Bool) → readable l.in_flight ≡ Some (TransferEntry k) → WholeAt l.kinds k → (IsAsking l.phase → ⊥) → IsInvariant (record l { in_flight = answered b l.in_flight; phase = InStep; prefix = k + 1; lacks = λ j. false })
-keeps_reads_whole l i k b e w a = grind arith
+pub keeps_reads_whole : (l : Replication) → IsInvariant l → l.doubt ≡ None → (k : ℕ) (b : Bool) → readable l.in_flight ≡ Some (TransferEntry k) → WholeAt l.kinds k → (IsAsking l.phase → ⊥) → IsInvariant (record l { in_flight = answered b l.in_flight; phase = InStep; prefix = k + 1; lacks = λ j. false })
+keeps_reads_whole l i n k b e w a = grind arith
 
 pub keeps_reads_step : (l : Replication) → IsInvariant l → (k : ℕ) (b : Bool) → readable l.in_flight ≡ Some (TransferEntry k) → k ≡ l.prefix → IsComplete l → l.phase ≡ InStep → IsInvariant (record l { in_flight = answered b l.in_flight; prefix = k + 1 })
 keeps_reads_step l i k b e w c a = grind arith
@@ -270,3 +298,13 @@ LostAsk new old = (new ≡ old) ⊎ ((new ≡ RequestLost) × (old ≡ NotReques
 
 pub keeps_lost_ask : (l : Replication) → IsInvariant l → (a : Request) (c : Incoming) → LostAsk a l.ask → (c ≡ l.incoming) ⊎ (c ≡ NoneComes) → (l.live ≡ true → c ≡ AskComes → a ≡ RequestSent) → IsInvariant (record l { ask = a; incoming = c })
 keeps_lost_ask l i a c h k s = grind arith
+
+-- what is in doubt
+pub doubt_bound : (l : Replication) → IsInvariant l → (d : Doubt) → l.doubt ≡ Some d → d.prefix ≤ length l.kinds
+doubt_bound l i d e = grind arith
+
+pub doubt_stands : (l : Replication) → IsInvariant l → (d : Doubt) → l.doubt ≡ Some d → (l.phase ≡ OutOfStep) × (l.prefix ≤ d.prefix)
+doubt_stands l i d e = grind arith
+
+pub keeps_stopped : (l : Replication) → IsInvariant l → (x : Transfer) (b y : Bool) → readable l.in_flight ≡ Some x → IsInvariant (record l { in_flight = answered (b && false) l.in_flight; phase = crossed l.phase })
+keeps_stopped l i x b y e = grind arith

@@ -22,5 +22,6 @@ pub mod SafeRun
 pub mod RunWords
 pub mod Runs
 pub mod ScriptRuns
+pub mod KeptRuns
 pub mod MachineCalls
 pub mod Reaching

@@ -18,7 +18,7 @@ use Rattle.world_laws.specs.World.Effect.{Impossible}
 use Rattle.mos_machines.specs.Server.{Verdict, verdict}
 use Rattle.mos_machines.specs.Server.Verdict.{Takes, Fails, Refuses}
 use Rattle.world_laws.specs.World.Opener.{Nobody, TheServer, TheDevice}
-use Rattle.world_laws.specs.World.PairingEvent.{OpenTo, Accept, Cut, Leave, Send, Read, Back, Dial, Admit, Ask, Hear, Got, Hangup, Miss, Beat, DeviceBeat, Want, DecksLeft, Reboot}
+use Rattle.world_laws.specs.World.PairingEvent.{FailKeep, OpenTo, Accept, Cut, Leave, Send, Read, Back, Dial, Admit, Ask, Hear, Got, Hangup, Miss, Beat, DeviceBeat, Want, DecksLeft, Reboot}
 use Rattle.world_laws.specs.Machines.{server_of, on_link, on_front, to_server_on, to_device_on, if_taken, admitted, accepted, server_call, device_call, server_after, device_after}
 
 -- a peer written as it was
@@ -155,11 +155,12 @@ server-call w d c Beat = beat-call w d (is_open (w.pairings d).peer.upper)
 server-call w d c DeviceBeat = no-call w d (device_beats_if (w.pairings d) (w.pairings d).gate.link).0.peer (device-beat-peer (w.pairings d) (w.pairings d).gate.link)
 server-call w d c (Want r) = same-peer (server_of w) d
 server-call w d c (DecksLeft k) = same-peer (server_of w) d
-server-call w d c Reboot = same-peer (server_of w) d
+server-call w d c (Reboot k) = same-peer (server_of w) d
+server-call w d c FailKeep = same-peer (server_of w) d
 
 -- The device.
 abbrev GoesOn : Pairing → Pairing → Option DeviceEvent → Type 0
-GoesOn l m e = m.gate ≡ device_after l.gate e
+GoesOn l m e = m.gate ≡ device_after l.failing l.gate e
 
 current : (b : Bool) (g : GateState) (x : StepAnswer × GateState) → b ≡ true → x.1 ≡ (unless_stale b g x).1
 current true g x h = refl
@@ -181,7 +182,7 @@ read-call l (Some c) e = go (front (l.connections c).to_device)
   where
     go : (f : Option Packet) → GoesOn l (reads_front l c (l.connections c) f).0 (on_front (λ p. ReadUpper c p.message l.decks) f)
     go None = refl
-    go (Some p) = current (is_link l.gate.upper c) l.gate (gate_says (gate_read l.gate l.decks p.message)) (own-link l.gate.upper c e)
+    go (Some p) = current (is_link l.gate.upper c) l.gate (gate_says (gate_read l.gate l.decks l.failing p.message)) (own-link l.gate.upper c e)
 
 ask-call : (l : Pairing) (o : Option ℕ) → l.gate.link ≡ o → GoesOn l (asks_if l o).0 (on_link (λ b. NextAsk b own_time) o)
 ask-call l None e = refl
@@ -201,7 +202,7 @@ got-call l (Some c) e = go (front (l.connections c).to_device)
   where
     go : (f : Option Packet) → GoesOn l (gets_front l c (l.connections c) f).0 (on_front (λ p. ReadAnswer c p.message) f)
     go None = refl
-    go (Some p) = current (is_link l.gate.link c) l.gate (gate_stepped (gate_got l.gate p.message)) (own-link l.gate.link c e)
+    go (Some p) = current (is_link l.gate.link c) l.gate (gate_stepped (gate_got l.gate l.failing p.message)) (own-link l.gate.link c e)
 
 hangup-call : (l : Pairing) (o : Option ℕ) → l.gate.link ≡ o → GoesOn l (hangs_if l o).0 (on_link (λ b. GateDropped b) o)
 hangup-call l None e = refl
@@ -277,7 +278,8 @@ device-call journal c l Beat = beat-gate l (is_open l.peer.upper)
 device-call journal c l DeviceBeat = device-beat-call l l.gate.link
 device-call journal c l (Want r) = refl
 device-call journal c l (DecksLeft k) = refl
-device-call journal c l Reboot = refl
+device-call journal c l (Reboot k) = refl
+device-call journal c l FailKeep = refl
 
 -- The same of the world.
 with-pairing : (w : World) (d : ℕ) (l : Pairing) (n : ℕ) → server_of (record w { count = n; pairings = set_number w.pairings d l }) ≡ with_peer (server_of w) d l.peer
@@ -298,9 +300,9 @@ world-server w d e h =
 device-at : (w : World) (d : ℕ) (e : PairingEvent) (x : Pairing × Effect) → ((at_device w d e x).0.pairings d).gate ≡ x.0.gate
 device-at w d e (l, o) = rw (eq-eqb d d refl) refl
 
-pub world-device : (w : World) (d : ℕ) (e : PairingEvent) → has_device w d ≡ true → ((world_step w (AtDevice d e)).0.pairings d).gate ≡ device_after (w.pairings d).gate (device_call (w.count + 1) (w.pairings d) e)
+pub world-device : (w : World) (d : ℕ) (e : PairingEvent) → has_device w d ≡ true → ((world_step w (AtDevice d e)).0.pairings d).gate ≡ device_after (w.pairings d).failing (w.pairings d).gate (device_call (w.count + 1) (w.pairings d) e)
 world-device w d e h =
-    subst (λ (b : Bool). let z : World × Effect = if b then at_device w d e (pairing_step w.journal (w.count + 1) (w.pairings d) e) else (w, Impossible) in (z.0.pairings d).gate ≡ device_after (w.pairings d).gate (device_call (w.count + 1) (w.pairings d) e)) (sym h)
+    subst (λ (b : Bool). let z : World × Effect = if b then at_device w d e (pairing_step w.journal (w.count + 1) (w.pairings d) e) else (w, Impossible) in (z.0.pairings d).gate ≡ device_after (w.pairings d).failing (w.pairings d).gate (device_call (w.count + 1) (w.pairings d) e)) (sym h)
     (device-at w d e (pairing_step w.journal (w.count + 1) (w.pairings d) e) ∙ device-call w.journal (w.count + 1) (w.pairings d) e)
 
 command-by : (w : World) (e : Entry) (v : Verdict) → server_of (commanded w e v).0 ≡ (server_told (server_of w) e v).1

@@ -13,7 +13,7 @@ use Rattle.mos_machines.specs.Server.ServerOut.{Idle, SendsEdit, SendsAgain, Sen
 use Rattle.mos_machines.specs.Messages.Message.{Heartbeat, RoAck}
 use Rattle.world_laws.specs.World.{Pairing, rest, front, pairing_step, takes_if, takes_front, takes_from}
 use Rattle.world_laws.specs.World.PairingEvent.{Back}
-use Rattle.world_laws.proofs.Replication.{Transfer, InFlight, IsInvariant}
+use Rattle.world_laws.proofs.Replication.{Shortage, Transfer, InFlight, IsInvariant}
 use Rattle.world_laws.proofs.Replication.Transfer.{TransferEntry, TransferAgain, TransferScript}
 use Rattle.world_laws.proofs.Replication.InFlight.{NotConnected, Nothing}
 use Rattle.world_laws.proofs.Channels.{Channels, ChannelsOk, PairingOk, replication, channels, transfer_in, in_flight_by, ask_of, incoming_in, transfer_out, success_front, ready_transfer, answer_in_flight}
@@ -61,13 +61,16 @@ inv_idle journal count l c views p i u f ok each =
       lacks = i.lacks;
       replications = λ r. subst (λ (x : Channels). IsInvariant (replication journal x r (views r) (l.gate.phase r) (l.applied r) (i.lacks r))) (sym w) (each r);
       holds = i.holds;
+      kept = i.kept;
+      doubts = i.doubts;
+      stops = i.stops;
     }
 
 wired_idle : (journal : List Entry) (w : Channels) (p : Packet) → ChannelsOk journal w → w.up ≡ p ∷ [] → (w.upper ≡ NotOpen → ⊥) → (w.upper ≡ Opened Idle → ⊥) → ChannelsOk journal (idle_channels w)
 wired_idle journal w p ok u n m = grind arith
 
 -- the greeting
-replication_greeted : (journal : List Entry) (w : Channels) (r : Text) (p : Packet) (view : View) (phase : Phase) (prefix : ℕ) (lacks : ℕ → Bool) → ChannelsOk journal w → w.up ≡ p ∷ [] → w.upper ≡ Greets → IsInvariant (replication journal w r view phase prefix lacks) → IsInvariant (replication journal (idle_channels w) r view phase prefix lacks)
+replication_greeted : (journal : List Entry) (w : Channels) (r : Text) (p : Packet) (view : View) (phase : Phase) (prefix : ℕ) (lacks : Shortage) → ChannelsOk journal w → w.up ≡ p ∷ [] → w.upper ≡ Greets → IsInvariant (replication journal w r view phase prefix lacks) → IsInvariant (replication journal (idle_channels w) r view phase prefix lacks)
 replication_greeted journal w r p view phase prefix lacks ok u g i =
     let a : w.accepted ≡ true = is_accepted in
     let t : in_flight_by journal w r w.upper ≡ NotConnected true (transfer_in r w.down) = rw (g, a) refl in
@@ -77,7 +80,7 @@ replication_greeted journal w r p view phase prefix lacks ok u g i =
     is_accepted = grind arith
 
 -- no edit of r was in flight
-replication_other : (journal : List Entry) (w : Channels) (r : Text) (o : ServerOut) (view : View) (phase : Phase) (prefix : ℕ) (lacks : ℕ → Bool) → w.upper ≡ Opened o → transfer_out r o ≡ None → IsInvariant (replication journal w r view phase prefix lacks) → IsInvariant (replication journal (idle_channels w) r view phase prefix lacks)
+replication_other : (journal : List Entry) (w : Channels) (r : Text) (o : ServerOut) (view : View) (phase : Phase) (prefix : ℕ) (lacks : Shortage) → w.upper ≡ Opened o → transfer_out r o ≡ None → IsInvariant (replication journal w r view phase prefix lacks) → IsInvariant (replication journal (idle_channels w) r view phase prefix lacks)
 replication_other journal w r o view phase prefix lacks u n i =
     let t : in_flight_by journal w r w.upper ≡ Nothing = rw (u, n) refl in
     subst (λ (x : InFlight). IsInvariant (replication_at journal r x view (ask_of w r) w.live (incoming_in r w.heard) phase prefix lacks)) t i
@@ -87,7 +90,7 @@ abbrev view_back : Bool → View → Transfer → View
 view_back true v x = after_success v x
 view_back false v x = Out
 
-replication_back : (journal : List Entry) (w : Channels) (r : Text) (o : ServerOut) (x : Transfer) (p : Packet) (view : View) (phase : Phase) (prefix : ℕ) (lacks : ℕ → Bool) (b : Bool) → ChannelsOk journal w → w.up ≡ p ∷ [] → w.upper ≡ Opened o → transfer_out r o ≡ Some x → success_front (ready_transfer journal r x) (p ∷ []) ≡ b → IsInvariant (replication journal w r view phase prefix lacks)
+replication_back : (journal : List Entry) (w : Channels) (r : Text) (o : ServerOut) (x : Transfer) (p : Packet) (view : View) (phase : Phase) (prefix : ℕ) (lacks : Shortage) (b : Bool) → ChannelsOk journal w → w.up ≡ p ∷ [] → w.upper ≡ Opened o → transfer_out r o ≡ Some x → success_front (ready_transfer journal r x) (p ∷ []) ≡ b → IsInvariant (replication journal w r view phase prefix lacks)
     → IsInvariant (replication journal (idle_channels w) r (view_back b view x) phase prefix lacks)
 replication_back journal w r o x p view phase prefix lacks b ok u e n g i = go b g
   where

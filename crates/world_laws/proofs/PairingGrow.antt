@@ -11,18 +11,18 @@ use Rattle.mos_machines.specs.Device.{GateOut, Phase}
 use Rattle.mos_machines.specs.Server.View.{Out, Listed, In, From}
 use Rattle.mos_machines.specs.Device.GateOut.{NotAsking, AsksFor, AsksAll, AsksBeat}
 use Rattle.mos_machines.specs.Messages.Message.{RoEdit}
-use Rattle.world_laws.proofs.Replication.{Transfer, Replication, IsInvariant, readable}
+use Rattle.world_laws.proofs.Replication.{Doubt, Shortage, Transfer, Replication, IsInvariant, readable}
 use Rattle.world_laws.proofs.Replication.Request.{AnsweredWith}
 use Rattle.world_laws.proofs.Channels.{Channels, UpperPart, ChannelsOk, replication, channels, transfer_in, in_flight_by, ask_of, transfer_out, Answer_to, open_in_flight, is_some_packet, success_transfer, upper_part, Tagged, DownOk, Carries, UpperPartOk, success_front}
 use Rattle.world_laws.proofs.Channels.UpperPart.{NotOpen, Greets, Opened}
 use Rattle.world_laws.proofs.Joining.{readable-in_flight}
-use Rattle.world_laws.proofs.Invariant.{PairingInvariant}
+use Rattle.world_laws.proofs.Invariant.{PairingInvariant, IsDoubted}
 use Rattle.mos_edits.specs.Entries.Kind.{IsWhole, IsAction, IsReady, IsNotReady}
 use Rattle.mos_machines.specs.Messages.Tag.{Untagged, OfEntry, OfAgain, OfScript, OfList}
 use Rattle.mos_machines.specs.Server.Upper.{Down, Greeting, Open}
 use Rattle.mos_machines.specs.Server.ServerOut.{Idle, SendsEdit, SendsAgain, SendsScript, SendsBeat}
-use Rattle.world_laws.specs.World.{Pairing, pairing_given}
-use Rattle.world_laws.proofs.Keeps.{keeps_grow, keeps_given, is_open as in_flight_open}
+use Rattle.world_laws.specs.World.{Pairing, Uncertain, pairing_given}
+use Rattle.world_laws.proofs.Keeps.{doubt_bound, keeps_grow, keeps_given, is_open as in_flight_open}
 use Rattle.world_laws.proofs.Replication.Transfer.{TransferEntry, TransferAgain, TransferScript}
 use Rattle.mos_edits.proofs.Identifiers.{same-true, same-self}
 use Rattle.mos_edits.proofs.Journals.{kind_at, kinds_entry_count, Grown, grown_push, grown_force, entry_count_push, edit_push}
@@ -130,22 +130,30 @@ in_flight_grow journal new g w r NotOpen h = refl
 in_flight_grow journal new g w r Greets h = refl
 in_flight_grow journal new g w r (Opened o) h = ap (λ (b : Bool). open_in_flight w.joined (is_some_packet w.down) b (transfer_out r o)) (success_grow journal new g r (transfer_out r o) w.up (λ k e. h o k refl e))
 
-transfer_bound : (journal : List Entry) (w : Channels) (r : Text) (view : View) (phase : Phase) (prefix : ℕ) (lacks : ℕ → Bool) → IsInvariant (replication journal w r view phase prefix lacks) → (o : ServerOut) (k : ℕ) → w.upper ≡ Opened o → transfer_out r o ≡ Some (TransferEntry k) → k < entry_count journal r
+transfer_bound : (journal : List Entry) (w : Channels) (r : Text) (view : View) (phase : Phase) (prefix : ℕ) (lacks : Shortage) → IsInvariant (replication journal w r view phase prefix lacks) → (o : ServerOut) (k : ℕ) → w.upper ≡ Opened o → transfer_out r o ≡ Some (TransferEntry k) → k < entry_count journal r
 transfer_bound journal w r view phase prefix lacks i o k u e =
     let n = kinds_entry_count journal r in
     let t : in_flight_by journal w r w.upper ≡ open_in_flight w.joined (is_some_packet w.down) (success_transfer journal r (Some (TransferEntry k)) w.up) (Some (TransferEntry k)) = rw (u, e) refl in
     let b = fits_entry (replication journal w r view phase prefix lacks) i w.joined (is_some_packet w.down) (success_transfer journal r (Some (TransferEntry k)) w.up) k t in omega (arith, b, n)
 
-replication_grow : (journal new : List Entry) → Grown journal new → (w : Channels) (r : Text) (view : View) (phase : Phase) (prefix : ℕ) (lacks : ℕ → Bool) → IsInvariant (replication journal w r view phase prefix lacks) → IsInvariant (replication new w r view phase prefix lacks)
+replication_grow : (journal new : List Entry) → Grown journal new → (w : Channels) (r : Text) (view : View) (phase : Phase) (prefix : ℕ) (lacks : Shortage) → IsInvariant (replication journal w r view phase prefix lacks) → IsInvariant (replication new w r view phase prefix lacks)
 replication_grow journal new g w r view phase prefix lacks i =
     rw (in_flight_grow journal new g w r w.upper (transfer_bound journal w r view phase prefix lacks i)) (keeps_grow (replication journal w r view phase prefix lacks) i (map kind (entries r new)) (λ m. in_force new r m) (g.kinds r) (λ m h. let n = kinds_entry_count journal r in grown_force journal new g r m (omega (arith, h, n))))
+
+-- a doubt stays as the journal grows
+doubted_grow : (journal new : List Entry) → Grown journal new → (r : Text) (held : Option Order) (u : Option Uncertain) (o : Option Doubt) → ((d : Doubt) → o ≡ Some d → d.prefix ≤ entry_count journal r) → IsDoubted journal r held u o → IsDoubted new r held u o
+doubted_grow journal new g r held u None b h = h
+doubted_grow journal new g r held u (Some d) b h = (h.0, h.1, h.2, h.3, h.4 ∙ sym (lacking-grown journal new g r d.lacks d.prefix (b d refl)))
 
 pub inv_grow : (journal new : List Entry) (count : ℕ) (l : Pairing) → Grown journal new → PairingInvariant journal count l → PairingInvariant new count l
 inv_grow journal new count l g i = record {
   ok = record { unaccepted = i.ok.unaccepted; fresh = i.ok.fresh; upper = i.ok.upper; read = i.ok.read; linked = i.ok.linked; dialed = i.ok.dialed; silent = i.ok.silent; channels_ok = wired_grow journal new g (channels l) (bounds journal count l i) i.ok.channels_ok };
   lacks = i.lacks;
   replications = λ r. replication_grow journal new g (channels l) r (l.peer.views r) (l.gate.phase r) (l.applied r) (i.lacks r) (i.replications r);
-  holds = λ r. let m = (i.replications r).prefix in let n = kinds_entry_count journal r in i.holds r ∙ sym (lacking-grown journal new g r (i.lacks r) (l.applied r) (omega (arith, m, n)));
+  holds = λ r. let m = (i.replications r).prefix in let n = kinds_entry_count journal r in i.holds r ∙ sym (lacking-grown journal new g r (i.lacks r).lacks (l.applied r) (omega (arith, m, n)));
+  kept = i.kept;
+  doubts = λ r. doubted_grow journal new g r (l.gate.held r) l.uncertain (i.lacks r).doubt (λ d e. let b = doubt_bound (replication journal (channels l) r (l.peer.views r) (l.gate.phase r) (l.applied r) (i.lacks r)) (i.replications r) d e in let n = kinds_entry_count journal r in omega (arith, b, n)) (i.doubts r);
+  stops = i.stops;
 }
 
 asked_entry_count : (l : Replication) → IsInvariant l → (m : ℕ) → l.ask ≡ AnsweredWith m → m ≤ length l.kinds
@@ -163,7 +171,7 @@ opened journal w r (Open c o) IsReady h = absurd (cc)
 opened journal w r (Open c o) IsNotReady h = absurd (cc)
 
 -- a whole-order edit is given to an open device whose view is Out
-replication_given : (journal : List Entry) (e : Entry) (w : Channels) (b : Bool) (view : View) (phase : Phase) (prefix : ℕ) (lacks : ℕ → Bool) → IsInvariant (replication journal w e.ro view phase prefix lacks) → (b ≡ true → (in_flight_open (in_flight_by journal w e.ro w.upper) ≡ true) × (kind e.edit ≡ IsWhole))
+replication_given : (journal : List Entry) (e : Entry) (w : Channels) (b : Bool) (view : View) (phase : Phase) (prefix : ℕ) (lacks : Shortage) → IsInvariant (replication journal w e.ro view phase prefix lacks) → (b ≡ true → (in_flight_open (in_flight_by journal w e.ro w.upper) ≡ true) × (kind e.edit ≡ IsWhole))
     → IsInvariant (replication (journal ++ e ∷ []) w e.ro (view_given b (entry_count journal e.ro) view) phase prefix lacks)
 replication_given journal e w false view phase prefix lacks i h = replication_grow journal (journal ++ e ∷ []) (grown_push journal e) w e.ro view phase prefix lacks i
 replication_given journal e w true (Listed m ks) phase prefix lacks i h = replication_grow journal (journal ++ e ∷ []) (grown_push journal e) w e.ro (Listed m ks) phase prefix lacks i
@@ -177,8 +185,11 @@ replication_given journal e w true Out phase prefix lacks i h =
     let n = kinds_entry_count journal e.ro in let n2 = kinds_entry_count (journal ++ e ∷ []) e.ro in let more = entry_count_push journal e in
     let whole : slice_get (map kind (entries e.ro (journal ++ e ∷ []))) (entry_count journal e.ro) ≡ Some IsWhole = kind_at (journal ++ e ∷ []) e.ro (entry_count journal e.ro) (omega arith) ∙ (rw (edit_push journal e, x.1) refl) in
     let marked = i.prefix in
-    keeps_given (replication (journal ++ e ∷ []) w e.ro Out phase prefix lacks) j (entry_count journal e.ro) (rw t x.0) refl whole (omega arith) (omega (arith, marked, n)) (λ m q. asked_bound m q)
+    keeps_given (replication (journal ++ e ∷ []) w e.ro Out phase prefix lacks) j (entry_count journal e.ro) (rw t x.0) refl whole (omega arith) (omega (arith, marked, n)) (λ m q. asked_bound m q) (λ d q. doubt_below d q)
   where
+    doubt_below : (d : Doubt) → lacks.doubt ≡ Some d → d.prefix ≤ entry_count journal e.ro
+    doubt_below d q = let n = kinds_entry_count journal e.ro in let b = doubt_bound (replication journal w e.ro Out phase prefix lacks) i d q in omega (arith, b, n)
+
     asked_bound : (m : ℕ) → ask_of w e.ro ≡ AnsweredWith m → m ≤ entry_count journal e.ro
     asked_bound m q = let n = kinds_entry_count journal e.ro in let b = asked_entry_count (replication journal w e.ro Out phase prefix lacks) i m q in omega (arith, b, n)
 
@@ -191,6 +202,9 @@ inv_given journal e count l i =
       lacks = i.lacks;
       replications = λ r. each r (same_id r e.ro) refl;
       holds = j.holds;
+      kept = j.kept;
+      doubts = j.doubts;
+      stops = j.stops;
     }
   where
     v : View

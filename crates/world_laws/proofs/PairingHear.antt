@@ -13,7 +13,7 @@ use Rattle.mos_machines.specs.Device.GateOut.{AsksFor}
 use Rattle.mos_machines.specs.Messages.Message.{Heartbeat, RoEdit, RoAck, RoReq, RoReqAll, RoList, RoListAll, RoElementStat, OtherMessage}
 use Rattle.world_laws.specs.World.{Pairing, write_device, rest, front, pairing_step, hears_if, hears_front, hears_from}
 use Rattle.world_laws.specs.World.PairingEvent.{Hear}
-use Rattle.world_laws.proofs.Replication.{Request, IsInvariant, ReadyBefore}
+use Rattle.world_laws.proofs.Replication.{Shortage, Request, IsInvariant, ReadyBefore}
 use Rattle.world_laws.proofs.Replication.InFlight.{Nothing}
 use Rattle.world_laws.proofs.Replication.Request.{RequestLost, AnsweredWith}
 use Rattle.world_laws.proofs.Replication.Incoming.{NoneComes, AskComes, BeatComes}
@@ -82,7 +82,7 @@ ready_at journal r (suc j) h e =
     pred_suc : (j : ℕ) → j ≡ suc j - 1
     pred_suc j = omega arith
 
-ready_replication : (journal : List Entry) (w : Channels) (r : Text) (v : View) (phase : Phase) (prefix : ℕ) (lacks : ℕ → Bool) → IsInvariant (replication journal w r v phase prefix lacks) → (m : ℕ) (js : List ℕ) → v ≡ Listed m js → ready_view journal r v ≡ true → ReadyBefore (map kind (entries r journal)) m
+ready_replication : (journal : List Entry) (w : Channels) (r : Text) (v : View) (phase : Phase) (prefix : ℕ) (lacks : Shortage) → IsInvariant (replication journal w r v phase prefix lacks) → (m : ℕ) (js : List ℕ) → v ≡ Listed m js → ready_view journal r v ≡ true → ReadyBefore (map kind (entries r journal)) m
 ready_replication journal w r Out phase prefix lacks i m js e x = absurd (cc)
 ready_replication journal w r (In n a ks) phase prefix lacks i m js e x = absurd (cc)
 ready_replication journal w r (From k) phase prefix lacks i m js e x = absurd (cc)
@@ -91,21 +91,21 @@ ready_replication journal w r (Listed n ks) phase prefix lacks i m js e x =
     let bound : n ≤ length (map kind (entries r journal)) = let v = i.view in v.2 in
     subst (λ (z : ℕ). ReadyBefore (map kind (entries r journal)) z) n_is (ready_at journal r n (omega (arith, bound, kinds_entry_count journal r)) x)
 
-replication_hear_beat : (journal : List Entry) (w : Channels) (r : Text) (lost : Bool) (p a : Packet) (time : MosTime) (view : View) (phase : Phase) (prefix : ℕ) (lacks : ℕ → Bool) → ChannelsOk journal w → w.heard ≡ p ∷ [] → p.message ≡ Heartbeat time → IsInvariant (replication journal w r view phase prefix lacks)
+replication_hear_beat : (journal : List Entry) (w : Channels) (r : Text) (lost : Bool) (p a : Packet) (time : MosTime) (view : View) (phase : Phase) (prefix : ℕ) (lacks : Shortage) → ChannelsOk journal w → w.heard ≡ p ∷ [] → p.message ≡ Heartbeat time → IsInvariant (replication journal w r view phase prefix lacks)
     → IsInvariant (replication journal (hear_channels w lost a) r (settled journal true r view) phase prefix lacks)
 replication_hear_beat journal w r lost p a time view phase prefix lacks ok h m i =
     let c : incoming_in r w.heard ≡ BeatComes = rw (h, m) refl in
     rw (ask_same journal w r lost a (live_out journal w p r ok h (λ x. let y = rw m at x in cc)), ← heard_settled journal r true view)
     (keeps_hear_beat (replication journal w r view phase prefix lacks) i (ready_view journal r view) (ready_replication journal w r view phase prefix lacks i) c)
 
-replication_hear_other : (journal : List Entry) (w : Channels) (r : Text) (lost : Bool) (p a : Packet) (view : View) (phase : Phase) (prefix : ℕ) (lacks : ℕ → Bool) → ChannelsOk journal w → w.heard ≡ p ∷ [] → (w.live ≡ true → is_for r w.out ≡ false) → IsInvariant (replication journal w r view phase prefix lacks)
+replication_hear_other : (journal : List Entry) (w : Channels) (r : Text) (lost : Bool) (p a : Packet) (view : View) (phase : Phase) (prefix : ℕ) (lacks : Shortage) → ChannelsOk journal w → w.heard ≡ p ∷ [] → (w.live ≡ true → is_for r w.out ≡ false) → IsInvariant (replication journal w r view phase prefix lacks)
     → IsInvariant (replication journal (hear_channels w lost a) r (settled journal false r view) phase prefix lacks)
 replication_hear_other journal w r lost p a view phase prefix lacks ok h n i =
     rw (ask_same journal w r lost a n, ← heard_settled journal r false view)
     (keeps_hear_other (replication journal w r view phase prefix lacks) i (ready_view journal r view))
 
 -- NOT NOW, to the device that asks
-replication_not_now : (journal : List Entry) (w : Channels) (q : Text) (lost : Bool) (p : Packet) (view : View) (phase : Phase) (prefix : ℕ) (lacks : ℕ → Bool) → ChannelsOk journal w → w.heard ≡ p ∷ [] → p.message ≡ RoReq q → w.live ≡ true → IsInvariant (replication journal w q view phase prefix lacks)
+replication_not_now : (journal : List Entry) (w : Channels) (q : Text) (lost : Bool) (p : Packet) (view : View) (phase : Phase) (prefix : ℕ) (lacks : Shortage) → ChannelsOk journal w → w.heard ≡ p ∷ [] → p.message ≡ RoReq q → w.live ≡ true → IsInvariant (replication journal w q view phase prefix lacks)
     → IsInvariant (replication journal (hear_channels w lost (untagged (RoAck q NotNow))) q (settled journal false q view) phase prefix lacks)
 replication_not_now journal w q lost p view phase prefix lacks ok h m l i =
     let x = live_asked journal w p q ok h m l in
@@ -134,7 +134,7 @@ pub tag_list : (q : Text) (m : ℕ) (o : Option Order) → (list_of q m o).tag �
 tag_list q m None = refl
 tag_list q m (Some x) = refl
 
-replication_list : (journal : List Entry) (w : Channels) (q : Text) (lost : Bool) (p : Packet) (o : Option Order) (view : View) (phase : Phase) (prefix : ℕ) (lacks : ℕ → Bool) → ChannelsOk journal w → w.heard ≡ p ∷ [] → p.message ≡ RoReq q → in_flight_by journal w q w.upper ≡ Nothing → IsInvariant (replication journal w q view phase prefix lacks)
+replication_list : (journal : List Entry) (w : Channels) (q : Text) (lost : Bool) (p : Packet) (o : Option Order) (view : View) (phase : Phase) (prefix : ℕ) (lacks : Shortage) → ChannelsOk journal w → w.heard ≡ p ∷ [] → p.message ≡ RoReq q → in_flight_by journal w q w.upper ≡ Nothing → IsInvariant (replication journal w q view phase prefix lacks)
     → IsInvariant (replication journal (hear_channels w lost (list_of q (entry_count journal q) o)) q (Listed (entry_count journal q) (in_force journal q (entry_count journal q))) phase prefix lacks)
 replication_list journal w q lost p o view phase prefix lacks ok h m f i = go w.live refl lost refl
   where
@@ -187,6 +187,9 @@ inv_hear journal count l c views p a i e f fits each =
       lacks = i.lacks;
       replications = λ r. subst (λ (x : Channels). IsInvariant (replication journal x r (views r) (l.gate.phase r) (l.applied r) (i.lacks r))) (sym w) (each r);
       holds = i.holds;
+      kept = i.kept;
+      doubts = i.doubts;
+      stops = i.stops;
     }
 
 hear_other : (journal : List Entry) (count : ℕ) (l : Pairing) (c : ℕ) (p a : Packet) → PairingInvariant journal count l → l.peer.link ≡ Some c → front (l.connections c).to_server ≡ Some p → FitsAnswer journal p.message a → ((r : Text) → incoming_by r p.message ≡ AskComes → ⊥)

@@ -8,7 +8,7 @@ use Rattle.mos_machines.specs.Server.{ServerOut, Upper, View, upper_link}
 use Rattle.mos_machines.specs.Device.{GateOut, Phase}
 use Rattle.world_laws.specs.World.{Pairing, Connection, rest, lose}
 use Rattle.world_laws.specs.World.Direction.{ToServer, ToDevice}
-use Rattle.world_laws.proofs.Replication.{Transfer, IsInvariant}
+use Rattle.world_laws.proofs.Replication.{Shortage, Transfer, IsInvariant}
 use Rattle.world_laws.proofs.Replication.InFlight.{NotConnected}
 use Rattle.world_laws.proofs.Replication.Request.{RequestSent}
 use Rattle.world_laws.proofs.Replication.Incoming.{NoneComes, AskComes}
@@ -79,7 +79,7 @@ lost_ask journal w v r s ok = grind arith
 lost_incoming : (w v : Channels) (r : Text) → Loss w v → (incoming_in r v.heard ≡ incoming_in r w.heard) ⊎ (incoming_in r v.heard ≡ NoneComes)
 lost_incoming w v r s = grind arith
 
-replication_loss : (journal : List Entry) (w v : Channels) (r : Text) (view : View) (phase : Phase) (prefix : ℕ) (lacks : ℕ → Bool) → Loss w v → ChannelsOk journal w → IsInvariant (replication journal w r view phase prefix lacks) → IsInvariant (replication journal v r view phase prefix lacks)
+replication_loss : (journal : List Entry) (w v : Channels) (r : Text) (view : View) (phase : Phase) (prefix : ℕ) (lacks : Shortage) → Loss w v → ChannelsOk journal w → IsInvariant (replication journal w r view phase prefix lacks) → IsInvariant (replication journal v r view phase prefix lacks)
 replication_loss journal w v r view phase prefix lacks s ok i =
     let a = keeps_lost_in_flight (replication journal w r view phase prefix lacks) i (in_flight_by journal v r v.upper) (lost_in_flight journal w v r s ok) in
     let b = keeps_lost_ask (record (replication journal w r view phase prefix lacks) { in_flight = in_flight_by journal v r v.upper }) a (ask_of v r) (incoming_in r v.heard) (lost_ask journal w v r s ok) (lost_incoming w v r s) (asks_still journal w v r s ok (i.heard)) in
@@ -107,6 +107,9 @@ inv_with journal count l c x i o a p s = record {
   lacks = i.lacks;
   replications = λ r. replication_loss journal (channels l) (channels (pairing_with l c x)) r (l.peer.views r) (l.gate.phase r) (l.applied r) (i.lacks r) s i.ok.channels_ok (i.replications r);
   holds = i.holds;
+  kept = i.kept;
+  doubts = i.doubts;
+  stops = i.stops;
 }
 
 -- the front of what the server hears on its upper connection is taken

@@ -14,7 +14,7 @@ use Rattle.mos_machines.specs.Server.ServerOut.{Idle, SendsEdit, SendsAgain, Sen
 use Rattle.world_laws.specs.World.{own_time, own_beat, Pairing, write_device, pairing_step, sends_if, sends_on}
 use Rattle.world_laws.specs.World.Opener.{TheServer}
 use Rattle.world_laws.specs.World.PairingEvent.{Send}
-use Rattle.world_laws.proofs.Replication.{Transfer, InFlight, Replication, IsInvariant}
+use Rattle.world_laws.proofs.Replication.{Shortage, Transfer, InFlight, Replication, IsInvariant}
 use Rattle.world_laws.proofs.Replication.Transfer.{TransferEntry, TransferAgain, TransferScript}
 use Rattle.world_laws.proofs.Replication.InFlight.{Nothing, Unread, Lost}
 use Rattle.world_laws.proofs.Channels.{Channels, ChannelsOk, PairingOk, replication, channels, in_flight_by, ask_of, incoming_in, transfer_out, open_in_flight, is_some_packet}
@@ -88,13 +88,13 @@ due_transfer journal views r (SendsEdit q k) i n c = out_transfer q r (same_id q
 due_transfer journal views r (SendsAgain q m) i n c = out_transfer q r (same_id q r) (TransferAgain m) i (λ z y. CanSend journal views (out_of z y)) refl n c
 due_transfer journal views r (SendsScript q k m) i n c = out_transfer q r (same_id q r) (TransferScript k m) i (λ z y. CanSend journal views (out_of z y)) refl n c
 
-replication_due_transfer : (journal : List Entry) (w : Channels) (r : Text) (views : Text → View) (i : Transfer) (phase : Phase) (prefix : ℕ) (lacks : ℕ → Bool) → CanSend journal views (out_of r i) → Due (replication journal w r (views r) phase prefix lacks) (views r) i
+replication_due_transfer : (journal : List Entry) (w : Channels) (r : Text) (views : Text → View) (i : Transfer) (phase : Phase) (prefix : ℕ) (lacks : Shortage) → CanSend journal views (out_of r i) → Due (replication journal w r (views r) phase prefix lacks) (views r) i
 replication_due_transfer journal w r views i phase prefix lacks c = let n = kinds_entry_count journal r in grind arith
 
-replication_due : (journal : List Entry) (w : Channels) (r : Text) (views : Text → View) (o : ServerOut) (i : Transfer) (phase : Phase) (prefix : ℕ) (lacks : ℕ → Bool) → CanSend journal views o → transfer_out r o ≡ Some i → Due (replication journal w r (views r) phase prefix lacks) (views r) i
+replication_due : (journal : List Entry) (w : Channels) (r : Text) (views : Text → View) (o : ServerOut) (i : Transfer) (phase : Phase) (prefix : ℕ) (lacks : Shortage) → CanSend journal views o → transfer_out r o ≡ Some i → Due (replication journal w r (views r) phase prefix lacks) (views r) i
 replication_due journal w r views o i phase prefix lacks c n = replication_due_transfer journal w r views i phase prefix lacks (due_transfer journal views r o i n c)
 
-replication_send : (journal : List Entry) (w : Channels) (r : Text) (views : Text → View) (lost : Bool) (o : ServerOut) (x : Option Transfer) (phase : Phase) (prefix : ℕ) (lacks : ℕ → Bool) → ChannelsOk journal w → w.upper ≡ Opened Idle → CanSend journal views o → transfer_out r o ≡ x → IsInvariant (replication journal w r (views r) phase prefix lacks)
+replication_send : (journal : List Entry) (w : Channels) (r : Text) (views : Text → View) (lost : Bool) (o : ServerOut) (x : Option Transfer) (phase : Phase) (prefix : ℕ) (lacks : Shortage) → ChannelsOk journal w → w.upper ≡ Opened Idle → CanSend journal views o → transfer_out r o ≡ x → IsInvariant (replication journal w r (views r) phase prefix lacks)
     → IsInvariant (replication journal (send_channels journal w lost o) r (views r) phase prefix lacks)
 replication_send journal w r views lost o None phase prefix lacks ok u c n i = rw (in_flight_send_none journal w r lost o n) (rw (in_flight_idle journal w r u) at i)
 replication_send journal w r views lost o (Some x) phase prefix lacks ok u c n i = rw (in_flight_send_some journal w r lost o x ok u n) (go (w.joined && not lost))
@@ -122,6 +122,9 @@ inv_send journal count l c o note i u s =
       lacks = i.lacks;
       replications = λ r. subst (λ (x : Channels). IsInvariant (replication journal x r (l.peer.views r) (l.gate.phase r) (l.applied r) (i.lacks r))) (sym w) (replication_send journal (channels l) r l.peer.views (l.connections c).lost_device o (transfer_out r o) (l.gate.phase r) (l.applied r) (i.lacks r) i.ok.channels_ok idle s refl (i.replications r));
       holds = i.holds;
+      kept = i.kept;
+      doubts = i.doubts;
+      stops = i.stops;
     }
 
 abbrev MaySend : List Entry → (Text → View) → ServerOut → Type 0

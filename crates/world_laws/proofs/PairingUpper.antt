@@ -11,7 +11,7 @@ use Rattle.mos_machines.specs.Server.View.{Out}
 use Rattle.world_laws.specs.World.{Pairing, Opener, pairing_step, cuts, leaves, accepts_it, new_connection, own_beat}
 use Rattle.world_laws.specs.World.Opener.{Nobody, TheServer, TheDevice}
 use Rattle.world_laws.specs.World.PairingEvent.{OpenTo, Accept, Cut, Leave}
-use Rattle.world_laws.proofs.Replication.{Transfer, IsInvariant}
+use Rattle.world_laws.proofs.Replication.{Shortage, Transfer, IsInvariant}
 use Rattle.world_laws.proofs.Replication.InFlight.{NotConnected}
 use Rattle.world_laws.proofs.Channels.{Channels, ChannelsOk, PairingOk, replication, channels, transfer_in, in_flight_by, ask_of, incoming_in, open_in_flight, is_some_packet, success_transfer, transfer_out, Carries, IsBeats, same_link}
 use Rattle.world_laws.proofs.Channels.UpperPart.{Greets}
@@ -40,6 +40,9 @@ inv_cut journal count l i = record {
   replications = λ r. subst (λ (x : Option Transfer). IsInvariant (replication_at journal r (NotConnected false x) Out (ask_of (channels l) r) (channels l).live (incoming_in r (channels l).heard) (l.gate.phase r) (l.applied r) (i.lacks r)))
       (readable-in_flight journal (channels l) r i.ok.channels_ok) (keeps_closed (replication journal (channels l) r (l.peer.views r) (l.gate.phase r) (l.applied r) (i.lacks r)) (i.replications r));
   holds = i.holds;
+  kept = i.kept;
+  doubts = i.doubts;
+  stops = i.stops;
 }
 
 cuts_go : (journal : List Entry) (count : ℕ) (l : Pairing) (u : Upper) → PairingInvariant journal count l → PairingInvariant journal count (cuts l u).0
@@ -90,6 +93,9 @@ inv_leave journal count l i =
       replications = λ r. subst (λ (x : Channels). IsInvariant (replication journal x r (l.peer.views r) (l.gate.phase r) (l.applied r) (i.lacks r))) (sym w)
           (rw (in_flight_moved journal (channels l) r [] i.ok.channels_ok refl) (keeps_leave (replication journal (channels l) r (l.peer.views r) (l.gate.phase r) (l.applied r) (i.lacks r)) (i.replications r)));
       holds = i.holds;
+      kept = i.kept;
+      doubts = i.doubts;
+      stops = i.stops;
     }
 
 leaves_go : (journal : List Entry) (count : ℕ) (l : Pairing) (u : Option ℕ) → PairingInvariant journal count l → PairingInvariant journal count (leaves l u).0
@@ -133,7 +139,7 @@ ok_accept journal count l c ok o a =
     wired_accept journal l c true e w h a = grind (arith, nat_tests)
     wired_accept journal l c false e w h a = grind (arith, nat_tests)
 
-replication_accept : (journal : List Entry) (w : Channels) (r : Text) (b : Bool) (down : List Packet) (view : View) (phase : Phase) (prefix : ℕ) (lacks : ℕ → Bool) → ChannelsOk journal w → IsBeats down → (b ≡ true → (w.upper ≡ Greets) × (w.accepted ≡ false)) → IsInvariant (replication journal w r view phase prefix lacks)
+replication_accept : (journal : List Entry) (w : Channels) (r : Text) (b : Bool) (down : List Packet) (view : View) (phase : Phase) (prefix : ℕ) (lacks : Shortage) → ChannelsOk journal w → IsBeats down → (b ≡ true → (w.upper ≡ Greets) × (w.accepted ≡ false)) → IsInvariant (replication journal w r view phase prefix lacks)
     → IsInvariant (replication journal (record w { accepted = if b then true else w.accepted; joined = b; down = down }) r view (crossed phase) prefix lacks)
 replication_accept journal w r false down view phase prefix lacks ok h g i =
     rw (in_flight_moved journal w r down ok (beats_transfer down r h)) (keeps_accept_other (replication journal w r view phase prefix lacks) i)
@@ -156,6 +162,9 @@ inv_accept journal count l c i o a =
       replications = λ r. subst (λ (x : Channels). IsInvariant (replication journal x r (l.peer.views r) (crossed (l.gate.phase r)) (l.applied r) (i.lacks r))) (sym (channels_accept journal count l c i.ok o a))
           (replication_accept journal (channels l) r (same_link (upper_link l.peer.upper) (Some c)) (l.connections c).to_device (l.peer.views r) (l.gate.phase r) (l.applied r) (i.lacks r) i.ok.channels_ok beats (is_greeting journal count l c i.ok a) (i.replications r));
       holds = i.holds;
+      kept = i.kept;
+      doubts = i.doubts;
+      stops = i.stops;
     }
 
 accepts_go : (journal : List Entry) (count : ℕ) (l : Pairing) (c : ℕ) (o : Opener) (b : Bool) → PairingInvariant journal count l → (l.connections c).opener ≡ o → (l.connections c).accepted ≡ b → PairingInvariant journal count (accepts_it l c (l.connections c) o b).0
@@ -193,6 +202,9 @@ inv_open journal count l i =
           (subst (λ (x : Option Transfer). IsInvariant (replication_at journal r (NotConnected false x) Out (ask_of (channels l) r) (channels l).live (incoming_in r (channels l).heard) (l.gate.phase r) (l.applied r) (i.lacks r)))
           (readable-in_flight journal (channels l) r i.ok.channels_ok) (keeps_closed (replication journal (channels l) r (l.peer.views r) (l.gate.phase r) (l.applied r) (i.lacks r)) (i.replications r)));
       holds = i.holds;
+      kept = i.kept;
+      doubts = i.doubts;
+      stops = i.stops;
     }
 
 pub keeps_open_to : (journal : List Entry) (count : ℕ) (l : Pairing) → PairingInvariant journal count l → PairingInvariant journal (count + 1) (pairing_step journal (count + 1) l OpenTo).0

@@ -41,6 +41,16 @@ pub data Incoming : Type 0 where
   BeatComes : Incoming
   OtherComes : Incoming
 
+-- What an entry in doubt, whose append to the device's keeper failed, would make of the applied prefix and of what is lacking.
+pub record Doubt : Type 0 where
+  pub prefix : ℕ
+  pub lacks : ℕ → Bool
+
+-- what the device lacks of an order, and what its keeper may have of it
+pub record Shortage : Type 0 where
+  pub lacks : ℕ → Bool
+  pub doubt : Option Doubt
+
 -- `kinds`: of the order's entries. `view`: the server's. `ask`, `phase`, `prefix`: the device's request, phase and applied
 -- prefix. `live`: the server hears on the connection that the device has. `incoming`: what it hears next. `lacks` tells the
 -- entries whose scripts the device lacks, `in_force` those whose scripts stand after a number of entries.
@@ -55,6 +65,7 @@ pub record Replication : Type 0 where
   pub prefix : ℕ
   pub lacks : ℕ → Bool
   pub in_force : ℕ → List ℕ
+  pub doubt : Option Doubt
 
 -- the device has each script
 abbrev pub IsComplete : Replication → Type 0
@@ -149,6 +160,24 @@ AskOk l RequestLost = IsAsking l.phase
 AskOk l (AnsweredWith m) =
     IsAsking l.phase × (l.prefix ≤ m) × (m ≤ length l.kinds) × AskView l m l.view × AskReadable l m (readable l.in_flight)
 
+abbrev pub DoubtView : Replication → ℕ → View → Type 0
+DoubtView l q Out = Unit {0}
+DoubtView l q (Listed m scripts) = q ≤ m
+DoubtView l q (In n again scripts) = NoEntry l.in_flight → q ≤ n
+DoubtView l q (From k) = l.in_flight ≡ Nothing → q ≤ k
+
+abbrev pub DoubtInFlight : ℕ → InFlight → Type 0
+DoubtInFlight q (Acknowledged (TransferEntry k)) = q ≤ k + 1
+DoubtInFlight q (Unread (TransferEntry k)) = q ≤ k
+DoubtInFlight q t = Unit {0}
+
+-- an entry in doubt is of an order that is out of step until the device restarts
+abbrev pub DoubtOk : Replication → Option Doubt → Type 0
+DoubtOk l None = Unit {0}
+DoubtOk l (Some d) =
+    (l.phase ≡ OutOfStep) × (l.prefix ≤ d.prefix) × (d.prefix ≤ length l.kinds) × DoubtView l d.prefix l.view × DoubtInFlight d.prefix l.in_flight
+    × ((j : ℕ) → d.lacks j ≡ true → has_number j (l.in_force d.prefix) ≡ true)
+
 pub record IsInvariant (l : Replication) : Type 0 where
   pub prefix : l.prefix ≤ length l.kinds
   pub read : ReadableOk l (readable l.in_flight)
@@ -157,3 +186,4 @@ pub record IsInvariant (l : Replication) : Type 0 where
   pub ask : AskOk l l.ask
   pub lacking : (j : ℕ) → l.lacks j ≡ true → has_number j (l.in_force l.prefix) ≡ true
   pub heard : l.live ≡ true → l.incoming ≡ AskComes → l.ask ≡ RequestSent
+  pub waits : DoubtOk l l.doubt

@@ -224,7 +224,7 @@ unconfirmed_list_ends = (refl, refl, refl, refl, refl, refl, refl, refl, refl)
 -- A restart of the device: what is written on the old connection is not read.
 abbrev restart_of_the_device : List WorldEvent
 restart_of_the_device =
-    AtDevice 1 Reboot ∷
+    AtDevice 1 (Reboot false) ∷
     AtDevice 1 Dial ∷
     AtDevice 1 (Admit 3) ∷
     AtDevice 1 (Want r) ∷

@@ -11,7 +11,7 @@ use Rattle.world_laws.proofs.Invariant.{PairingInvariant}
 use Rattle.world_laws.proofs.PairingRead.{entry_prefix}
 use Rattle.world_laws.proofs.SafeRead.{prefix_here, tagged_front}
 use Rattle.world_laws.specs.World.{own_time, Pairing, PairingEvent, Connection, Opener, front, reads_from, reads_front, reads_if, pairing_step, sends_on, sends_if, takes_if, takes_front, takes_from, asks_if, asks_on, hears_if, hears_front, hears_from, accepts_it, admits_it, cuts, leaves, hangs_if, misses_if, beats_if, device_beats_if}
-use Rattle.world_laws.specs.World.PairingEvent.{OpenTo, Accept, Cut, Leave, Send, Read, Back, Dial, Admit, Ask, Hear, Got, Hangup, Miss, Beat, DeviceBeat, Want, DecksLeft, Reboot}
+use Rattle.world_laws.specs.World.PairingEvent.{FailKeep, OpenTo, Accept, Cut, Leave, Send, Read, Back, Dial, Admit, Ask, Hear, Got, Hangup, Miss, Beat, DeviceBeat, Want, DecksLeft, Reboot}
 use Rattle.mos_machines.specs.Server.Upper.{Down, Greeting, Open}
 use Rattle.mos_edits.proofs.Identifiers.{same-true}
 use Rattle.mos_edits.proofs.Journals.{JournalOk}
@@ -89,22 +89,22 @@ put_grows applied q n h r true s = subst (λ (z : Text). applied z ≤ n) (sym (
 put_grows applied q n h r false s = omega arith
 
 reads_grow_at : (journal : List Entry) (count : ℕ) (l : Pairing) (v : ℕ) (m : Message) (t : Tag) (r : Text) → JournalOk journal → PairingInvariant journal count l → l.gate.upper ≡ Some v → front (l.connections v).to_device ≡ Some (record { message = m; tag = t }) → Tagged journal (record { message = m; tag = t }) t
-    → l.applied r ≤ (reads_from l v (l.connections v) (record { message = m; tag = t }) (gate_read l.gate l.decks m)).0.applied r
-reads_grow_at journal count l v m Untagged r lok i u f t = bare_applied (gate_read l.gate l.decks m)
+    → l.applied r ≤ (reads_from l v (l.connections v) (record { message = m; tag = t }) (gate_read l.gate l.decks l.failing m)).0.applied r
+reads_grow_at journal count l v m Untagged r lok i u f t = bare_applied (gate_read l.gate l.decks l.failing m)
   where
     bare_applied : (x : GateState × Message) → l.applied r ≤ (reads_from l v (l.connections v) (untagged m) x).0.applied r
     bare_applied (g, a) = omega arith
 reads_grow_at journal count l v m (OfList q k) r lok i u f t = absurd t
-reads_grow_at journal count l v m (OfAgain q k) r lok i u f t = again_applied (gate_read l.gate l.decks m)
+reads_grow_at journal count l v m (OfAgain q k) r lok i u f t = again_applied (gate_read l.gate l.decks l.failing m)
   where
     again_applied : (x : GateState × Message) → l.applied r ≤ (reads_from l v (l.connections v) (record { message = m; tag = OfAgain q k }) x).0.applied r
     again_applied (g, a) = omega arith
-reads_grow_at journal count l v m (OfScript q j k) r lok i u f t = script_applied (gate_read l.gate l.decks m)
+reads_grow_at journal count l v m (OfScript q j k) r lok i u f t = script_applied (gate_read l.gate l.decks l.failing m)
   where
     script_applied : (x : GateState × Message) → l.applied r ≤ (reads_from l v (l.connections v) (record { message = m; tag = OfScript q j k }) x).0.applied r
     script_applied (g, a) = omega arith
 reads_grow_at journal count l v m (OfEntry q k) r lok i u f t =
-    subst (λ (p : Packet). l.applied r ≤ (reads_from l v (l.connections v) p (gate_read l.gate l.decks p.message)).0.applied r) (sym t.0)
+    subst (λ (p : Packet). l.applied r ≤ (reads_from l v (l.connections v) p (gate_read l.gate l.decks l.failing p.message)).0.applied r) (sym t.0)
     (put_grows l.applied q (entry_prefix journal l q k) (prefix_here journal count l v q k i u (f ∙ ap (λ (p : Packet). Some p) t.0)) r (same_id r q) refl)
 
 reads_grow_by : (journal : List Entry) (count : ℕ) (l : Pairing) (u : Option ℕ) (r : Text) → JournalOk journal → PairingInvariant journal count l → l.gate.upper ≡ u → l.applied r ≤ (reads_if l u).0.applied r
@@ -118,7 +118,7 @@ reads_grow_by journal count l (Some v) r lok i u = go (front (l.connections v).t
 pub reads_grow : (journal : List Entry) (count : ℕ) (l : Pairing) (r : Text) → JournalOk journal → PairingInvariant journal count l → l.applied r ≤ (reads_if l l.gate.upper).0.applied r
 reads_grow journal count l r lok i = reads_grow_by journal count l l.gate.upper r lok i refl
 
-pub other_applied : (journal : List Entry) (c : ℕ) (l : Pairing) (e : PairingEvent) → (e ≡ Read → ⊥) → (e ≡ Got → ⊥) → (e ≡ Reboot → ⊥) → (pairing_step journal c l e).0.applied ≡ l.applied
+pub other_applied : (journal : List Entry) (c : ℕ) (l : Pairing) (e : PairingEvent) → (e ≡ Read → ⊥) → (e ≡ Got → ⊥) → ((k : Bool) → e ≡ Reboot k → ⊥) → (pairing_step journal c l e).0.applied ≡ l.applied
 other_applied journal c l OpenTo a b d = refl
 other_applied journal c l (Accept k) a b d = accepts_applied l k (l.connections k) (l.connections k).opener (l.connections k).accepted
 other_applied journal c l Cut a b d = cuts_applied l l.peer.upper
@@ -137,4 +137,5 @@ other_applied journal c l Beat a b d = beats_applied l (is_open l.peer.upper)
 other_applied journal c l DeviceBeat a b d = device_beats_applied l l.gate.link
 other_applied journal c l (Want r) a b d = refl
 other_applied journal c l (DecksLeft k) a b d = refl
-other_applied journal c l Reboot a b d = absurd (d refl)
+other_applied journal c l (Reboot k) a b d = absurd (d k refl)
+other_applied journal c l FailKeep a b d = refl

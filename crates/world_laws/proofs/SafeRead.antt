@@ -1,27 +1,27 @@
 -- What is safe of the event `read d`.
-use Rattle.std.proofs.Common.{◌⊎◌, inl, inr, ◌≡◌, ℕ, ◌+◌, ◌-◌, ◌<◌, ◌≤◌, List, Bool, Option, Some, None, arith, refl, sym, ap, ◌∙◌, subst}
+use Rattle.std.proofs.Common.{◌&&◌, not, ◌==◌, ◌⊎◌, inl, inr, ◌≡◌, ℕ, ◌+◌, ◌-◌, ◌<◌, ◌≤◌, List, Bool, true, false, Option, Some, None, arith, refl, sym, ap, ◌∙◌, subst}
 use Rattle.mos_edits.specs.Texts.{Text}
 use Rattle.mos_edits.specs.Orders.{Order, apply}
 use Rattle.mos_edits.specs.declared.edit.Edit.{Edit}
 use Rattle.mos_edits.specs.Entries.{Kind, kind, Entry, entry_count, edit_at, order_at}
 use Rattle.mos_machines.specs.Messages.{Status, Tag, Packet, untagged}
 use Rattle.mos_edits.specs.KeyedLists.{Applied}
-use Rattle.mos_machines.specs.Device.{Phase, Decks, read_by, gate_read, is_in, ready_status}
+use Rattle.mos_machines.specs.Device.{Phase, Decks, gate_read, is_in, ready_status}
 use Rattle.mos_machines.specs.Messages.Message.{RoEdit, RoAck}
 use Rattle.mos_machines.specs.Messages.Tag.{Untagged, OfEntry, OfAgain, OfScript, OfList}
 use Rattle.world_laws.specs.World.{Pairing, front, applied_step, reads_from, reads_front, reads_if, Effect}
-use Rattle.world_laws.proofs.Replication.{Replication, IsInvariant, readable}
+use Rattle.world_laws.proofs.Replication.{Replication, Shortage, IsInvariant, readable}
 use Rattle.world_laws.proofs.Channels.{replication, channels, transfer_in, in_flight_by, DownOk, Tagged}
 use Rattle.world_laws.proofs.Joining.{readable-in_flight}
-use Rattle.world_laws.proofs.Reading.{prefix_in_step, grows_entry, status_entry, lacks_step}
-use Rattle.mos_edits.specs.Entries.Kind.{IsReady}
+use Rattle.world_laws.proofs.Reading.{prefix_in_step, grows_entry, status_entry, read_of, missing_read}
+use Rattle.mos_edits.specs.Entries.Kind.{IsReady, IsAction}
 use Rattle.mos_machines.specs.Messages.Status.{Okay}
 use Rattle.mos_machines.specs.Device.Phase.{InStep, OutOfStep, Asked, Crossed}
 use Rattle.world_laws.proofs.Replication.Transfer.{TransferEntry, TransferAgain, TransferScript}
 use Rattle.world_laws.proofs.Invariant.{PairingInvariant}
 use Rattle.world_laws.specs.World.Effect.{Wrote}
 use Rattle.world_laws.specs.Safe.{IsReadSafe, upper_front, in_step_status}
-use Rattle.world_laws.proofs.PairingRead.{each_entry, each_again, the_entry, entry_result, entry_prefix, again_result, again_facts, script_facts, script_kind, script_applies, applied_here, again_applies, down_front}
+use Rattle.world_laws.proofs.PairingRead.{each_entry, entry_missing, each_again, the_entry, entry_result, entry_prefix, again_result, again_facts, script_facts, script_kind, script_applies, applied_here, again_applies, down_front}
 use Rattle.mos_machines.specs.Server.{entry_packet, again_packet, script_packet}
 use Rattle.mos_edits.proofs.Identifiers.{same-self}
 use Rattle.mos_edits.proofs.Journals.{JournalOk, order-ready, kind_at, kind_of_at, kinds_entry_count}
@@ -30,15 +30,21 @@ use Rattle.mos_edits.proofs.Lacking.{scripts-ok, lacking_order, lacking-none}
 pub tagged_front : (journal : List Entry) (count : ℕ) (l : Pairing) (v : ℕ) (p : Packet) → PairingInvariant journal count l → l.gate.upper ≡ Some v → front (l.connections v).to_device ≡ Some p → Tagged journal p p.tag
 tagged_front journal count l v p i u f = let d = down_front journal count l v p i.ok u f in subst (λ (ps : List Packet). DownOk journal ps) d i.ok.channels_ok.down
 
-pub reads_is : (l : Pairing) (v : ℕ) (p : Packet) → l.gate.upper ≡ Some v → front (l.connections v).to_device ≡ Some p → reads_if l l.gate.upper ≡ reads_from l v (l.connections v) p (gate_read l.gate l.decks p.message)
-reads_is l v p u f = subst (λ (z : Option ℕ). reads_if l z ≡ reads_from l v (l.connections v) p (gate_read l.gate l.decks p.message)) (sym u)
-    (subst (λ (o : Option Packet). reads_front l v (l.connections v) o ≡ reads_from l v (l.connections v) p (gate_read l.gate l.decks p.message)) (sym f) refl)
+pub reads_is : (l : Pairing) (v : ℕ) (p : Packet) → l.gate.upper ≡ Some v → front (l.connections v).to_device ≡ Some p → reads_if l l.gate.upper ≡ reads_from l v (l.connections v) p (gate_read l.gate l.decks l.failing p.message)
+reads_is l v p u f = subst (λ (z : Option ℕ). reads_if l z ≡ reads_from l v (l.connections v) p (gate_read l.gate l.decks l.failing p.message)) (sym u)
+    (subst (λ (o : Option Packet). reads_front l v (l.connections v) o ≡ reads_from l v (l.connections v) p (gate_read l.gate l.decks l.failing p.message)) (sym f) refl)
 
-in_step_if_fine : (phase : Phase) (decks : Decks) (held : Option Order) (wanted : Bool) (ch : Edit) (a : Applied (Option Order)) → (read_by phase IsReady decks held wanted ch a).status ≡ Okay → phase ≡ InStep
-in_step_if_fine InStep decks held wanted ch a e = refl
-in_step_if_fine OutOfStep decks held wanted ch a e = absurd (cc)
-in_step_if_fine Asked decks held wanted ch a e = absurd (cc)
-in_step_if_fine Crossed decks held wanted ch a e = absurd (cc)
+in_step_if_fine : (stopped fails : Bool) (phase : Phase) (decks : Decks) (held : Option Order) (wanted : Bool) (ch : Edit) (a : Applied (Option Order)) → (read_of stopped fails phase IsReady decks held wanted ch a).status ≡ Okay → phase ≡ InStep
+in_step_if_fine stopped fails InStep decks held wanted ch a e = refl
+in_step_if_fine true fails OutOfStep decks held wanted ch a e = absurd (cc)
+in_step_if_fine true fails Asked decks held wanted ch a e = absurd (cc)
+in_step_if_fine true fails Crossed decks held wanted ch a e = absurd (cc)
+in_step_if_fine false true OutOfStep decks held wanted ch a e = absurd (cc)
+in_step_if_fine false true Asked decks held wanted ch a e = absurd (cc)
+in_step_if_fine false true Crossed decks held wanted ch a e = absurd (cc)
+in_step_if_fine false false OutOfStep decks held wanted ch a e = absurd (cc)
+in_step_if_fine false false Asked decks held wanted ch a e = absurd (cc)
+in_step_if_fine false false Crossed decks held wanted ch a e = absurd (cc)
 
 entry_is : (journal : List Entry) (e : Entry) (r : Text) (k : ℕ) → record { message = RoEdit e; tag = OfEntry r k } ≡ entry_packet journal r k → e ≡ the_entry journal r k
 entry_is journal e r k h = let m : RoEdit e ≡ RoEdit (the_entry journal r k) = ap (λ (p : Packet). p.message) h in cc
@@ -53,32 +59,37 @@ abbrev pub packet_with : Entry → Tag → Packet
 packet_with e t = record { message = RoEdit e; tag = t }
 
 abbrev pub read_by_packet : Pairing → ℕ → Entry → Tag → Pairing × Effect
-read_by_packet l v e t = reads_from l v (l.connections v) (packet_with e t) (gate_read l.gate l.decks (RoEdit e))
+read_by_packet l v e t = reads_from l v (l.connections v) (packet_with e t) (gate_read l.gate l.decks l.failing (RoEdit e))
 
-ready_lacks : (phase : Phase) (kd : Kind) (lacks : ℕ → Bool) → kd ≡ IsReady → lacks_step phase kd lacks ≡ lacks
-ready_lacks phase kd lacks e = rw e (by phase)
+ready_lacks : (stopped fails : Bool) (phase : Phase) (kd : Kind) (k : ℕ) (m : Shortage) → kd ≡ IsReady → (missing_read stopped fails phase kd k m).lacks ≡ m.lacks
+ready_lacks stopped fails phase kd k m e = rw e (by stopped fails phase)
   where
-    by : (p : Phase) → lacks_step p IsReady lacks ≡ lacks
-    by InStep = refl
-    by OutOfStep = refl
-    by Asked = refl
-    by Crossed = refl
+    by : (s f : Bool) (p : Phase) → (missing_read s f p IsReady k m).lacks ≡ m.lacks
+    by true f p = refl
+    by false true InStep = refl
+    by false true OutOfStep = refl
+    by false true Asked = refl
+    by false true Crossed = refl
+    by false false InStep = refl
+    by false false OutOfStep = refl
+    by false false Asked = refl
+    by false false Crossed = refl
 
 -- the order released, by an entry
 released_here : (journal : List Entry) (count : ℕ) (l : Pairing) (v : ℕ) (r : Text) (k : ℕ) → JournalOk journal → PairingInvariant journal count l → l.gate.upper ≡ Some v → front (l.connections v).to_device ≡ Some (entry_packet journal r k) → k < entry_count journal r → kind (edit_at journal r k) ≡ IsReady
     → (entry_result journal l r k).status ≡ Okay → (entry_result journal l r k).held ≡ order_at journal r k
 released_here journal count l v r k lok i u f b kd fine =
-    let h = (each_entry journal count l v r k lok i u f b).1 in
-    let status : (read_by (l.gate.phase r) IsReady l.decks (l.gate.held r) (l.gate.wanted r) (edit_at journal r k) (apply r (l.gate.held r) (edit_at journal r k))).status ≡ Okay = rw kd at fine in
-    let p = in_step_if_fine (l.gate.phase r) l.decks (l.gate.held r) (l.gate.wanted r) (edit_at journal r k) (apply r (l.gate.held r) (edit_at journal r k)) status in
+    let h = (each_entry journal count l v r k lok i u f b).held in
+    let status : (read_of l.gate.stopped l.failing (l.gate.phase r) IsReady l.decks (l.gate.held r) (l.gate.wanted r) (edit_at journal r k) (apply r (l.gate.held r) (edit_at journal r k))).status ≡ Okay = rw kd at fine in
+    let p = in_step_if_fine l.gate.stopped l.failing (l.gate.phase r) l.decks (l.gate.held r) (l.gate.wanted r) (edit_at journal r k) (apply r (l.gate.held r) (edit_at journal r k)) status in
     let m : entry_prefix journal l r k ≡ k + 1 = marked p kd fine in
     let d = down_front journal count l v (entry_packet journal r k) i.ok u f in
     let it : transfer_in r (channels l).down ≡ Some (TransferEntry k) = rw d (rw (same-self r) refl) in
     let rd : readable (in_flight_by journal (channels l) r (channels l).upper) ≡ Some (TransferEntry k) = readable-in_flight journal (channels l) r i.ok.channels_ok ∙ it in
     let x = prefix_in_step (replication journal (channels l) r (l.peer.views r) (l.gate.phase r) (l.applied r) (i.lacks r)) (i.replications r) k rd IsReady (kind_at journal r k b ∙ ap (λ (z : Kind). Some z) kd) p (λ z. cc) in
-    let lk : lacks_step (l.gate.phase r) (kind (edit_at journal r k)) (i.lacks r) ≡ i.lacks r = ready_lacks (l.gate.phase r) (kind (edit_at journal r k)) (i.lacks r) kd in
-    h ∙ ap (λ (g : ℕ → Bool). lacking_order journal r g (entry_prefix journal l r k)) lk ∙ ap (λ (n : ℕ). lacking_order journal r (i.lacks r) n) m
-    ∙ lacking-none journal r (k + 1) (i.lacks r) (scripts-ok journal lok r (k + 1) (omega (arith, b))) x.1 ∙ order-ready journal lok r k b kd
+    let lk : (entry_missing journal l r k (i.lacks r)).lacks ≡ (i.lacks r).lacks = ready_lacks l.gate.stopped l.failing (l.gate.phase r) (kind (edit_at journal r k)) k (i.lacks r) kd in
+    h ∙ ap (λ (g : ℕ → Bool). lacking_order journal r g (entry_prefix journal l r k)) lk ∙ ap (λ (n : ℕ). lacking_order journal r (i.lacks r).lacks n) m
+    ∙ lacking-none journal r (k + 1) (i.lacks r).lacks (scripts-ok journal lok r (k + 1) (omega (arith, b))) x.1 ∙ order-ready journal lok r k b kd
   where
     marked : l.gate.phase r ≡ InStep → kind (edit_at journal r k) ≡ IsReady → (entry_result journal l r k).status ≡ Okay → applied_step (kind (edit_at journal r k)) (is_in (l.gate.phase r)) (l.applied r) k (entry_result journal l r k).status ≡ k + 1
     marked p kd fine = go (l.gate.phase r) (kind (edit_at journal r k)) (entry_result journal l r k).status p kd fine
@@ -95,36 +106,38 @@ released_again_here journal count l v r m lok i u f fine =
     let rd : readable (in_flight_by journal (channels l) r (channels l).upper) ≡ Some (TransferAgain m) = readable-in_flight journal (channels l) r i.ok.channels_ok ∙ it in
     let fs = again_facts (replication journal (channels l) r (l.peer.views r) (l.gate.phase r) (l.applied r) (i.lacks r)) (i.replications r) m rd in
     let kd : (m - 1 < entry_count journal r) × (kind (edit_at journal r (m - 1)) ≡ IsReady) = kind_of_at journal r (m - 1) IsReady fs.2 in
-    let status : (read_by (l.gate.phase r) IsReady l.decks (l.gate.held r) (l.gate.wanted r) (edit_at journal r (m - 1)) (apply r (l.gate.held r) (edit_at journal r (m - 1)))).status ≡ Okay = rw kd.1 at fine in
-    let p = in_step_if_fine (l.gate.phase r) l.decks (l.gate.held r) (l.gate.wanted r) (edit_at journal r (m - 1)) (apply r (l.gate.held r) (edit_at journal r (m - 1))) status in
+    let status : (read_of l.gate.stopped l.failing (l.gate.phase r) IsReady l.decks (l.gate.held r) (l.gate.wanted r) (edit_at journal r (m - 1)) (apply r (l.gate.held r) (edit_at journal r (m - 1)))).status ≡ Okay = rw kd.1 at fine in
+    let p = in_step_if_fine l.gate.stopped l.failing (l.gate.phase r) l.decks (l.gate.held r) (l.gate.wanted r) (edit_at journal r (m - 1)) (apply r (l.gate.held r) (edit_at journal r (m - 1))) status in
     let suc_m : m - 1 + 1 ≡ l.applied r = let x = (fs.3 p).0 in omega (arith, fs.0, x) in
-    (each_again journal count l v r m lok i u f).1 ∙ ap (λ (n : ℕ). lacking_order journal r (i.lacks r) n) (sym suc_m) ∙ lacking-none journal r (m - 1 + 1) (i.lacks r) (scripts-ok journal lok r (m - 1 + 1) (omega (arith, kd.0))) (fs.3 p).1 ∙ order-ready journal lok r (m - 1) kd.0 kd.1
+    (each_again journal count l v r m lok i u f).held ∙ ap (λ (n : ℕ). lacking_order journal r (i.lacks r).lacks n) (sym suc_m) ∙ lacking-none journal r (m - 1 + 1) (i.lacks r).lacks (scripts-ok journal lok r (m - 1 + 1) (omega (arith, kd.0))) (fs.3 p).1 ∙ order-ready journal lok r (m - 1) kd.0 kd.1
 
-status_here : (journal : List Entry) (count : ℕ) (l : Pairing) (v : ℕ) (r : Text) (k : ℕ) → JournalOk journal → PairingInvariant journal count l → l.gate.upper ≡ Some v → front (l.connections v).to_device ≡ Some (entry_packet journal r k) → k < entry_count journal r → l.gate.phase r ≡ InStep
-    → (entry_result journal l r k).status ≡ in_step_status (kind (edit_at journal r k)) l.decks
-status_here journal count l v r k lok i u f b ph =
+status_here : (journal : List Entry) (count : ℕ) (l : Pairing) (v : ℕ) (r : Text) (k : ℕ) → JournalOk journal → PairingInvariant journal count l → l.gate.upper ≡ Some v → front (l.connections v).to_device ≡ Some (entry_packet journal r k) → k < entry_count journal r → l.gate.phase r ≡ InStep → l.gate.stopped ≡ false
+    → (entry_result journal l r k).status ≡ in_step_status (kind (edit_at journal r k)) l.decks l.failing
+status_here journal count l v r k lok i u f b ph st =
     let d = down_front journal count l v (entry_packet journal r k) i.ok u f in
     let it : transfer_in r (channels l).down ≡ Some (TransferEntry k) = rw d (rw (same-self r) refl) in
     let rd : readable (in_flight_by journal (channels l) r (channels l).upper) ≡ Some (TransferEntry k) = readable-in_flight journal (channels l) r i.ok.channels_ok ∙ it in
     let kd = kind_at journal r k b in
-    rw ph (status_entry journal r k (kind (edit_at journal r k)) (l.applied r) (i.lacks r) l.decks (l.gate.held r) (l.gate.wanted r) (apply r (l.gate.held r) (edit_at journal r k))
+    rw (ph, st) (status_entry journal r k (kind (edit_at journal r k)) (l.applied r) (i.lacks r).lacks l.failing l.decks (l.gate.held r) (l.gate.wanted r) (apply r (l.gate.held r) (edit_at journal r k))
     (λ n. prefix_in_step (replication journal (channels l) r (l.peer.views r) (l.gate.phase r) (l.applied r) (i.lacks r)) (i.replications r) k rd (kind (edit_at journal r k)) kd ph n)
-    (λ m n. (order_at journal r (k + 1), applied_here journal lok r k b (l.gate.held r) (i.lacks r) (l.applied r) (i.holds r) m n)))
+    (λ m n. (order_at journal r (k + 1), applied_here journal lok r k b (l.gate.held r) (i.lacks r).lacks (l.applied r) (i.holds r) m n)))
 
-again_status_here : (journal : List Entry) (count : ℕ) (l : Pairing) (v : ℕ) (r : Text) (m : ℕ) → JournalOk journal → PairingInvariant journal count l → l.gate.upper ≡ Some v → front (l.connections v).to_device ≡ Some (again_packet journal r m) → l.gate.phase r ≡ InStep
+again_status_here : (journal : List Entry) (count : ℕ) (l : Pairing) (v : ℕ) (r : Text) (m : ℕ) → JournalOk journal → PairingInvariant journal count l → l.gate.upper ≡ Some v → front (l.connections v).to_device ≡ Some (again_packet journal r m) → l.gate.phase r ≡ InStep → l.gate.stopped ≡ false
     → (again_result journal l r m).status ≡ ready_status l.decks
-again_status_here journal count l v r m lok i u f ph =
+again_status_here journal count l v r m lok i u f ph st =
     let d = down_front journal count l v (again_packet journal r m) i.ok u f in
     let it : transfer_in r (channels l).down ≡ Some (TransferAgain m) = rw d (rw (same-self r) refl) in
     let rd : readable (in_flight_by journal (channels l) r (channels l).upper) ≡ Some (TransferAgain m) = readable-in_flight journal (channels l) r i.ok.channels_ok ∙ it in
     let fs = again_facts (replication journal (channels l) r (l.peer.views r) (l.gate.phase r) (l.applied r) (i.lacks r)) (i.replications r) m rd in
     let kd : (m - 1 < entry_count journal r) × (kind (edit_at journal r (m - 1)) ≡ IsReady) = kind_of_at journal r (m - 1) IsReady fs.2 in
-    let a = again_applies journal lok r m fs.0 kd.0 kd.1 (l.gate.held r) (i.lacks r) (l.applied r) (i.holds r) (fs.3 ph).0 (fs.3 ph).1 in
-    rw (ph, kd.1, a) refl
+    let a = again_applies journal lok r m fs.0 kd.0 kd.1 (l.gate.held r) (i.lacks r).lacks (l.applied r) (i.holds r) (fs.3 ph).0 (fs.3 ph).1 in
+    rw (ph, st, kd.1) (status_entry journal r (m - 1) IsReady (m - 1) (λ j. false) l.failing l.decks (l.gate.held r) (l.gate.wanted r) (apply r (l.gate.held r) (edit_at journal r (m - 1)))
+    (λ z. (refl, λ j. refl))
+    (λ x y. (l.gate.held r, a)))
 
-script_status_here : (journal : List Entry) (count : ℕ) (l : Pairing) (v : ℕ) (r : Text) (k m : ℕ) → JournalOk journal → PairingInvariant journal count l → l.gate.upper ≡ Some v → front (l.connections v).to_device ≡ Some (script_packet journal r k m) → l.gate.phase r ≡ InStep
-    → (entry_result journal l r k).status ≡ Okay
-script_status_here journal count l v r k m lok i u f ph =
+script_status_here : (journal : List Entry) (count : ℕ) (l : Pairing) (v : ℕ) (r : Text) (k m : ℕ) → JournalOk journal → PairingInvariant journal count l → l.gate.upper ≡ Some v → front (l.connections v).to_device ≡ Some (script_packet journal r k m) → l.gate.phase r ≡ InStep → l.gate.stopped ≡ false
+    → (entry_result journal l r k).status ≡ in_step_status (kind (edit_at journal r k)) l.decks l.failing
+script_status_here journal count l v r k m lok i u f ph st =
     let d = down_front journal count l v (script_packet journal r k m) i.ok u f in
     let it : transfer_in r (channels l).down ≡ Some (TransferScript k m) = rw d (rw (same-self r) refl) in
     let rd : readable (in_flight_by journal (channels l) r (channels l).upper) ≡ Some (TransferScript k m) = readable-in_flight journal (channels l) r i.ok.channels_ok ∙ it in
@@ -132,8 +145,10 @@ script_status_here journal count l v r k m lok i u f ph =
     let c = kinds_entry_count journal r in
     let n : m ≤ entry_count journal r = omega (arith, fs.1, c) in
     let kd = script_kind journal lok r k m n fs.0 in
-    let a = script_applies journal lok r k m n fs.0 (l.gate.held r) (i.lacks r) (l.applied r) (i.holds r) (fs.2 ph) in
-    rw (ph, kd, a) refl
+    let a = script_applies journal lok r k m n fs.0 (l.gate.held r) (i.lacks r).lacks (l.applied r) (i.holds r) (fs.2 ph) in
+    rw (ph, st, kd) (status_entry journal r k IsAction k (λ j. false) l.failing l.decks (l.gate.held r) (l.gate.wanted r) (apply r (l.gate.held r) (edit_at journal r k))
+    (λ z. (refl, λ j. refl))
+    (λ x y. (lacking_order journal r (λ j. (i.lacks r).lacks j && not (j == k)) (l.applied r), a)))
 
 -- the prefix
 pub prefix_here : (journal : List Entry) (count : ℕ) (l : Pairing) (v : ℕ) (q : Text) (k : ℕ) → PairingInvariant journal count l → l.gate.upper ≡ Some v → front (l.connections v).to_device ≡ Some (entry_packet journal q k) → l.applied q ≤ entry_prefix journal l q k
@@ -150,11 +165,11 @@ prefix_here journal count l v q k i u f =
 abbrev ReadFacts : List Entry → Pairing → Pairing × Effect → Entry → Tag → Type 0
 ReadFacts journal l x e (OfEntry r k) =
     (kind e.edit ≡ IsReady → x.1 ≡ Wrote (untagged (RoAck r Okay)) → x.0.gate.held r ≡ order_at journal r k)
-    × (l.gate.phase r ≡ InStep → x.1 ≡ Wrote (untagged (RoAck r (in_step_status (kind e.edit) l.decks))))
+    × (l.gate.phase r ≡ InStep → l.gate.stopped ≡ false → x.1 ≡ Wrote (untagged (RoAck r (in_step_status (kind e.edit) l.decks l.failing))))
 ReadFacts journal l x e (OfAgain r m) =
     (x.1 ≡ Wrote (untagged (RoAck r Okay)) → x.0.gate.held r ≡ order_at journal r (m - 1))
-    × (l.gate.phase r ≡ InStep → x.1 ≡ Wrote (untagged (RoAck r (ready_status l.decks))))
-ReadFacts journal l x e (OfScript r k m) = l.gate.phase r ≡ InStep → x.1 ≡ Wrote (untagged (RoAck r Okay))
+    × (l.gate.phase r ≡ InStep → l.gate.stopped ≡ false → x.1 ≡ Wrote (untagged (RoAck r (ready_status l.decks))))
+ReadFacts journal l x e (OfScript r k m) = l.gate.phase r ≡ InStep → l.gate.stopped ≡ false → x.1 ≡ Wrote (untagged (RoAck r (in_step_status (kind e.edit) l.decks l.failing)))
 ReadFacts journal l x e t = Unit {0}
 
 wrote_status : (r : Text) (a b : Status) → Wrote (untagged (RoAck r a)) ≡ Wrote (untagged (RoAck r b)) → a ≡ b
@@ -167,17 +182,17 @@ facts_here journal count l v e (OfEntry r k) lok i u f t =
     subst (λ (z : Entry). ReadFacts journal l (read_by_packet l v z (OfEntry r k)) z (OfEntry r k)) (sym (entry_is journal e r k t.0))
     (let g = f ∙ ap (λ (p : Packet). Some p) t.0 in (
       λ kd w. rw (same-self r) (released_here journal count l v r k lok i u g t.1 kd (wrote_status r (entry_result journal l r k).status Okay w)),
-      λ ph. ap (λ (x : Status). Wrote (untagged (RoAck r x))) (status_here journal count l v r k lok i u g t.1 ph),
+      λ ph st. ap (λ (x : Status). Wrote (untagged (RoAck r x))) (status_here journal count l v r k lok i u g t.1 ph st),
     ))
 facts_here journal count l v e (OfAgain r m) lok i u f t =
     subst (λ (z : Entry). ReadFacts journal l (read_by_packet l v z (OfAgain r m)) z (OfAgain r m)) (sym (again_is journal e r m t))
     (let g = f ∙ ap (λ (p : Packet). Some p) t in (
       λ w. rw (same-self r) (released_again_here journal count l v r m lok i u g (wrote_status r (again_result journal l r m).status Okay w)),
-      λ ph. ap (λ (x : Status). Wrote (untagged (RoAck r x))) (again_status_here journal count l v r m lok i u g ph),
+      λ ph st. ap (λ (x : Status). Wrote (untagged (RoAck r x))) (again_status_here journal count l v r m lok i u g ph st),
     ))
 facts_here journal count l v e (OfScript r k m) lok i u f t =
     subst (λ (z : Entry). ReadFacts journal l (read_by_packet l v z (OfScript r k m)) z (OfScript r k m)) (sym (script_is journal e r k m t.0))
-    (let g = f ∙ ap (λ (p : Packet). Some p) t.0 in λ ph. ap (λ (x : Status). Wrote (untagged (RoAck r x))) (script_status_here journal count l v r k m lok i u g ph))
+    (let g = f ∙ ap (λ (p : Packet). Some p) t.0 in λ ph st. ap (λ (x : Status). Wrote (untagged (RoAck r x))) (script_status_here journal count l v r k m lok i u g ph st))
 
 -- what holds of the event
 facts_read : (journal : List Entry) (count : ℕ) (l : Pairing) (e : Entry) (t : Tag) (u : Option ℕ) → JournalOk journal → PairingInvariant journal count l → l.gate.upper ≡ u → upper_front l u ≡ Some (packet_with e t) → ReadFacts journal l (reads_if l l.gate.upper) e t

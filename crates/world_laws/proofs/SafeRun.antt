@@ -12,15 +12,15 @@ use Rattle.mos_machines.specs.Server.ServerOut.{Idle, SendsEdit, SendsAgain, Sen
 use Rattle.mos_machines.specs.Server.Upper.{Down, Greeting, Open}
 use Rattle.mos_machines.specs.Server.View.{In}
 use Rattle.mos_machines.specs.Device.Phase.{InStep}
-use Rattle.world_laws.specs.World.{run, Pairing, PairingEvent, WorldEvent, World, Effect, opening, world_step, pairing_step, at_device, has_device, commanded, kept_journal, lose}
+use Rattle.world_laws.specs.World.{Uncertain, kept_applied, run, Pairing, PairingEvent, WorldEvent, World, Effect, opening, world_step, pairing_step, at_device, has_device, commanded, kept_journal, lose}
 use Rattle.mos_machines.specs.Server.Verdict.{Takes, Fails, Refuses}
 use Rattle.world_laws.specs.World.PairingEvent.{Read, Got, Reboot}
 use Rattle.world_laws.specs.World.WorldEvent.{Command, AtDevice, Lose, FailNext, Restart}
 use Rattle.world_laws.specs.World.Effect.{Impossible, Performed}
 use Rattle.world_laws.specs.Safe.{IsConsistentAt, IsConsistent, IsEventSafe, JournalGrows, IsDeviceSafe, IsStepSafe, IsSafe, is_in_flight}
-use Rattle.world_laws.proofs.Replication.{Replication, IsInvariant, IsComplete, NoEntry}
+use Rattle.world_laws.proofs.Replication.{DoubtOk, Doubt, Replication, IsInvariant, IsComplete, NoEntry}
 use Rattle.world_laws.proofs.Channels.{replication, channels, in_flight_by, upper_part}
-use Rattle.world_laws.proofs.Invariant.{PairingInvariant}
+use Rattle.world_laws.proofs.Invariant.{IsDoubted, PairingInvariant}
 use Rattle.world_laws.proofs.SafeRead.{consistent_read}
 use Rattle.world_laws.proofs.SafeApplied.{other_applied, same_applied, reads_grow}
 use Rattle.world_laws.proofs.SafeGot.{gets_grow, consistent_got}
@@ -44,16 +44,16 @@ prefix_within : (journal : List Entry) (count : ℕ) (l : Pairing) (r : Text) �
 prefix_within journal count l r i = let m = (i.replications r).prefix in let n = kinds_entry_count journal r in omega (arith, m, n)
 
 -- in step with nothing lacking, the order is held as it is
-quiet_held : (journal : List Entry) (count : ℕ) (l : Pairing) (r : Text) (n : ℕ) → JournalOk journal → (i : PairingInvariant journal count l) → (l.applied r ≡ n) × ((j : ℕ) → i.lacks r j ≡ false) → (l.applied r ≡ n) × (l.gate.held r ≡ order_at journal r n)
+quiet_held : (journal : List Entry) (count : ℕ) (l : Pairing) (r : Text) (n : ℕ) → JournalOk journal → (i : PairingInvariant journal count l) → (l.applied r ≡ n) × ((j : ℕ) → (i.lacks r).lacks j ≡ false) → (l.applied r ≡ n) × (l.gate.held r ≡ order_at journal r n)
 quiet_held journal count l r n lok i x = (
   x.0,
-  i.holds r ∙ lacking-none journal r (l.applied r) (i.lacks r) (scripts-ok journal lok r (l.applied r) (prefix_within journal count l r i)) x.1 ∙ ap (λ (m : ℕ). order_at journal r m) x.0,
+  i.holds r ∙ lacking-none journal r (l.applied r) (i.lacks r).lacks (scripts-ok journal lok r (l.applied r) (prefix_within journal count l r i)) x.1 ∙ ap (λ (m : ℕ). order_at journal r m) x.0,
 )
 
 consistent_at : (journal : List Entry) (count : ℕ) (l : Pairing) (r : Text) → JournalOk journal → PairingInvariant journal count l → IsConsistentAt journal l r
 consistent_at journal count l r lok i = record {
   within = prefix_within journal count l r i;
-  held = rw (i.holds r) (lacking-within journal r (l.applied r) (i.lacks r) (scripts-ok journal lok r (l.applied r) (prefix_within journal count l r i)));
+  held = rw (i.holds r) (lacking-within journal r (l.applied r) (i.lacks r).lacks (scripts-ok journal lok r (l.applied r) (prefix_within journal count l r i)));
   quiet = λ n again v o p. quiet_held journal count l r n lok i (quiet_prefix (replication journal (channels l) r (l.peer.views r) (l.gate.phase r) (l.applied r) (i.lacks r)) (i.replications r) n again v (quiet_in_flight journal l r l.peer.upper o) p);
   newest = λ v o p. let x = quiet_held journal count l r (entry_count journal r) lok i (quiet_prefix (replication journal (channels l) r (l.peer.views r) (l.gate.phase r) (l.applied r) (i.lacks r)) (i.replications r) (entry_count journal r) false v (quiet_in_flight journal l r l.peer.upper o) p) in (x.0, x.1 ∙ order_all journal r);
 }
@@ -62,14 +62,35 @@ consistent : (w : World) → WorldInvariant w → IsConsistent w
 consistent w i d r = consistent_at w.journal w.count (w.pairings d) r i.journal (i.pairings d)
 
 -- what an event at a device does to its pairing
-other_event : (journal : List Entry) (c : ℕ) (l : Pairing) (e : PairingEvent) (r : Text) → (e ≡ Read → ⊥) → (e ≡ Got → ⊥) → (e ≡ Reboot → ⊥) → l.applied r ≤ (pairing_step journal c l e).0.applied r
+other_event : (journal : List Entry) (c : ℕ) (l : Pairing) (e : PairingEvent) (r : Text) → (e ≡ Read → ⊥) → (e ≡ Got → ⊥) → ((k : Bool) → e ≡ Reboot k → ⊥) → l.applied r ≤ (pairing_step journal c l e).0.applied r
 other_event journal c l e r a b d = same_applied l (pairing_step journal c l e).0 r (other_applied journal c l e a b d)
 
+-- a device that restarts
+reboot_grows : (journal : List Entry) (count : ℕ) (l : Pairing) (r : Text) (kept : Bool) → PairingInvariant journal count l → l.applied r ≤ kept_applied l.applied kept l.uncertain r
+reboot_grows journal count l r kept i = by kept l.uncertain refl
+  where
+    some_is : (x y : Uncertain) → Some x ≡ Some y → x ≡ y
+    some_is x y h = cc
+
+    one : (u : Uncertain) → l.uncertain ≡ Some u → (b : Bool) → same_id r u.entry.ro ≡ b → (d : Option Doubt) → IsDoubted journal r (l.gate.held r) l.uncertain d → DoubtOk (replication journal (channels l) r (l.peer.views r) (l.gate.phase r) (l.applied r) (i.lacks r)) d → l.applied r ≤ (if b then u.prefix else l.applied r)
+    one u e false s d h w = omega arith
+    one u e true s None h w = absurd (let n : same_id r u.entry.ro ≡ false = h u e in cc)
+    one u e true s (Some d) h w =
+        let y : u ≡ h.0 = some_is u h.0 (sym e ∙ h.1) in
+        let p : u.prefix ≡ d.prefix = ap (λ (x : Uncertain). x.prefix) y ∙ h.3 in
+        rw p w.1
+
+    by : (b : Bool) (u : Option Uncertain) → l.uncertain ≡ u → l.applied r ≤ kept_applied l.applied b u r
+    by true None e = omega arith
+    by false None e = omega arith
+    by false (Some u) e = omega arith
+    by true (Some u) e = one u e (same_id r u.entry.ro) refl (i.lacks r).doubt (i.doubts r) (i.replications r).waits
+
 event_consistent : (journal : List Entry) (count : ℕ) (l : Pairing) (e : PairingEvent) (r : Text) → JournalOk journal → PairingInvariant journal count l → IsEventSafe journal l e (pairing_step journal (count + 1) l e).0 (pairing_step journal (count + 1) l e).1 r
-event_consistent journal count l Reboot r lok i = tt
+event_consistent journal count l (Reboot kept) r lok i = reboot_grows journal count l r kept i
 event_consistent journal count l Read r lok i = (reads_grow journal count l r lok i, consistent_read journal count l r lok i)
 event_consistent journal count l Got r lok i = (gets_grow journal count l r i, consistent_got journal count l r i)
-event_consistent journal count l e r lok i = other_event journal (count + 1) l e r (λ x. cc) (λ x. cc) (λ x. cc)
+event_consistent journal count l e r lok i = other_event journal (count + 1) l e r (λ x. cc) (λ x. cc) (λ k x. cc)
 
 -- the journal
 -- the status of a refusal isn't `OK`

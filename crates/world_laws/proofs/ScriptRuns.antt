@@ -18,11 +18,11 @@ use Rattle.world_laws.specs.Outcomes.{Outcome, outcomes}
 use Rattle.world_laws.proofs.RunWords.{a, b, c, r, z, okay, missing_z, plain, body, opened}
 
 -- the script `hi` of a story of `r`
-abbrev hi : Text → StorySend
+abbrev pub hi : Text → StorySend
 hi story = record { ro = r; story = story; slug = None; num = None; body = codes "<storyBody>hi</storyBody>"; metadata = []; others = [] }
 
 -- the order `r` of these stories, with the script `hi` at A
-abbrev with_hi : List Story → Order
+abbrev pub with_hi : List Story → Order
 with_hi stories = record { header = (body r stories).header; stories = stories; scripts = (a, hi a) ∷ [] }
 
 -- A device that takes a list gets the scripts again, after its confirmation.

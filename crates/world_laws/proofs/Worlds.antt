@@ -4,7 +4,7 @@ use Rattle.mos_edits.specs.Entries.{Refusal, Entry, acceptance}
 use Rattle.mos_machines.specs.Server.{no_peer, peer_linked, verdict}
 use Rattle.world_laws.specs.World.{Pairing, no_pairing, PairingEvent, WorldEvent, World, Effect, Direction, opening, world_step, pairing_step, at_device, opens_one, has_device, commanded, kept_journal, lose}
 use Rattle.mos_edits.specs.Texts.{set_number}
-use Rattle.world_laws.specs.World.PairingEvent.{OpenTo, Accept, Cut, Leave, Send, Read, Back, Dial, Admit, Ask, Hear, Got, Hangup, Miss, Beat, DeviceBeat, Want, DecksLeft, Reboot}
+use Rattle.world_laws.specs.World.PairingEvent.{OpenTo, Accept, Cut, Leave, Send, Read, Back, Dial, Admit, Ask, Hear, Got, Hangup, Miss, Beat, DeviceBeat, Want, DecksLeft, Reboot, FailKeep}
 use Rattle.world_laws.specs.World.WorldEvent.{Command, AtDevice, Lose, FailNext, Restart}
 use Rattle.world_laws.specs.World.Direction.{ToServer, ToDevice}
 use Rattle.world_laws.specs.World.Effect.{Impossible, Performed}
@@ -14,7 +14,7 @@ use Rattle.world_laws.proofs.PairingUpper.{keeps_cuts, keeps_leaves, keeps_accep
 use Rattle.world_laws.proofs.PairingSend.{keeps_sends}
 use Rattle.world_laws.proofs.PairingBack.{keeps_takes_back}
 use Rattle.world_laws.proofs.PairingLose.{inv_lose_server, inv_lose_device, pairing_with}
-use Rattle.world_laws.proofs.PairingLower.{keeps_hangs_up, keeps_dials, keeps_misses, keeps_admits, keeps_wants, keeps_reboots, keeps_beating, keeps_device_beating, keeps_decks, inv_missed}
+use Rattle.world_laws.proofs.PairingLower.{keeps_hangs_up, keeps_dials, keeps_misses, keeps_admits, keeps_wants, keeps_reboots, keeps_fail, keeps_beating, keeps_device_beating, keeps_decks, inv_missed}
 use Rattle.world_laws.proofs.PairingAsk.{keeps_asks}
 use Rattle.world_laws.proofs.PairingHear.{keeps_hears}
 use Rattle.world_laws.proofs.PairingGet.{keeps_gets}
@@ -27,6 +27,9 @@ inv_count journal count k l i = record {
   lacks = i.lacks;
   replications = i.replications;
   holds = i.holds;
+  kept = i.kept;
+  doubts = i.doubts;
+  stops = i.stops;
 }
 
 -- every event at a device keeps its pairing's invariant
@@ -49,7 +52,8 @@ pairing_keeps journal count l Beat ok i = inv_count journal count 0 (pairing_ste
 pairing_keeps journal count l DeviceBeat ok i = inv_count journal count 0 (pairing_step journal (count + 1) l DeviceBeat).0 (keeps_device_beating journal count (count + 1) l i)
 pairing_keeps journal count l (Want r) ok i = inv_count journal count 0 (pairing_step journal (count + 1) l (Want r)).0 (keeps_wants journal count (count + 1) l r i)
 pairing_keeps journal count l (DecksLeft k) ok i = inv_count journal count 0 (pairing_step journal (count + 1) l (DecksLeft k)).0 (keeps_decks journal count (count + 1) l k i)
-pairing_keeps journal count l Reboot ok i = inv_count journal count 0 (pairing_step journal (count + 1) l Reboot).0 (keeps_reboots journal count (count + 1) l i)
+pairing_keeps journal count l (Reboot kept) ok i = inv_count journal count 0 (pairing_step journal (count + 1) l (Reboot kept)).0 (keeps_reboots journal count (count + 1) l kept i)
+pairing_keeps journal count l FailKeep ok i = inv_count journal count 0 (pairing_step journal (count + 1) l FailKeep).0 (keeps_fail journal count (count + 1) l i)
 
 pub record WorldInvariant (w : World) : Type 0 where
   pub journal : JournalOk w.journal
@@ -124,7 +128,10 @@ opening_inv devices = record {
         silent = λ e. refl;
         channels_ok = record { down = tt; upper_part = refl; requests = refl; answer = refl; one = inl refl; heard = tt; live = λ h. refl };
       };
-      lacks = λ r j. false;
-      replications = λ r. record { prefix = omega arith; read = tt; in_flight = refl; view = tt; ask = λ x. x; lacking = λ j h. absurd (cc); heard = λ x y. cc };
+      lacks = λ r. record { lacks = λ j. false; doubt = None };
+      replications = λ r. record { prefix = omega arith; read = tt; in_flight = refl; view = tt; ask = λ x. x; lacking = λ j h. absurd (cc); heard = λ x y. cc; waits = tt };
       holds = λ r. refl;
+      kept = λ r. refl;
+      doubts = λ r x e. absurd (cc);
+      stops = λ e. refl;
     }

@@ -6,7 +6,7 @@ use Rattle.mos_machines.specs.Device.{GateState}
 use Rattle.mos_machines.specs.Steps.{ServerState, ServerEvent, DeviceEvent, server_step, device_step}
 use Rattle.mos_machines.specs.Steps.ServerEvent.{UpperOpened, UpperCut, UpperAnswer, DeviceAccepted, DeviceDropped, NextSend}
 use Rattle.mos_machines.specs.Steps.DeviceEvent.{UpperAccepted, UpperLeft, ReadUpper, DeviceOpened, GateDropped, NextAsk, ReadAnswer, GateBeat}
-use Rattle.world_laws.specs.World.{World, Pairing, PairingEvent, Opener, own_time, front}
+use Rattle.world_laws.specs.World.{World, Pairing, PairingEvent, Opener, own_time, front, kept_entries}
 use Rattle.world_laws.specs.World.Opener.{TheServer, TheDevice}
 use Rattle.world_laws.specs.World.PairingEvent.{OpenTo, Accept, Cut, Leave, Send, Read, Back, Dial, Admit, Ask, Got, Hangup, Miss, DeviceBeat, Reboot}
 
@@ -66,7 +66,7 @@ device_call c l Got = to_device_on (λ b p. ReadAnswer b p.message) l l.gate.lin
 device_call c l Hangup = on_link (λ b. GateDropped b) l.gate.link
 device_call c l DeviceBeat = on_link (λ b. GateBeat) l.gate.link
 device_call c l (PairingEvent.Want r) = Some (DeviceEvent.Want r)
-device_call c l Reboot = Some DeviceEvent.Restart
+device_call c l (Reboot kept) = Some (DeviceEvent.Restart (kept_entries l.gate.kept kept l.uncertain))
 device_call c l e = None
 
 -- the machine after its call
@@ -74,6 +74,6 @@ abbrev pub server_after : ServerState → Option ServerEvent → ServerState
 server_after s None = s
 server_after s (Some e) = (server_step false s e).1
 
-abbrev pub device_after : GateState → Option DeviceEvent → GateState
-device_after g None = g
-device_after g (Some e) = (device_step g e).1
+abbrev pub device_after : Bool → GateState → Option DeviceEvent → GateState
+device_after fails g None = g
+device_after fails g (Some e) = (device_step fails g e).1

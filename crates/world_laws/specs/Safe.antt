@@ -5,9 +5,9 @@ use Rattle.mos_edits.specs.Texts.{Text, same_id}
 use Rattle.mos_edits.specs.Orders.{Order}
 use Rattle.mos_edits.specs.Entries.{Kind, kind, Entry, entry_count, order_at, order_now}
 use Rattle.mos_edits.specs.Scripts.{IsWithin}
-use Rattle.mos_edits.specs.Entries.Kind.{IsReady}
+use Rattle.mos_edits.specs.Entries.Kind.{IsReady, IsNotReady}
 use Rattle.mos_machines.specs.Messages.{Status, Message, Packet, untagged}
-use Rattle.mos_machines.specs.Messages.Status.{Okay, NoRunningOrder}
+use Rattle.mos_machines.specs.Messages.Status.{Okay, StoreFault, NoRunningOrder}
 use Rattle.mos_machines.specs.Messages.Message.{RoEdit, RoAck, RoList}
 use Rattle.mos_machines.specs.Messages.Tag.{OfEntry, OfAgain, OfScript, OfList}
 use Rattle.mos_machines.specs.Server.{Upper, entry_packet, again_packet, script_packet, list_of}
@@ -18,7 +18,7 @@ use Rattle.mos_machines.specs.Device.{GateState, Decks, ready_status}
 use Rattle.mos_machines.specs.Device.Phase.{InStep, Asked}
 use Rattle.mos_machines.specs.Device.GateOut.{AsksFor}
 use Rattle.world_laws.specs.World.{Pairing, PairingEvent, WorldEvent, Effect, World, world_step, front, has_device}
-use Rattle.world_laws.specs.World.PairingEvent.{Read, Got, Reboot}
+use Rattle.world_laws.specs.World.PairingEvent.{Read, Got}
 use Rattle.world_laws.specs.World.WorldEvent.{Command, AtDevice, Restart}
 use Rattle.world_laws.specs.World.Effect.{Commanded, Wrote}
 
@@ -55,21 +55,25 @@ abbrev pub upper_front : Pairing → Option ℕ → Option Packet
 upper_front l None = None
 upper_front l (Some c) = front (l.connections c).to_device
 
--- what a device in step answers to an entry: `OK`, but to a READY `NO DECK` where decks were handed in and none is left
-abbrev pub in_step_status : Kind → Decks → Status
-in_step_status IsReady decks = ready_status decks
-in_step_status k decks = Okay
+-- what a device in step answers to an entry: `OK`, but to a READY `NO DECK` where decks were handed in and none is left, and
+-- `STORE FAULT` where its append fails
+abbrev pub in_step_status : Kind → Decks → Bool → Status
+in_step_status IsReady decks fails = ready_status decks
+in_step_status IsNotReady decks fails = Okay
+in_step_status k decks true = StoreFault
+in_step_status k decks false = Okay
 
 -- An edit that a device reads is an entry of its order, or a READY or a script of it that is sent again. A device that answers
--- `OK` to a READY, sent first or again, holds the order that it releases, scripts included. A device in step answers `OK` to
--- each entry of the order and to each script sent again, but for `NO DECK` to a READY.
+-- `OK` to a READY, sent first or again, holds the order that it releases, scripts included. A device in step that isn't
+-- stopped answers `OK` to each entry of the order and to each script sent again, but for `NO DECK` to a READY, and `STORE FAULT`
+-- where its append fails.
 pub record IsReadSafe (journal : List Entry) (l l' : Pairing) (o : Effect) (r : Text) : Type 0 where
   pub edits : (p : Packet) (e : Entry) → upper_front l l.gate.upper ≡ Some p → p.message ≡ RoEdit e → e.ro ≡ r → ((k : ℕ) × (k < entry_count journal r) × (p ≡ entry_packet journal r k)) ⊎ ((m : ℕ) × (p ≡ again_packet journal r m)) ⊎ ((k : ℕ) × (m : ℕ) × (k < entry_count journal r) × (p ≡ script_packet journal r k m))
   pub at_ready : (k : ℕ) (e : Entry) → upper_front l l.gate.upper ≡ Some (record { message = RoEdit e; tag = OfEntry r k }) → kind e.edit ≡ IsReady → o ≡ Wrote (untagged (RoAck r Okay)) → l'.gate.held r ≡ released journal r k
   pub at_ready_again : (m : ℕ) (e : Entry) → upper_front l l.gate.upper ≡ Some (record { message = RoEdit e; tag = OfAgain r m }) → o ≡ Wrote (untagged (RoAck r Okay)) → l'.gate.held r ≡ released journal r (m - 1)
-  pub in_step : (k : ℕ) (e : Entry) → upper_front l l.gate.upper ≡ Some (record { message = RoEdit e; tag = OfEntry r k }) → IsInStep l.gate r → o ≡ Wrote (untagged (RoAck r (in_step_status (kind e.edit) l.decks)))
-  pub in_step_again : (m : ℕ) (e : Entry) → upper_front l l.gate.upper ≡ Some (record { message = RoEdit e; tag = OfAgain r m }) → IsInStep l.gate r → o ≡ Wrote (untagged (RoAck r (ready_status l.decks)))
-  pub in_step_script : (k m : ℕ) (e : Entry) → upper_front l l.gate.upper ≡ Some (record { message = RoEdit e; tag = OfScript r k m }) → IsInStep l.gate r → o ≡ Wrote (untagged (RoAck r Okay))
+  pub in_step : (k : ℕ) (e : Entry) → upper_front l l.gate.upper ≡ Some (record { message = RoEdit e; tag = OfEntry r k }) → IsInStep l.gate r → l.gate.stopped ≡ false → o ≡ Wrote (untagged (RoAck r (in_step_status (kind e.edit) l.decks l.failing)))
+  pub in_step_again : (m : ℕ) (e : Entry) → upper_front l l.gate.upper ≡ Some (record { message = RoEdit e; tag = OfAgain r m }) → IsInStep l.gate r → l.gate.stopped ≡ false → o ≡ Wrote (untagged (RoAck r (ready_status l.decks)))
+  pub in_step_script : (k m : ℕ) (e : Entry) → upper_front l l.gate.upper ≡ Some (record { message = RoEdit e; tag = OfScript r k m }) → IsInStep l.gate r → l.gate.stopped ≡ false → o ≡ Wrote (untagged (RoAck r (in_step_status (kind e.edit) l.decks l.failing)))
 
 -- a roList, or that there is no order
 abbrev pub IsList : Message → Type 0
@@ -78,14 +82,14 @@ IsList (RoAck q NoRunningOrder) = Unit {0}
 IsList m = ⊥
 
 -- A list that a device reads as the answer to its roReq is the order after as many of its entries as it is tagged with. With no
--- edit of the order read since the request, the device is in step from then on, and its prefix is that of the list.
+-- edit of the order read since the request, in a device that isn't stopped and whose append doesn't fail, the device is in step
+-- from then on, and its prefix is that of the list.
 pub record IsAnswerSafe (journal : List Entry) (l l' : Pairing) (r : Text) : Type 0 where
   pub answers : (p : Packet) → upper_front l l.gate.link ≡ Some p → l.gate.out ≡ AsksFor r → IsList p.message → (m : ℕ) × (m ≤ entry_count journal r) × (p ≡ list_of r m (order_at journal r m))
-  pub lists : (m : ℕ) (p : Packet) → upper_front l l.gate.link ≡ Some p → p.tag ≡ OfList r m → l.gate.out ≡ AsksFor r → l.gate.phase r ≡ Asked → IsInStep l'.gate r × (l'.applied r ≡ m)
+  pub lists : (m : ℕ) (p : Packet) → upper_front l l.gate.link ≡ Some p → p.tag ≡ OfList r m → l.gate.out ≡ AsksFor r → l.gate.phase r ≡ Asked → l.gate.stopped ≡ false → l.failing ≡ false → IsInStep l'.gate r × (l'.applied r ≡ m)
 
--- one event at a device, of an order: the prefix doesn't get shorter, but where the device restarts
+-- one event at a device, of an order: the prefix doesn't get shorter, also where the device restarts
 abbrev pub IsEventSafe : List Entry → Pairing → PairingEvent → Pairing → Effect → Text → Type 0
-IsEventSafe journal l Reboot l' o r = Unit {0}
 IsEventSafe journal l Read l' o r = (l.applied r ≤ l'.applied r) × IsReadSafe journal l l' o r
 IsEventSafe journal l Got l' o r = (l.applied r ≤ l'.applied r) × IsAnswerSafe journal l l' r
 IsEventSafe journal l e l' o r = l.applied r ≤ l'.applied r

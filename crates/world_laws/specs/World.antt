@@ -1,16 +1,18 @@
 -- The world: one server, its devices, and the connections between them, with what each event does.
-use Rattle.std.specs.Prelude.{ℕ, ◌+◌, List, [], ◌∷◌, ◌++◌, take, Bool, true, false, Option, Some, None, if◌then◌else◌, nat_le, ◌&&◌, ◌||◌}
+use Rattle.std.specs.Prelude.{ℕ, ◌+◌, List, [], ◌∷◌, ◌++◌, take, Bool, true, false, Option, Some, None, if◌then◌else◌, nat_le, not, ◌&&◌, ◌||◌}
 use Rattle.mos_edits.specs.Texts.{Text, set_order, set_number}
 use Rattle.mos_edits.specs.Entries.{Kind, kind, Entry, entry_count, acceptance}
 use Rattle.mos_machines.specs.Messages.{Status, Message, Tag, Packet, untagged, Step}
 use Rattle.mos_machines.specs.Messages.Status.{Okay, NoDeck, StoreFault}
-use Rattle.mos_machines.specs.Messages.Message.{Heartbeat, RoEdit, RoAck}
+use Rattle.mos_machines.specs.Messages.Message.{Heartbeat, RoEdit, RoAck, RoList}
+use Rattle.mos_machines.specs.Device.GateOut.{AsksFor}
+use Rattle.mos_edits.specs.Kept.{answer_entry}
 use Rattle.mos_machines.specs.Messages.Tag.{OfEntry, OfList}
 use Rattle.mos_machines.specs.Messages.Step.{Taken}
 use Rattle.mos_machines.specs.Server.{Upper, PeerState, no_peer, upper_link, peer_opened, peer_cut, is_whole, peer_answered, peer_next, peer_beat, peer_linked, peer_hear, peer_given, is_open, Verdict, verdict}
 use Rattle.mos_machines.specs.Server.Upper.{Down}
 use Rattle.mos_machines.specs.Server.Verdict.{Takes, Fails, Refuses}
-use Rattle.mos_machines.specs.Device.{GateState, no_gate, Decks, gate_accepted, gate_left, gate_read, gate_dropped, gate_opened, gate_next, gate_got, gate_want, gate_beat, is_in}
+use Rattle.mos_machines.specs.Device.{GateState, GateOut, no_gate, gate_restarted, Decks, gate_accepted, gate_left, gate_read, gate_dropped, gate_opened, gate_next, gate_got, gate_want, gate_beat, is_in}
 use Rattle.mos_fields.specs.declared.time.MosTime.{MosTime}
 use Rattle.mos_fields.specs.declared.time.Zone.TheVariants as zones
 
@@ -52,17 +54,25 @@ pub record Connection : Type 0 where
 abbrev pub no_connection : Connection
 no_connection = record { opener = Nobody; accepted = false; to_device = []; to_server = []; lost_device = false; lost_server = false }
 
+-- The entry whose append to a device's keeper failed, and the applied prefix of its order if the keeper has it after all.
+pub record Uncertain : Type 0 where
+  pub entry : Entry
+  pub prefix : ℕ
+
 -- One device: what the server keeps for it, the device, its decks, the connections between the two, and of each order the
--- number of entries that the device has applied.
+-- number of entries that the device has applied. `failing` says that its keeper's next append fails; `uncertain` is the entry
+-- whose append failed since its last restart.
 pub record Pairing : Type 0 where
   pub peer : PeerState
   pub gate : GateState
   pub decks : Decks
   pub connections : ℕ → Connection
   pub applied : Text → ℕ
+  pub failing : Bool
+  pub uncertain : Option Uncertain
 
 abbrev pub no_pairing : Pairing
-no_pairing = record { peer = no_peer; gate = no_gate; decks = record { handed = false; left = 0 }; connections = λ c. no_connection; applied = λ r. 0 }
+no_pairing = record { peer = no_peer; gate = no_gate; decks = record { handed = false; left = 0 }; connections = λ c. no_connection; applied = λ r. 0; failing = false; uncertain = None }
 
 -- The world. `stopped` says that an append failed since the server's start, `failing` that the keeper's next append fails; `uncertain` is
 -- the entry whose append failed since the last restart; `count` connections were opened, numbered from 1 over all devices.
@@ -100,7 +110,7 @@ lose ToDevice k x = record x { to_device = take k x.to_device; lost_device = tru
 -- (Miss), and is asked for a heartbeat (Beat). The device accepts connection `c` of the server (Accept), leaves it (Leave),
 -- reads the front message on it (Read), opens one of its own (Dial), asks on it (Ask), gets the front answer (Got), drops it
 -- (Hangup), is asked for a heartbeat (DeviceBeat), for an order (Want), is told that `k` decks are left (DecksLeft), and
--- restarts (Reboot).
+-- restarts, where its keeper has the entry whose append failed or not (Reboot); its keeper's next append is to fail (FailKeep).
 pub data PairingEvent : Type 0 where
   OpenTo : PairingEvent
   Accept : (c : ℕ) → PairingEvent
@@ -120,7 +130,8 @@ pub data PairingEvent : Type 0 where
   DeviceBeat : PairingEvent
   Want : (ro : Text) → PairingEvent
   DecksLeft : (k : ℕ) → PairingEvent
-  Reboot : PairingEvent
+  Reboot : (kept : Bool) → PairingEvent
+  FailKeep : PairingEvent
 
 -- The events: an editor's command; an event at device `d`; a loss on connection `c`; the keeper's next append is to fail; the
 -- server restarts, and the entry whose append failed since its last start is kept or not.
@@ -165,10 +176,33 @@ abbrev pub applied_read : GateState → (Text → ℕ) → Tag → Message → M
 applied_read g applied (OfEntry r k) (RoEdit e) (RoAck q t) = set_order applied r (applied_step (kind e.edit) (is_in (g.phase r)) (applied r) k t)
 applied_read g applied tag m a = applied
 
--- an answer to roReq that is tagged `m` and was taken makes it `m`
-abbrev pub applied_got : (Text → ℕ) → Tag → Step → Text → ℕ
-applied_got applied (OfList r m) Taken = set_order applied r m
-applied_got applied tag s = applied
+-- an answer to roReq that is tagged `m` and was held makes it `m`; a stopped device holds none
+abbrev pub applied_got : (Text → ℕ) → Tag → Step → Bool → Text → ℕ
+applied_got applied (OfList r m) Taken false = set_order applied r m
+applied_got applied tag s stopped = applied
+
+-- An append failed in a step: the device is stopped from then on.
+abbrev pub has_failed : GateState → GateState → Bool
+has_failed g h = h.stopped && not g.stopped
+
+-- the prefix that an entry in doubt would make
+abbrev pub doubt_prefix : (Text → ℕ) → Text → Tag → ℕ
+doubt_prefix applied r (OfEntry q k) = k + 1
+doubt_prefix applied r (OfList q m) = m
+doubt_prefix applied r tag = applied r
+
+abbrev pub read_doubt : (Text → ℕ) → Tag → Message → Option Uncertain
+read_doubt applied tag (RoEdit e) = Some (record { entry = e; prefix = doubt_prefix applied e.ro tag })
+read_doubt applied tag m = None
+
+abbrev pub got_doubt : (Text → ℕ) → GateOut → Tag → Message → Option Uncertain
+got_doubt applied (AsksFor r) tag (RoList q body) = Some (record { entry = answer_entry r (Some body); prefix = doubt_prefix applied r tag })
+got_doubt applied (AsksFor r) tag m = Some (record { entry = answer_entry r None; prefix = doubt_prefix applied r tag })
+got_doubt applied out tag m = None
+
+abbrev pub doubt_after : Bool → Option Uncertain → Option Uncertain → Option Uncertain
+doubt_after true old new = new
+doubt_after false old new = old
 
 -- The steps of one device. An event that isn't possible changes nothing.
 
@@ -182,6 +216,8 @@ reads_from l c x p (g, a) = (
     gate = g;
     connections = set_number l.connections c (write_server (untagged a) (record x { to_device = rest x.to_device }));
     applied = applied_read l.gate l.applied p.tag p.message a;
+    failing = l.failing && not (has_failed l.gate g);
+    uncertain = doubt_after (has_failed l.gate g) l.uncertain (read_doubt l.applied p.tag p.message);
   },
   Wrote (untagged a),
 )
@@ -197,7 +233,7 @@ abbrev pub hears_from : Pairing → ℕ → Connection → PeerState × Packet �
 hears_from l c x (s, p) = (record l { peer = s; connections = set_number l.connections c (write_device p (record x { to_server = rest x.to_server })) }, Wrote p)
 
 abbrev pub gets_from : Pairing → ℕ → Connection → Packet → GateState × Step → Pairing × Effect
-gets_from l c x p (g, step) = (record l { gate = g; connections = set_number l.connections c (record x { to_device = rest x.to_device }); applied = applied_got l.applied p.tag step }, Stepped step)
+gets_from l c x p (g, step) = (record l { gate = g; connections = set_number l.connections c (record x { to_device = rest x.to_device }); applied = applied_got l.applied p.tag step g.stopped; failing = l.failing && not (has_failed l.gate g); uncertain = doubt_after (has_failed l.gate g) l.uncertain (got_doubt l.applied l.gate.out p.tag p.message) }, Stepped step)
 
 abbrev pub accepts_it : Pairing → ℕ → Connection → Opener → Bool → Pairing × Effect
 accepts_it l c x TheServer false = (record l { gate = gate_accepted c l.gate; connections = set_number l.connections c (record x { accepted = true }) }, Performed)
@@ -221,7 +257,7 @@ sends_if journal l u = sends_on l (upper_link u) (peer_next journal own_time l.p
 
 abbrev pub reads_front : Pairing → ℕ → Connection → Option Packet → Pairing × Effect
 reads_front l c x None = impossible l
-reads_front l c x (Some p) = reads_from l c x p (gate_read l.gate l.decks p.message)
+reads_front l c x (Some p) = reads_from l c x p (gate_read l.gate l.decks l.failing p.message)
 
 abbrev pub reads_if : Pairing → Option ℕ → Pairing × Effect
 reads_if l None = impossible l
@@ -249,7 +285,7 @@ hears_if journal l (Some c) = hears_front journal l c (l.connections c) (front (
 
 abbrev pub gets_front : Pairing → ℕ → Connection → Option Packet → Pairing × Effect
 gets_front l c x None = impossible l
-gets_front l c x (Some p) = gets_from l c x p (gate_got l.gate p.message)
+gets_front l c x (Some p) = gets_from l c x p (gate_got l.gate l.failing p.message)
 
 abbrev pub gets_if : Pairing → Option ℕ → Pairing × Effect
 gets_if l None = impossible l
@@ -274,6 +310,15 @@ device_beats_if l (Some c) = (record l { gate = gate_beat l.gate }, Performed)
 abbrev pub new_connection : Opener → List Packet → Connection
 new_connection o ps = record { opener = o; accepted = false; to_device = ps; to_server = []; lost_device = false; lost_server = false }
 
+-- the entries that a device's keeper gives at a restart, and the applied prefixes
+abbrev pub kept_entries : List Entry → Bool → Option Uncertain → List Entry
+kept_entries es true (Some u) = es ++ u.entry ∷ []
+kept_entries es b u = es
+
+abbrev pub kept_applied : (Text → ℕ) → Bool → Option Uncertain → Text → ℕ
+kept_applied applied true (Some u) = set_order applied u.entry.ro u.prefix
+kept_applied applied b u = applied
+
 -- one event at a device; `c` is the number of a connection that it opens
 abbrev pub pairing_step : List Entry → ℕ → Pairing → PairingEvent → Pairing × Effect
 pairing_step journal c l OpenTo = (record l { peer = peer_opened c l.peer; connections = set_number l.connections c (new_connection TheServer (own_beat ∷ [])) }, Connected c)
@@ -294,7 +339,8 @@ pairing_step journal c l Beat = beats_if l (is_open l.peer.upper)
 pairing_step journal c l DeviceBeat = device_beats_if l l.gate.link
 pairing_step journal c l (Want r) = (record l { gate = gate_want r l.gate }, Performed)
 pairing_step journal c l (DecksLeft k) = (record l { decks = record { handed = true; left = k } }, Performed)
-pairing_step journal c l Reboot = (record l { gate = no_gate; applied = λ r. 0 }, Performed)
+pairing_step journal c l (Reboot kept) = (record l { gate = gate_restarted (kept_entries l.gate.kept kept l.uncertain); applied = kept_applied l.applied kept l.uncertain; uncertain = None }, Performed)
+pairing_step journal c l FailKeep = (record l { failing = true }, Performed)
 
 abbrev pub pairing_given : Entry → ℕ → Pairing → Pairing
 pairing_given e n l = record l { peer = peer_given e n l.peer }

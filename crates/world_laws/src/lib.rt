@@ -15,7 +15,7 @@ ghost use Rattle.mos_machines.specs.Views.{IsServerWithin};
 /// of commands, deliveries, cut and lost connections, failed appends and restarts.
 ///
 /// So what a gateway holds of a running order is at each moment, but for scripts still to come, the server's order after a
-/// prefix of its accepted edits; that prefix gets shorter only where the gateway restarts; where both ends are in step and
+/// prefix of its accepted edits; that prefix never gets shorter, also where the gateway restarts; where both ends are in step and
 /// nothing is in flight it is the whole, scripts included;
 /// and READY is acknowledged only while the gateway holds exactly the order that it releases. The edits may be any: none of
 /// this asks that they are sound.
@@ -28,7 +28,7 @@ pub fn prefix_consistency()
 /// neither; a command is the server's command, and a restart leaves the server as its start does.
 pub fn worlds_run_the_machines()
     ensures server { (w : World) (d : ℕ) (e : PairingEvent) → has_device w d ≡ true → server_of (world_step w (WorldEvent.AtDevice d e)).0 ≡ server_after (server_of w) (server_call d (w.count + 1) (w.pairings d) e) }
-    ensures device { (w : World) (d : ℕ) (e : PairingEvent) → has_device w d ≡ true → ((world_step w (WorldEvent.AtDevice d e)).0.pairings d).gate ≡ device_after (w.pairings d).gate (device_call (w.count + 1) (w.pairings d) e) }
+    ensures device { (w : World) (d : ℕ) (e : PairingEvent) → has_device w d ≡ true → ((world_step w (WorldEvent.AtDevice d e)).0.pairings d).gate ≡ device_after (w.pairings d).failing (w.pairings d).gate (device_call (w.count + 1) (w.pairings d) e) }
     ensures command { (w : World) (e : Entry) → server_of (world_step w (WorldEvent.Command e)).0 ≡ (server_step w.failing (server_of w) (ServerEvent.Command e)).1 }
     ensures restart { (w : World) (keeps : Bool) → server_of (world_step w (WorldEvent.Restart keeps)).0 ≡ started (kept_journal w.journal keeps w.uncertain) 0 }
 {}

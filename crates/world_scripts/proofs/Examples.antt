@@ -44,6 +44,23 @@ two_spaces : event_in (codes "open  1") ≡ None
 unfolding event_in verb_of is_number
 two_spaces = refl
 
+reboot_alone : event_in (codes "reboot 1") ≡ Some (WorldEvent.AtDevice 1 (PairingEvent.Reboot false))
+unfolding event_in verb_of is_number
+reboot_alone = refl
+
+reboot_kept : event_in (codes "reboot 1 kept") ≡ Some (WorldEvent.AtDevice 1 (PairingEvent.Reboot true))
+unfolding event_in verb_of is_number
+reboot_kept = refl
+
+-- that nothing is kept has no word of its own
+reboot_lost : event_in (codes "reboot 1 lost") ≡ None
+unfolding event_in verb_of is_number
+reboot_lost = refl
+
+device_fault : event_in (codes "dfault 2") ≡ Some (WorldEvent.AtDevice 2 PairingEvent.FailKeep)
+unfolding event_in verb_of is_number
+device_fault = refl
+
 unknown : event_in (codes "cmd fly r") ≡ None
 unfolding event_in verb_of edit_of edit_verb_of is_name
 unknown = refl

@@ -229,6 +229,10 @@ restart_any : (o : Option Bool) → IfSome (option_map Restart o) HasSoundEdit
 restart_any None = tt
 restart_any (Some b) = tt
 
+if_then : (b : Bool) (o : Option WorldEvent) → IfSome o HasSoundEdit → IfSome (if b then o else None) HasSoundEdit
+if_then true o h = h
+if_then false o h = tt
+
 sound_rows : (v : Verb) (ws : List Word) → IfSome (event_form v ws) HasSoundEdit
 sound_rows (rows.At v) [] = tt
 sound_rows (rows.At v) (d ∷ []) = at_any d _
@@ -259,6 +263,10 @@ sound_rows rows.Fault (w ∷ ws) = tt
 sound_rows rows.Restart [] = tt
 sound_rows rows.Restart (w ∷ []) = restart_any _
 sound_rows rows.Restart (w ∷ v ∷ ws) = tt
+sound_rows rows.Reboot [] = tt
+sound_rows rows.Reboot (d ∷ []) = at_any d _
+sound_rows rows.Reboot (d ∷ w ∷ []) = if_then _ _ (at_any d _)
+sound_rows rows.Reboot (d ∷ w ∷ v ∷ ws) = tt
 sound_rows rows.Cmd ws = map_some IsSoundEdit HasSoundEdit (λ e. Command (entry_of e)) (λ e h. h) (edit_of ws) (sound_edit ws)
 
 sound_event_with : (v : Option Verb) (ws : List Word) → IfSome (event_with v ws) HasSoundEdit
@@ -268,10 +276,6 @@ sound_event_with (Some v) ws = sound_rows v ws
 sound_words_event : (ws : List Word) → IfSome (event_of ws) HasSoundEdit
 sound_words_event [] = tt
 sound_words_event (w ∷ ws) = sound_event_with (verb_of w) ws
-
-if_then : (b : Bool) (o : Option WorldEvent) → IfSome o HasSoundEdit → IfSome (if b then o else None) HasSoundEdit
-if_then true o h = h
-if_then false o h = tt
 
 pub sound_line : (line : List ℕ) → IfSome (event_in line) HasSoundEdit
 unfolding event_in
@@ -316,7 +320,7 @@ sound_created s = sound_order made_order (made_story s ∷ []) (sound_one s)
 sound_rare : (d u : ℕ) → HasSoundEdit (rare_event d u)
 sound_rare d u = go (u == 0) (u == 1) (u == 2) (u == 3)
   where
-    go : (a b c e : Bool) → HasSoundEdit (if a then Restart false else (if b then AtDevice d PairingEvent.Reboot else (if c then AtDevice d PairingEvent.Hangup else (if e then AtDevice d PairingEvent.Miss else AtDevice d PairingEvent.Send))))
+    go : (a b c e : Bool) → HasSoundEdit (if a then Restart false else (if b then AtDevice d (PairingEvent.Reboot false) else (if c then AtDevice d PairingEvent.Hangup else (if e then AtDevice d PairingEvent.Miss else AtDevice d PairingEvent.Send))))
     go true b c e = tt
     go false true c e = tt
     go false false true e = tt

@@ -7,7 +7,7 @@ use Rattle.world_laws.specs.World.{Direction as ways, PairingEvent as rows, Worl
 use Rattle.world_scripts.specs.declared.verb.DeviceVerb.{DeviceVerb}
 use Rattle.world_scripts.specs.declared.verb.DeviceVerb.TheVariants as plain
 use Rattle.world_scripts.specs.declared.verb.Verb.{Verb}
-use Rattle.world_scripts.specs.declared.verb.Verb.TheVariants.{At, Accept, Admit, Lose, Want, Decks, Fault, Restart, Cmd}
+use Rattle.world_scripts.specs.declared.verb.Verb.TheVariants.{At, Accept, Admit, Lose, Want, Decks, Fault, Restart, Reboot, Cmd}
 use Rattle.script_edits.specs.Words.{Word, words_of, name_of, number_of, both, all_three}
 use Rattle.script_edits.specs.Edits.{edit_of}
 
@@ -29,7 +29,7 @@ plain_word plain.Hangup = codes "hangup"
 plain_word plain.Miss = codes "miss"
 plain_word plain.Beat = codes "beat"
 plain_word plain.DeviceBeat = codes "dbeat"
-plain_word plain.Reboot = codes "reboot"
+plain_word plain.DeviceFault = codes "dfault"
 
 abbrev pub verb_word : Verb → Word
 verb_word (At v) = plain_word v
@@ -40,12 +40,13 @@ verb_word Want = codes "want"
 verb_word Decks = codes "decks"
 verb_word Fault = codes "fault"
 verb_word Restart = codes "restart"
+verb_word Reboot = codes "reboot"
 verb_word Cmd = codes "cmd"
 
 abbrev pub verbs : List Verb
 verbs =
     Cmd ∷ At plain.Open ∷ Accept ∷ At plain.Cut ∷ At plain.Leave ∷ At plain.Send ∷ At plain.Read ∷ At plain.Back ∷ At plain.Dial ∷ Admit ∷ At plain.Ask
-    ∷ At plain.Hear ∷ At plain.Got ∷ At plain.Hangup ∷ At plain.Miss ∷ Lose ∷ At plain.Beat ∷ At plain.DeviceBeat ∷ Want ∷ Decks ∷ Fault ∷ Restart ∷ At plain.Reboot ∷ []
+    ∷ At plain.Hear ∷ At plain.Got ∷ At plain.Hangup ∷ At plain.Miss ∷ Lose ∷ At plain.Beat ∷ At plain.DeviceBeat ∷ Want ∷ Decks ∷ Fault ∷ Restart ∷ Reboot ∷ At plain.DeviceFault ∷ []
 
 -- the row that begins with a word
 unfoldable pub verb_of : Word → Option Verb
@@ -69,7 +70,7 @@ plain_event plain.Hangup = rows.Hangup
 plain_event plain.Miss = rows.Miss
 plain_event plain.Beat = rows.Beat
 plain_event plain.DeviceBeat = rows.DeviceBeat
-plain_event plain.Reboot = rows.Reboot
+plain_event plain.DeviceFault = rows.FailKeep
 
 -- `s` is the direction to the server, `d` the one to the device
 abbrev pub direction_of : Word → Option ways
@@ -102,6 +103,9 @@ event_form Decks (d ∷ k ∷ []) = at_number d (option_map rows.DecksLeft (numb
 event_form Fault [] = Some events.FailNext
 -- restart kept, restart lost
 event_form Restart (w ∷ []) = option_map events.Restart (kept_of w)
+-- reboot d, by which an entry that failed is lost, and reboot d kept, by which it stands
+event_form Reboot (d ∷ []) = at_number d (Some (rows.Reboot false))
+event_form Reboot (d ∷ w ∷ []) = if bytes_eq w (codes "kept") then at_number d (Some (rows.Reboot true)) else None
 -- cmd and an edit
 event_form Cmd ws = option_map (λ e. events.Command (entry_of e)) (edit_of ws)
 event_form verb ws = None

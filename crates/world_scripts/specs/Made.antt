@@ -68,7 +68,7 @@ abbrev pub rare_event : ℕ → ℕ → WorldEvent
 rare_event d u =
     if u == 0
     then Restart false
-    else (if u == 1 then AtDevice d rows.Reboot else (if u == 2 then AtDevice d rows.Hangup else (if u == 3 then AtDevice d rows.Miss else AtDevice d rows.Send)))
+    else (if u == 1 then AtDevice d (rows.Reboot false) else (if u == 2 then AtDevice d rows.Hangup else (if u == 3 then AtDevice d rows.Miss else AtDevice d rows.Send)))
 
 -- A row, at the device `d`, with the stories `s` and `u`; `to` is the last connection to the device, `from` the last one that
 -- it opened.

@@ -29,7 +29,9 @@ pairing_words d PairingEvent.Beat = codes "beat" ∷ decimal d ∷ []
 pairing_words d PairingEvent.DeviceBeat = codes "dbeat" ∷ decimal d ∷ []
 pairing_words d (PairingEvent.Want r) = codes "want" ∷ decimal d ∷ r ∷ []
 pairing_words d (PairingEvent.DecksLeft k) = codes "decks" ∷ decimal d ∷ decimal k ∷ []
-pairing_words d PairingEvent.Reboot = codes "reboot" ∷ decimal d ∷ []
+pairing_words d (PairingEvent.Reboot false) = codes "reboot" ∷ decimal d ∷ []
+pairing_words d (PairingEvent.Reboot true) = codes "reboot" ∷ decimal d ∷ codes "kept" ∷ []
+pairing_words d PairingEvent.FailKeep = codes "dfault" ∷ decimal d ∷ []
 
 -- an event; of a command the first word alone
 abbrev pub event_words : WorldEvent → List Word

@@ -36,7 +36,8 @@ pairing_event_of held.Beat = rows.Beat
 pairing_event_of held.DeviceBeat = rows.DeviceBeat
 pairing_event_of (held.Want ro) = rows.Want ro
 pairing_event_of (held.DecksLeft k) = rows.DecksLeft k
-pairing_event_of held.Reboot = rows.Reboot
+pairing_event_of (held.Reboot kept) = rows.Reboot kept
+pairing_event_of held.FailKeep = rows.FailKeep
 
 -- an event; a command is the entry that it would be in the journal
 abbrev pub event_of : WorldEvent → events

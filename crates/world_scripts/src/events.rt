@@ -2,7 +2,7 @@
 ghost use Rattle.std.specs.Prelude.{◌≡◌, IfOk, IfSome, Some, None};
 ghost use Rattle.std.specs.Option.{option_map};
 ghost use Rattle.world_scripts.specs.WorldEvents.{HasSoundEdit, direction_of as direction_seen, event_of as event_seen, pairing_event_of as pairing_event_seen};
-ghost use Rattle.world_scripts.specs.declared.verb.Verb.TheVariants.{At, Accept, Admit, Lose, Want, Decks, Fault, Restart, Cmd};
+ghost use Rattle.world_scripts.specs.declared.verb.Verb.TheVariants.{At, Accept, Admit, Lose, Want, Decks, Fault, Restart, Reboot, Cmd};
 ghost use Rattle.world_scripts.specs.Events.{at_number as at_number_of, direction_of, event_form, event_in, event_of, event_with, kept_of};
 ghost use Rattle.world_scripts.specs.Scripts.{allowed_devices, devices_in};
 ghost use Rattle.script_edits.specs.Words.{number_of, words_in};
@@ -154,6 +154,23 @@ fn restart(words: &[&[u8]]) -> Option<WorldEvent>
     }
 }
 
+/// `reboot`: a device, and `kept` where an entry that failed stands.
+fn reboot(words: &[&[u8]]) -> Option<WorldEvent>
+    ensures { option_map event_seen result ≡ event_form Reboot (words_in words.now) }
+{
+    match words {
+        [d] => at_number(d, PairingEvent::Reboot { kept: false }),
+        [d, w] => {
+            if *w == b"kept".as_slice() {
+                at_number(d, PairingEvent::Reboot { kept: true })
+            } else {
+                None
+            }
+        }
+        _ => None,
+    }
+}
+
 /// `cmd`: an edit.
 fn command(alloc: Global, words: &[&[u8]]) -> Result<Option<WorldEvent>, NoMemory>
     ensures { IfOk result (λ o. option_map event_seen o ≡ event_form Cmd (words_in words.now)) }
@@ -177,6 +194,7 @@ fn form(alloc: Global, verb: Verb, words: &[&[u8]]) -> Result<Option<WorldEvent>
         Verb::Decks => Ok(decks(words)),
         Verb::Fault => Ok(fault(words)),
         Verb::Restart => Ok(restart(words)),
+        Verb::Reboot => Ok(reboot(words)),
         Verb::Cmd => command(alloc, words),
     }
 }

@@ -93,7 +93,7 @@ fn rare(d: u32, u: u64) -> WorldEvent
 {
     match u {
         0 => WorldEvent::Restart { kept: false },
-        1 => at(d, PairingEvent::Reboot),
+        1 => at(d, PairingEvent::Reboot { kept: false }),
         2 => at(d, PairingEvent::Hangup),
         3 => at(d, PairingEvent::Miss),
         _ => at(d, PairingEvent::Send),

@@ -44,8 +44,10 @@ pub enum PairingEvent {
     Want { ro: Id },
     /// From now on decks were handed in, and `k` are left.
     DecksLeft { k: u32 },
-    /// The device restarts.
-    Reboot,
+    /// The device restarts. An entry whose append to its keeper failed since its last restart stands exactly where `kept`.
+    Reboot { kept: bool },
+    /// The next append to the device's keeper fails.
+    FailKeep,
 }
 
 impl PairingEvent {
@@ -74,7 +76,8 @@ impl PairingEvent {
                 ro: ro.try_clone()?,
             },
             PairingEvent::DecksLeft { k } => PairingEvent::DecksLeft { k: *k },
-            PairingEvent::Reboot => PairingEvent::Reboot,
+            PairingEvent::Reboot { kept } => PairingEvent::Reboot { kept: *kept },
+            PairingEvent::FailKeep => PairingEvent::FailKeep,
         })
     }
 }

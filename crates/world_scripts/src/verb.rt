@@ -24,7 +24,7 @@ pub enum DeviceVerb {
     Miss,
     Beat,
     DeviceBeat,
-    Reboot,
+    DeviceFault,
 }
 
 impl DeviceVerb {
@@ -47,7 +47,7 @@ impl DeviceVerb {
             DeviceVerb::Miss => "miss",
             DeviceVerb::Beat => "beat",
             DeviceVerb::DeviceBeat => "dbeat",
-            DeviceVerb::Reboot => "reboot",
+            DeviceVerb::DeviceFault => "dfault",
         }
     }
 
@@ -70,7 +70,7 @@ impl DeviceVerb {
             DeviceVerb::Miss => PairingEvent::Miss,
             DeviceVerb::Beat => PairingEvent::Beat,
             DeviceVerb::DeviceBeat => PairingEvent::DeviceBeat,
-            DeviceVerb::Reboot => PairingEvent::Reboot,
+            DeviceVerb::DeviceFault => PairingEvent::FailKeep,
         }
     }
 }
@@ -86,11 +86,12 @@ pub enum Verb {
     Decks,
     Fault,
     Restart,
+    Reboot,
     Cmd,
 }
 
 /// The first words of all rows.
-const VERBS: [Verb; 23] = [
+const VERBS: [Verb; 24] = [
     Verb::Cmd,
     Verb::At(DeviceVerb::Open),
     Verb::Accept,
@@ -113,7 +114,8 @@ const VERBS: [Verb; 23] = [
     Verb::Decks,
     Verb::Fault,
     Verb::Restart,
-    Verb::At(DeviceVerb::Reboot),
+    Verb::Reboot,
+    Verb::At(DeviceVerb::DeviceFault),
 ];
 
 /// The first of these with this word.
@@ -150,6 +152,7 @@ impl Verb {
             Verb::Decks => "decks",
             Verb::Fault => "fault",
             Verb::Restart => "restart",
+            Verb::Reboot => "reboot",
             Verb::Cmd => "cmd",
         }
     }

@@ -1,5 +1,5 @@
 -- Both machines write sound messages.
-use Rattle.std.proofs.Common.{ℕ, ◌-◌, Bool, true, false, List, [], ◌∷◌, Option, Some, None, if◌then◌else◌}
+use Rattle.std.proofs.Common.{◌&&◌, not, ℕ, ◌-◌, Bool, true, false, List, [], ◌∷◌, Option, Some, None, if◌then◌else◌}
 use Rattle.mos_edits.specs.Texts.{Text, set_order}
 use Rattle.mos_edits.specs.Orders.{Order}
 use Rattle.mos_edits.specs.Entries.{Entry, entry_count, order_now, acceptance, in_force}
@@ -13,7 +13,7 @@ use Rattle.mos_machines.specs.Server.ServerOut.{Idle, SendsEdit, SendsAgain, Sen
 use Rattle.mos_machines.specs.Server.Upper.{Down, Greeting, Open}
 use Rattle.mos_machines.specs.Server.View.{Listed}
 use Rattle.mos_machines.specs.Server.Verdict.{Takes, Fails, Refuses}
-use Rattle.mos_machines.specs.Device.{GateState, GateOut, Confirmation, Decks, gate_read, gate_got, gate_next, next_if, asked_next, first_wanted}
+use Rattle.mos_machines.specs.Device.{GateState, GateOut, Confirmation, Decks, gate_read, gate_got, gate_next, next_if, asked_next, first_wanted, unless_stopped}
 use Rattle.mos_machines.specs.Device.GateOut.{NotAsking, AsksFor, AsksAll, AsksBeat}
 use Rattle.mos_machines.specs.Device.Confirmation.{NotDue, Due, Unanswered}
 use Rattle.mos_machines.specs.Steps.{ServerState, StepAnswer, is_upper, is_lower, unless_stale, server_told, server_stepped, server_sent, server_says, server_step, gate_says, gate_sent, gate_stepped, asked_on, device_step}
@@ -146,7 +146,7 @@ asked-next now g (Unanswered q) false None false = tt
 
 next-if : (now : MosTime) (g : GateState) (l : Option ℕ) (o : GateOut) → HoldsIn (λ m. IsSound (message_of m)) (next_if now g l o).1
 next-if now g None o = tt
-next-if now g (Some c) NotAsking = asked-next now g g.confirm g.want_all (first_wanted g.wanted g.known) g.note
+next-if now g (Some c) NotAsking = asked-next now g g.confirm (g.want_all && not g.stopped) (unless_stopped g.stopped (first_wanted g.wanted g.known)) g.note
 next-if now g (Some c) (AsksFor r) = tt
 next-if now g (Some c) AsksAll = tt
 next-if now g (Some c) AsksBeat = tt
@@ -154,17 +154,17 @@ next-if now g (Some c) AsksBeat = tt
 pub sound-asked : (now : MosTime) (g : GateState) → HoldsIn (λ m. IsSound (message_of m)) (gate_next now g).1
 sound-asked now g = next-if now g g.link g.out
 
-pub sound-read : (g : GateState) (decks : Decks) (m : Message) → IsSound (message_of (gate_read g decks m).1)
+pub sound-read : (g : GateState) (decks : Decks) (fails : Bool) (m : Message) → IsSound (message_of (gate_read g decks fails m).1)
 unfolding IsSound
-sound-read g decks (Heartbeat time) = tt
-sound-read g decks (RoEdit e) = tt
-sound-read g decks (RoAck r t) = tt
-sound-read g decks (RoReq r) = tt
-sound-read g decks RoReqAll = tt
-sound-read g decks (RoList r o) = tt
-sound-read g decks (RoListAll hs) = tt
-sound-read g decks (RoElementStat r) = tt
-sound-read g decks (OtherMessage r) = tt
+sound-read g decks fails (Heartbeat time) = tt
+sound-read g decks fails (RoEdit e) = tt
+sound-read g decks fails (RoAck r t) = tt
+sound-read g decks fails (RoReq r) = tt
+sound-read g decks fails RoReqAll = tt
+sound-read g decks fails (RoList r o) = tt
+sound-read g decks fails (RoListAll hs) = tt
+sound-read g decks fails (RoElementStat r) = tt
+sound-read g decks fails (OtherMessage r) = tt
 
 gate-sent : (x : GateState × Option Message) → HoldsIn (λ m. IsSound (message_of m)) x.1 → IsSoundAnswer (gate_sent x).0
 gate-sent (g, None) a = tt
@@ -174,14 +174,14 @@ sound-asked-on : (b : Bool) (g : GateState) (x : GateState × Option Message) �
 sound-asked-on true g x h = h
 sound-asked-on false g x h = tt
 
-pub device-answer : (g : GateState) (e : DeviceEvent) → IsSoundAnswer (device_step g e).0
-device-answer g (UpperAccepted c) = tt
-device-answer g (UpperLeft c) = unless-stale (is_link g.upper c) g _ tt
-device-answer g (ReadUpper c m decks) = unless-stale (is_link g.upper c) g (gate_says (gate_read g decks m)) (sound-read g decks m)
-device-answer g (DeviceOpened c) = tt
-device-answer g (GateDropped c) = unless-stale (is_link g.link c) g _ tt
-device-answer g (NextAsk c now) = gate-sent (asked_on (is_link g.link c) g (gate_next now g)) (sound-asked-on (is_link g.link c) g (gate_next now g) (sound-asked now g))
-device-answer g (ReadAnswer c m) = unless-stale (is_link g.link c) g (gate_stepped (gate_got g m)) tt
-device-answer g (Want r) = tt
-device-answer g GateBeat = tt
-device-answer g Restart = tt
+pub device-answer : (fails : Bool) (g : GateState) (e : DeviceEvent) → IsSoundAnswer (device_step fails g e).0
+device-answer fails g (UpperAccepted c) = tt
+device-answer fails g (UpperLeft c) = unless-stale (is_link g.upper c) g _ tt
+device-answer fails g (ReadUpper c m decks) = unless-stale (is_link g.upper c) g (gate_says (gate_read g decks fails m)) (sound-read g decks fails m)
+device-answer fails g (DeviceOpened c) = tt
+device-answer fails g (GateDropped c) = unless-stale (is_link g.link c) g _ tt
+device-answer fails g (NextAsk c now) = gate-sent (asked_on (is_link g.link c) g (gate_next now g)) (sound-asked-on (is_link g.link c) g (gate_next now g) (sound-asked now g))
+device-answer fails g (ReadAnswer c m) = unless-stale (is_link g.link c) g (gate_stepped (gate_got g fails m)) tt
+device-answer fails g (Want r) = tt
+device-answer fails g GateBeat = tt
+device-answer fails g (Restart es) = tt

@@ -38,7 +38,7 @@ pub fn server_writes_sound_messages()
 
 /// A gateway writes sound messages only, whatever it holds and whatever it reads.
 pub fn gateway_writes_sound_messages()
-    ensures answer { (g : GateState) (e : DeviceEvent) → IsSoundAnswer (device_step g e).0 }
+    ensures answer { (fails : Bool) (g : GateState) (e : DeviceEvent) → IsSoundAnswer (device_step fails g e).0 }
 {}
 
 /// Of each world that a run ends in, whose commands bring sound edits: all unread messages of all connections are sound, and

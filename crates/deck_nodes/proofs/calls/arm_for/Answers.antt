@@ -1,4 +1,4 @@
-use Rattle.mos_machines.specs.Tables.{gate_of}
+use Rattle.gateway_core.specs.State.{gate_of}
 use Rattle.deck_nodes.proofs.UpperSteps.{arm-called}
 use Rattle.deck_nodes.proofs.calls.arm_for.Goals as goal
 

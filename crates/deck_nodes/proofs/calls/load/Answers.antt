@@ -1,5 +1,5 @@
 use Rattle.std.specs.Option.{option_copied}
-use Rattle.mos_machines.specs.Tables.{gate_of}
+use Rattle.gateway_core.specs.State.{gate_of}
 use Rattle.deck_nodes.proofs.UpperSteps.{load-called}
 use Rattle.deck_nodes.proofs.calls.load.Goals as goal
 

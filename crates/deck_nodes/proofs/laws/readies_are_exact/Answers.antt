@@ -3,4 +3,4 @@ use Rattle.deck_nodes.proofs.Ready.{ready-answer}
 use Rattle.deck_nodes.proofs.laws.readies_are_exact.Goals as goal
 
 pub returns : goal.returns
-returns c = λ mos m n e a handed decks left ro h t is. ready-answer as_seen mos m n e a handed decks left h t ro is
+returns g c = λ mos m n e a handed decks left ro h t is. ready-answer g.K.Keeper.appended as_seen mos m n e a handed decks left h t ro is

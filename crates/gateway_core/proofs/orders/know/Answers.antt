@@ -1,4 +1,4 @@
-use Rattle.std.proofs.Common.{◌≡◌, IsSome, sym, ap, ◌∙◌, subst}
+use Rattle.std.proofs.Common.{IsSome, sym, ap, ◌∙◌, subst}
 use Rattle.mos_machines.specs.Tables.{look, unknown_order, put_row}
 use Rattle.order_table.specs.Rows.{find_row}
 use Rattle.order_table.proofs.Looked.{put-put, find-put}

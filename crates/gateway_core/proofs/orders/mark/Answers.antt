@@ -1,5 +1,5 @@
-use Rattle.std.proofs.Common.{◌≡◌, IsSome, sym, ap, ◌∙◌, subst}
-use Rattle.mos_machines.specs.Tables.{look, unknown_order, put_row, KnownOrder}
+use Rattle.std.proofs.Common.{IsSome, sym, ap, ◌∙◌, subst}
+use Rattle.mos_machines.specs.Tables.{put_row, KnownOrder}
 use Rattle.order_table.specs.Rows.{find_row}
 use Rattle.order_table.proofs.Looked.{put-put}
 use Rattle.gateway_core.specs.Parts.{phase_of}

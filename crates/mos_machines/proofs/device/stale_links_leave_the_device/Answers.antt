@@ -2,4 +2,4 @@ use Rattle.std.proofs.Common.{refl}
 use Rattle.mos_machines.proofs.device.stale_links_leave_the_device.Goals as goal
 
 pub returns : goal.returns
-returns c = record { left = λ g c h. rw h refl; read = λ g c m decks h. rw h refl; dropped = λ g c h. rw h refl; next = λ g c now h. rw h refl; answered = λ g c m h. rw h refl }
+returns c = record { left = λ x g c h. rw h refl; read = λ x g c m decks h. rw h refl; dropped = λ x g c h. rw h refl; next = λ x g c now h. rw h refl; answered = λ x g c m h. rw h refl }

@@ -1,9 +1,8 @@
-use Rattle.mos_machines.specs.Tables.{gate_of}
-use Rattle.deck_nodes.proofs.DeckLists.{empty-lists}
+use Rattle.deck_nodes.proofs.DeckLists.{all-started}
 use Rattle.deck_nodes.proofs.gate_node.GateNode.new.Goals as goal
 
 pub returns-clause-stocked : goal.returns-clause-stocked
-returns-clause-stocked g c = λ none tells. record {
+returns-clause-stocked g c = λ tells. record {
   known = λ i. record { handed = c.state.ensures.handed i; left = c.state.ensures.left i };
-  lists = empty-lists g.D.Deck.view c.args.rack.now.mos (gate_of c.args.gate) c.args.rack.now.decks.items none tells;
+  lists = all-started g.D.Deck.view c.args.rack.now.mos c.args.gate.gate c.args.rack.now.decks.items c.load_all.new.rack.decks.items c.load_all.ensures.called tells;
 }

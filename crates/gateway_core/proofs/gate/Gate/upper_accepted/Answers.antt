@@ -1,19 +1,23 @@
-use Rattle.std.proofs.Common.{sym, ap, ◌∙◌, subst, Some, true}
+use Rattle.std.proofs.Common.{refl, sym, ap, ◌∙◌, subst, Some, true}
 use Rattle.mos_machines.specs.Device.{gate_accepted}
 use Rattle.mos_machines.specs.Device.Confirmation.{NotDue}
-use Rattle.mos_machines.specs.Tables.{gate_of, crossed_order}
+use Rattle.mos_machines.specs.Tables.{crossed_order, gate_of as state_of}
 use Rattle.gateway_core.specs.Parts.{asking_of, IsAskedKnown}
-use Rattle.gateway_core.specs.contracts.gate.Gate.{the_view}
-use Rattle.gateway_core.proofs.TableSteps.{asked-map, accepted}
+use Rattle.gateway_core.specs.State.{gate_of, HoldEntries}
+use Rattle.gateway_core.proofs.HeldRows.{holds-map}
+use Rattle.gateway_core.proofs.TableSteps.{asked-map, accepted, tables_of}
 use Rattle.gateway_core.proofs.gate.Gate.upper_accepted.Goals as goal
 
 pub invariant_of-self : goal.invariant_of-self
-invariant_of-self c =
-    let out = asking_of c.self.inside.out in
-    subst (λ rows. IsAskedKnown out rows) (sym c.change_all.ensures) (asked-map (λ r. crossed_order) out c.self.inside.orders c.self.invariant)
+invariant_of-self g c =
+    let i = c.self.inside in
+    let out = asking_of i.out in
+    subst (λ rows. IsAskedKnown out rows × HoldEntries i.store.entries rows) (sym c.change_all.ensures)
+    (asked-map (λ r. crossed_order) out i.orders c.self.invariant.0, holds-map (λ r. crossed_order) (λ r k. refl) i.store.entries i.orders c.self.invariant.1)
 
-pub returns : goal.returns
-returns c =
-    let g = c.self.inside in
-    ap (λ rows. gate_of (record { upper = Some c.args.link; link = g.link; out = asking_of g.out; want_all = true; confirm = NotDue; note = g.note; orders = rows })) c.change_all.ensures
-    ∙ (accepted c.args.link (the_view g) ∙ ap (λ t. gate_accepted c.args.link (gate_of t)) c.self.view_is)
+pub returns-clause-step : goal.returns-clause-step
+returns-clause-step g c =
+    let i = c.self.inside in
+    let t = tables_of i.upper i.link i.out i.want_all i.confirm i.note i.orders i.store in
+    ap (λ rows. state_of (record t { upper = Some c.args.link; want_all = true; confirm = NotDue; orders = rows })) c.change_all.ensures
+    ∙ (accepted c.args.link t ∙ ap (λ k. gate_accepted c.args.link (gate_of k)) c.self.view_is)
