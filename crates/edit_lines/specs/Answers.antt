@@ -2,29 +2,38 @@
 use Rattle.std.specs.Prelude.{ℕ, Bool, true, false, List, [], ◌∷◌, ◌++◌, length, Option, Some, None, if◌then◌else◌, ◌==◌, ◌&&◌, ◌||◌, bytes_eq, codes}
 use Rattle.std.specs.List.{flat_map}
 use Rattle.mos_fields.specs.Characters.{Text, units_of}
+use Rattle.mos_fields.specs.Fields.{same}
 use Rattle.mos_values.specs.Names.{message_ro}
 use Rattle.mos_values.specs.OrderValue.{OrderBody}
 use Rattle.mos_values.specs.StoryValue.{Story}
+use Rattle.mos_values.specs.declared.ack_group.AckGroup.{AckGroup}
 use Rattle.mos_values.specs.declared.header.HeaderPatch.{HeaderPatch}
 use Rattle.mos_values.specs.declared.item.Item.{Item}
 use Rattle.mos_values.specs.declared.message.Envelope.{Envelope}
 use Rattle.mos_values.specs.declared.message.Message.{Message}
 use Rattle.mos_values.specs.declared.message.Message.TheVariants as carried
+use Rattle.mos_values.specs.declared.ro_ack.RoAck.{RoAck}
+use Rattle.board_requests.specs.Requests.{request_name}
 use Rattle.line_texts.specs.Texts.{printed_text}
 use Rattle.edit_lines.specs.declared.wanted.Wanted.{Wanted}
-use Rattle.edit_lines.specs.declared.wanted.Wanted.TheVariants.{Okay, Order, All}
+use Rattle.edit_lines.specs.declared.wanted.Wanted.TheVariants.{Okay, Order, All, Reports}
 
 -- ---- which answer is wanted
 
--- a request of one order wants its list, one of all orders theirs, and any other message `OK`
+-- a request of one order wants its list, one of all orders theirs, one for a board the reports, and any other message `OK`
 abbrev pub wanted_by : Message → Wanted
 wanted_by (carried.RoReq ro) = Order
 wanted_by carried.RoReqAll = All
+wanted_by (carried.Other name raw) = if same request_name (units_of name) then Reports else Okay
 wanted_by m = Okay
+
+-- the text `OK`
+abbrev pub says_okay : Text → Bool
+says_okay status = bytes_eq (units_of status) (codes "OK")
 
 -- a roAck with the text `OK`
 abbrev pub is_okay : Message → Bool
-is_okay (carried.RoAck ack) = bytes_eq (units_of ack.status) (codes "OK")
+is_okay (carried.RoAck ack) = says_okay ack.status
 is_okay m = false
 
 abbrev pub is_order : Message → Bool
@@ -40,6 +49,7 @@ abbrev pub is_fitting : Wanted → Message → Bool
 is_fitting Okay m = is_okay m
 is_fitting Order m = is_order m
 is_fitting All m = is_all m
+is_fitting Reports m = is_okay m
 
 -- ---- whether an answer is for a message
 
@@ -97,6 +107,30 @@ abbrev pub all_text : List HeaderPatch → List ℕ
 all_text [] = codes "no running orders\n"
 all_text (h ∷ hs) = flat_map ro_line (h ∷ hs)
 
+-- an identifier of a report, or that it has none
+abbrev pub id_text : Text → List ℕ
+id_text [] = codes "-"
+id_text (c ∷ cs) = printed_text (c ∷ cs)
+
+abbrev pub channel_text : Option Text → List ℕ
+channel_text None = codes "-"
+channel_text (Some channel) = id_text channel
+
+-- what a report is of, which a roAck tells by the identifiers that it has: an item, else a story, else the order
+abbrev pub level_word : Text → Text → List ℕ
+level_word story (c ∷ cs) = codes "ITEM"
+level_word (c ∷ cs) [] = codes "STORY"
+level_word [] [] = codes "RO"
+
+-- the line of a report
+abbrev pub group_line : AckGroup → List ℕ
+group_line g =
+    level_word g.story g.item ++ codes " " ++ id_text g.story ++ codes " " ++ id_text g.item ++ codes " " ++ id_text g.obj ++ codes " " ++ channel_text g.channel ++ codes " " ++ printed_text g.status ++ 10 ∷ []
+
+abbrev pub reports_text : List AckGroup → List ℕ
+reports_text [] = codes "no reports\n"
+reports_text (g ∷ gs) = flat_map group_line (g ∷ gs)
+
 -- a line and the status that answers it
 abbrev pub status_text : List ℕ → Text → List ℕ
 status_text line status = line ++ codes ": " ++ printed_text status ++ 10 ∷ []
@@ -105,9 +139,14 @@ status_text line status = line ++ codes ": " ++ printed_text status ++ 10 ∷ []
 abbrev pub another_text : List ℕ → List ℕ
 another_text line = line ++ codes ": ANOTHER MESSAGE\n"
 
+-- what is printed of a roAck: the reports that were wanted, where it says `OK`, or its status
+abbrev pub acked_text : Wanted → List ℕ → RoAck → List ℕ
+acked_text Reports line ack = if says_okay ack.status then reports_text ack.groups else status_text line ack.status
+acked_text wanted line ack = status_text line ack.status
+
 -- what is printed of a message that is for the line whose answer it is
 abbrev pub heard_text : Wanted → List ℕ → Message → List ℕ
-heard_text wanted line (carried.RoAck ack) = status_text line ack.status
+heard_text wanted line (carried.RoAck ack) = acked_text wanted line ack
 heard_text Order line (carried.RoList body) = order_text body
 heard_text All line (carried.RoListAll headers) = all_text headers
 heard_text wanted line m = another_text line

@@ -1,13 +1,14 @@
 //! What is printed of an answer.
 ghost use Rattle.std.specs.Prelude.{◌≡◌, [], ◌∷◌, ◌++◌, OnOk, IfOk, codes};
 ghost use Rattle.std.specs.List.{flat_map};
-ghost use Rattle.edit_lines.specs.Answers.{all_text as all_text_of, answer_text as answer_text_of, another_text, heard_text as heard_text_of, item_behind, items_text, order_text as order_text_of, ro_line, status_text, stories_text, story_behind};
+ghost use Rattle.edit_lines.specs.Answers.{acked_text as acked_text_of, all_text as all_text_of, answer_text as answer_text_of, another_text, heard_text as heard_text_of, item_behind, items_text, order_text as order_text_of, ro_line, status_text, stories_text, story_behind};
 
+use crate::boards::reports_text;
 use crate::matching::is_for;
-use crate::texts::{push_bytes, push_text};
-use crate::wanted::{Wanted, wanted_of};
+use crate::texts::{line_of, push_bytes, push_text};
+use crate::wanted::{Wanted, says_okay, wanted_of};
 use mos_fields::{NoMemory, Text};
-use mos_values::{Envelope, HeaderPatch, Item, Message, OrderBody, Story};
+use mos_values::{Envelope, HeaderPatch, Item, Message, OrderBody, RoAck, Story};
 use std::alloc::Global;
 
 // Appends an itemID behind a comma.
@@ -101,15 +102,6 @@ fn ro_lines(alloc: Global, headers: &[HeaderPatch]) -> Result<Vec<u8>, NoMemory>
     Ok(out)
 }
 
-// The line of these bytes.
-fn line_of(alloc: Global, line: &[u8]) -> Result<Vec<u8>, NoMemory>
-    ensures { IfOk result (λ out. out.items ≡ line.now) }
-{
-    let mut out = Vec::new(alloc);
-    push_bytes(&mut out, line)?;
-    Ok(out)
-}
-
 // The lines of all orders, or that there is none.
 fn all_text(alloc: Global, headers: &[HeaderPatch]) -> Result<Vec<u8>, NoMemory>
     ensures { IfOk result (λ out. out.items ≡ all_text_of headers.now) }
@@ -142,6 +134,22 @@ fn another_line(alloc: Global, line: &[u8]) -> Result<Vec<u8>, NoMemory>
     Ok(out)
 }
 
+// What is printed of a roAck: the reports that were wanted, where it says `OK`, or its status.
+fn acked_text(alloc: Global, line: &[u8], wanted: Wanted, ack: &RoAck) -> Result<Vec<u8>, NoMemory>
+    ensures { IfOk result (λ out. out.items ≡ acked_text_of wanted line.now ack.now) }
+{
+    match wanted {
+        Wanted::Reports => {
+            if says_okay(&ack.status) {
+                reports_text(alloc, ack.groups.as_slice())
+            } else {
+                status_line(alloc, line, ack.status.text())
+            }
+        }
+        _ => status_line(alloc, line, ack.status.text()),
+    }
+}
+
 // What is printed of a message that is for the line, or for the message, whose answer it is.
 fn heard_text(
     alloc: Global,
@@ -152,7 +160,7 @@ fn heard_text(
     ensures { IfOk result (λ out. out.items ≡ heard_text_of wanted line.now answer.now) }
 {
     match answer {
-        Message::RoAck(ack) => status_line(alloc, line, ack.status.text()),
+        Message::RoAck(ack) => acked_text(alloc, line, wanted, ack),
         Message::RoList(body) => match wanted {
             Wanted::Order => order_text(alloc, body.as_ref()),
             _ => another_line(alloc, line),
@@ -169,9 +177,12 @@ fn heard_text(
 ///
 /// Of a roAck it is the line, a colon, a space and the status: `swap R1 A C: OK`. Of a roList that was wanted it is the roID
 /// and the stories, each with its items behind a colon: `R1 C B:1,2 A`, or `R1 empty`. Of a roListAll that was wanted
-/// it is a line for each roID, or `no running orders`. Of any other message, and of one that isn't for the message that was sent, as
-/// `is_for` says, it is the line and `ANOTHER MESSAGE`. Tabs and ends of lines in the answer's texts are printed as spaces. The
-/// only error is that memory runs out.
+/// it is a line for each roID, or `no running orders`. Of the reports of a device that were wanted, a roAck with the text `OK`, it
+/// is a line for each, in its order, as `ITEM A 1 O1 - STOP`, or `no reports`: the level, the storyID, the itemID, the objID and
+/// the itemChannel, each `-` where it is empty or absent, and the status. A roAck tells no level, so it is `ITEM` where there is
+/// an itemID, else `STORY` where there is a storyID, else `RO`. Of any other message, and of one that isn't for the message that
+/// was sent, as `is_for` says, it is the line and `ANOTHER MESSAGE`. Tabs and ends of lines in the answer's texts are printed as
+/// spaces. The only error is that memory runs out.
 #[tactic(auto, unfolding(crate::specs::Answers::answer_text))]
 pub fn answer_text(
     alloc: Global,

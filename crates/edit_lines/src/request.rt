@@ -26,7 +26,7 @@ pub struct Names {
 pub enum Request {
     /// It is passed over.
     Nothing,
-    /// It is no edit, and no list.
+    /// It is no edit, no list and no board.
     NoEdit,
     /// These bytes are sent, the canonical encoding of this message.
     Sends { bytes: Vec<u8>, asked: Envelope },

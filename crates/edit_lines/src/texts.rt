@@ -29,3 +29,12 @@ pub fn push_text(alloc: Global, out: &mut Vec<u8>, text: &Text) -> Result<(), No
     let line = printed_string(alloc, text)?;
     push_bytes(out, line.as_bytes())
 }
+
+/// The line of these bytes.
+pub(crate) fn line_of(alloc: Global, line: &[u8]) -> Result<Vec<u8>, NoMemory>
+    ensures { IfOk result (λ out. out.items ≡ line.now) }
+{
+    let mut out = Vec::new(alloc);
+    push_bytes(&mut out, line)?;
+    Ok(out)
+}

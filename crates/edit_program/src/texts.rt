@@ -9,18 +9,19 @@ use std::alloc::Global;
 pub const USAGE: &str = "usage: edit_orders HOST:PORT NCS_ID [FILE]; edit_orders --help says more";
 
 /// What is printed at a terminal for the line `help`: the forms of a line.
-pub const FORMS: &str = "A line is an edit, or a list, with one space between words:
+pub const FORMS: &str = "A line is an edit, a list or a board, with one space between words:
   create R S ..      replace R S ..     delete R         meta R SLUG
   ready R            notready R         swap R A B
   insert R T S ..    sub R T S ..       move R T A ..    drop R A ..
   iinsert R A T I .. isub R A T I ..    imove R A T I .. idrop R A I ..
   iswap R A I J      script R A NAME
   list R             list               one order, or the names of all
+  board R D          what a device reported on an order
 R is an order's name, A and B are stories', I and J items'. S is a story's name,
 with its items behind a colon: OPENING or OPENING:titles,music. T is what the
 others are put before, or - for the end. The script of the story A gets NAME for
-its text. A name has 1 to 32 of the characters A-Z a-z 0-9 _. The line quit ends
-the program.
+its text. D is a device's name. A name has 1 to 32 of the characters A-Z a-z 0-9
+_. The line quit ends the program.
 ";
 
 const HELP: &str = "Gives edits of running orders to a newsroom system's server, and prints each
@@ -41,17 +42,22 @@ with one space between words:
   iinsert R A T I .. isub R A T I ..    imove R A T I .. idrop R A I ..
   iswap R A I J      script R A NAME
   list R             list               one order, or the names of all
+  board R D          what a device reported on an order
 R is an order's name, A and B are stories', I and J items'. S is a story's name,
 with its items behind a colon: OPENING or OPENING:titles,music. An item's objID
 is its name, and its mosID m1, so the gateway of the device m1 plays it. T is
 what the others are put before, or - for the end. The script of the story A gets
-NAME for its text. A name has 1 to 32 of the characters A-Z a-z 0-9 _. An empty
-line, and one that begins with #, is passed over.
+NAME for its text. D is a device's mosID. A name has 1 to 32 of the characters
+A-Z a-z 0-9 _. An empty line, and one that begins with #, is passed over.
 
 A line is sent only once the one before it has its answer. On standard output
 the answer is printed behind the line, as 'swap R A B: OK', and of a list the
 order with its stories and their items, as 'R A B:titles', or a line for each
-order. 'ANOTHER MESSAGE' is printed of an answer that isn't for the line: it has
+order. Of a board it is a line for each report, as 'ITEM A titles O1 - PLAY', or
+'no reports': what it is of, the IDs of the story, the item and the object, the
+channel and the status, with - for one that isn't told.
+
+'ANOTHER MESSAGE' is printed of an answer that isn't for the line: it has
 another messageID or another order's roID, or is of another kind. Of a line that
 is no edit, standard error has the number and what is wrong with it, as
 'line 7: swap wants R A B'; nothing is sent for it, and the next line is taken.
@@ -63,9 +69,9 @@ FILE is a stream as mos_replay reads it: UCS-2 with the high byte first, one
 message after another. Each is sent with the names and the messageID that it has
 there, so NCS_ID isn't used, and only once the one before it has its answer. The
 answer is printed behind the message's name and its roID, as 'roCreate R: OK',
-and that to a roReq or a roReqAll as of a list. Where FILE is no such stream to
-its end, the messages before that are given, and standard error says REFUSED,
-the place in code units, and the kind.
+and that to a roReq or a roReqAll as of a list, and to a boardReq as of a board.
+Where FILE is no such stream to its end, the messages before that are given, and
+standard error says REFUSED, the place in code units, and the kind.
 
 Where the connection is lost, standard error says how: it couldn't be opened, a
 line couldn't be sent whole, or no answer came to a line, which the server may
@@ -73,7 +79,7 @@ have taken: ask by a list. A server that says nothing for 30 seconds while its
 answer is awaited is given up.
 
 The program ends with
-  0  each edit was answered OK, and each list by what it asks for
+  0  each edit was answered OK, and each list and board by what it asks for
   1  a line was no edit, or had another answer; or FILE isn't whole messages
   2  the words aren't HOST:PORT and an ID, and perhaps FILE
   3  standard input failed, or FILE can't be opened or read

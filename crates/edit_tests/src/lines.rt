@@ -27,6 +27,10 @@ pub const LIST: &str = "<roReq><roID>R1</roID></roReq></mos>";
 
 pub const LIST_ALL: &str = "<roReqAll></roReqAll></mos>";
 
+const BOARD: &str = "<boardReq><roID>R1</roID><mosID>dev1</mosID></boardReq></mos>";
+
+const NO_BOARD: &str = "<boardReq><roID>R1</roID><mosID>dev9</mosID></boardReq></mos>";
+
 /// Answers.
 pub const OKAY: &str =
     "<mos><mosID>e</mosID><ncsID>n</ncsID><messageID>1</messageID><roAck><roID>R1</roID><roStatus>OK</roStatus></roAck></mos>";
@@ -62,6 +66,16 @@ pub const TWO_ORDERS: &str =
     "<mos><mosID>e</mosID><ncsID>n</ncsID><roListAll><ro><roID>R1</roID><roSlug>Six</roSlug></ro><ro><roID>R2</roID><roSlug>Ten</roSlug></ro></roListAll></mos>";
 
 pub const NO_ORDERS: &str = "<mos><mosID>e</mosID><ncsID>n</ncsID><roListAll></roListAll></mos>";
+
+/// What a device reported: of an item, of a story, of a story that has an empty channel, and of the order.
+const REPORTS: &str =
+    "<mos><mosID>e</mosID><ncsID>n</ncsID><messageID>1</messageID><roAck><roID>R1</roID><roStatus>OK</roStatus><storyID>A</storyID><itemID>1</itemID><objID>O1</objID><itemChannel>X</itemChannel><status>MANUAL CTRL</status><storyID>A</storyID><itemID></itemID><objID></objID><status>PLAY</status><storyID>B</storyID><itemID></itemID><objID></objID><itemChannel></itemChannel><status>STOP</status><storyID></storyID><itemID></itemID><objID></objID><status>READY</status></roAck></mos>";
+
+const NO_REPORTS: &str =
+    "<mos><mosID>e</mosID><ncsID>n</ncsID><messageID>2</messageID><roAck><roID>R1</roID><roStatus>OK</roStatus></roAck></mos>";
+
+const NO_DEVICE: &str =
+    "<mos><mosID>e</mosID><ncsID>n</ncsID><messageID>3</messageID><roAck><roID>R1</roID><roStatus>MISSING dev9</roStatus></roAck></mos>";
 
 /// What is noted of lines that are no edit.
 const NOTES: &str = "line 3: 'Swap' begins no edit; edit_orders --help lists them
@@ -123,6 +137,35 @@ fn all_orders_are_listed(rt: HostRuntime) -> Result<(), Fail> {
         sent: &[FIRST, LIST_ALL, SECOND, LIST_ALL],
         shown: "R1\nR2\nno running orders\n",
         noted: "",
+    };
+    assert!(rt; is(&rt, rt.alloc(), &play, &wanted)?);
+    Ok(())
+}
+
+#[test]
+fn the_reports_of_a_device_are_told_line_by_line(rt: HostRuntime) -> Result<(), Fail> {
+    let play = plain("board R1 dev1\nboard R1 dev1\n", &[REPORTS, NO_REPORTS]);
+    let wanted = Wanted {
+        status: EditStatus::Done,
+        sent: &[FIRST, BOARD, SECOND, BOARD],
+        shown: "ITEM A 1 O1 X MANUAL CTRL\nSTORY A - - - PLAY\nSTORY B - - - STOP\nRO - - - - READY\nno reports\n",
+        noted: "",
+    };
+    assert!(rt; is(&rt, rt.alloc(), &play, &wanted)?);
+    Ok(())
+}
+
+#[test]
+fn a_board_that_is_not_told_is_no_board(rt: HostRuntime) -> Result<(), Fail> {
+    let play = plain(
+        "board R1 dev1\nboard R1\nboard R1 dev1\nboard R1 dev9\nboard R1 dev-1\n",
+        &[ORDER, NO_REPORTS, NO_DEVICE],
+    );
+    let wanted = Wanted {
+        status: EditStatus::Refused,
+        sent: &[FIRST, BOARD, SECOND, BOARD, THIRD, NO_BOARD],
+        shown: "board R1 dev1: ANOTHER MESSAGE\nno reports\nboard R1 dev9: MISSING dev9\n",
+        noted: "line 2: board wants R D\nline 5: 'dev-1' is no name; one is 1 to 32 of A-Z a-z 0-9 _\n",
     };
     assert!(rt; is(&rt, rt.alloc(), &play, &wanted)?);
     Ok(())

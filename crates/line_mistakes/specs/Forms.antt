@@ -4,7 +4,7 @@ use Rattle.mos_fields.specs.Values.{word_of}
 use Rattle.script_edits.specs.Stories.{story_of}
 use Rattle.script_edits.specs.Words.{Word, name_of, target_of}
 use Rattle.line_mistakes.specs.declared.line_verb.LineVerb.{LineVerb}
-use Rattle.line_mistakes.specs.declared.line_verb.LineVerb.TheVariants.{Create, Replace, Delete, Meta, Ready, NotReady, Script, Insert, Sub, Move, Drop, Swap, InsertItems, SubItem, MoveItems, DropItems, SwapItems, List as ListOf}
+use Rattle.line_mistakes.specs.declared.line_verb.LineVerb.TheVariants.{Create, Replace, Delete, Meta, Ready, NotReady, Script, Insert, Sub, Move, Drop, Swap, InsertItems, SubItem, MoveItems, DropItems, SwapItems, List as ListOf, Board}
 use Rattle.line_mistakes.specs.declared.word_kind.WordKind.{WordKind}
 use Rattle.line_mistakes.specs.declared.word_kind.WordKind.TheVariants.{Name, Target, Story}
 
@@ -37,9 +37,10 @@ verb_word MoveItems = codes "imove"
 verb_word DropItems = codes "idrop"
 verb_word SwapItems = codes "iswap"
 verb_word ListOf = codes "list"
+verb_word Board = codes "board"
 
 abbrev pub line_verbs : List LineVerb
-line_verbs = Create ∷ Replace ∷ Delete ∷ Meta ∷ Ready ∷ NotReady ∷ Script ∷ Insert ∷ Sub ∷ Move ∷ Drop ∷ Swap ∷ InsertItems ∷ SubItem ∷ MoveItems ∷ DropItems ∷ SwapItems ∷ ListOf ∷ []
+line_verbs = Create ∷ Replace ∷ Delete ∷ Meta ∷ Ready ∷ NotReady ∷ Script ∷ Insert ∷ Sub ∷ Move ∷ Drop ∷ Swap ∷ InsertItems ∷ SubItem ∷ MoveItems ∷ DropItems ∷ SwapItems ∷ ListOf ∷ Board ∷ []
 
 -- the verb that a word is
 unfoldable pub line_verb_of : Word → Option LineVerb
@@ -47,7 +48,7 @@ line_verb_of w = word_of verb_word line_verbs w
 
 -- ---- what stands behind them
 
--- for a person: R is an order, S a story with its items, T a target, A and B are stories, I and J items, NAME a script
+-- for a person: R is an order, S a story with its items, T a target, A and B are stories, I and J items, NAME a script, D a device
 abbrev pub verb_wants : LineVerb → List ℕ
 verb_wants Create = codes "R S .."
 verb_wants Replace = codes "R S .."
@@ -67,6 +68,7 @@ verb_wants MoveItems = codes "R A T I .."
 verb_wants DropItems = codes "R A I .."
 verb_wants SwapItems = codes "R A I J"
 verb_wants ListOf = codes "R, or no more words"
+verb_wants Board = codes "R D"
 
 abbrev pub story_at : List WordKind
 story_at = Name ∷ Target ∷ Story ∷ []
@@ -97,6 +99,7 @@ verb_kinds MoveItems = item_at
 verb_kinds DropItems = Name ∷ Name ∷ Name ∷ []
 verb_kinds SwapItems = Name ∷ Name ∷ Name ∷ Name ∷ []
 verb_kinds ListOf = Name ∷ []
+verb_kinds Board = Name ∷ Name ∷ []
 
 -- what each of the words is that may stand behind those, if any may
 abbrev pub verb_more : LineVerb → Option WordKind

@@ -118,6 +118,6 @@ parts_mistake line = if has_empty (words_of line) then Spaces else words_first_m
 abbrev pub ends_with_return : List ℕ → Bool
 ends_with_return line = nat_le 1 (length line) && (slice_index line (length line - 1) == 13)
 
--- The first mistake of a line, without its line feed, that is no edit and no list.
+-- The first mistake of a line, without its line feed, that is no edit, no list and no board.
 unfoldable pub line_mistake : List ℕ → Mistake
 line_mistake line = if nat_lt 1000 (length line) then TooLong else (if ends_with_return line then Return else parts_mistake line)

@@ -27,10 +27,11 @@ pub enum LineVerb {
     DropItems,
     SwapItems,
     List,
+    Board,
 }
 
 /// The first words of all lines.
-const LINE_VERBS: [LineVerb; 18] = [
+const LINE_VERBS: [LineVerb; 19] = [
     LineVerb::Create,
     LineVerb::Replace,
     LineVerb::Delete,
@@ -49,6 +50,7 @@ const LINE_VERBS: [LineVerb; 18] = [
     LineVerb::DropItems,
     LineVerb::SwapItems,
     LineVerb::List,
+    LineVerb::Board,
 ];
 
 const NAME: [WordKind; 1] = [WordKind::Name];
@@ -119,6 +121,7 @@ impl LineVerb {
             LineVerb::DropItems => "idrop",
             LineVerb::SwapItems => "iswap",
             LineVerb::List => "list",
+            LineVerb::Board => "board",
         }
     }
 
@@ -145,6 +148,7 @@ impl LineVerb {
             LineVerb::DropItems => "R A I ..",
             LineVerb::SwapItems => "R A I J",
             LineVerb::List => "R, or no more words",
+            LineVerb::Board => "R D",
         }
     }
 
@@ -171,6 +175,7 @@ impl LineVerb {
             LineVerb::DropItems => &THREE_NAMES,
             LineVerb::SwapItems => &FOUR_NAMES,
             LineVerb::List => &NAME,
+            LineVerb::Board => &TWO_NAMES,
         }
     }
 
@@ -197,6 +202,7 @@ impl LineVerb {
             LineVerb::DropItems => Some(WordKind::Name),
             LineVerb::SwapItems => None,
             LineVerb::List => None,
+            LineVerb::Board => None,
         }
     }
 }

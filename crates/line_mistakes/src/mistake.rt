@@ -96,7 +96,7 @@ fn by_parts<'a>(alloc: Global, line: &'a [u8]) -> Result<Mistake<'a>, NoMemory>
     }
 }
 
-/// The first mistake of a line, without its line feed, that is no edit and no list. The only error is that memory runs out.
+/// The first mistake of a line, without its line feed, that is no edit, no list and no board. The only error is that memory runs out.
 ///
 /// In this order: the line is longer than 1,000 bytes; it ends with a carriage return; it begins or ends with a space or has
 /// two next to each other; its first word is none; a word behind that isn't what it has to be, or is lacking, or is one too

@@ -69,8 +69,8 @@ pub fn push_mistake(out: &mut Vec<u8>, mistake: &Mistake<'_>) -> Result<(), NoMe
     }
 }
 
-/// Appends what the first mistake of a line is, without its line feed, that is no edit and no list. The only error is that memory
-/// runs out.
+/// Appends what the first mistake of a line is, without its line feed, that is no edit, no list and no board. The only error is
+/// that memory runs out.
 pub fn push_line_mistake(alloc: Global, out: &mut Vec<u8>, line: &[u8]) -> Result<(), NoMemory>
     ensures { OnOk result (out.new.items ≡ out.old.items ++ mistake_text (line_mistake_of line.now)) }
 {
